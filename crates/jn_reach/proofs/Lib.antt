@@ -1,0 +1,4 @@
+pub mod Chains
+pub mod Visits
+pub mod Spreading
+pub mod Firsts

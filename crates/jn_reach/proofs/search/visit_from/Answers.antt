@@ -1,0 +1,12 @@
+use Rattle.std.proofs.Common.{sym, ◌∙◌, ap, Some}
+use Rattle.std.proofs.lemmas.Option.{slice_get-get_or}
+use Rattle.jn_reach.proofs.search.visit_from.Goals as goal
+
+pub returns : goal.returns
+returns c = record {
+  visited = record {
+    row = c.index-edges-node.result;
+    at = slice_get-get_or _ _ _ c.requires.node ∙ sym (ap Some c.index-edges-node.is);
+    visited = rw (← c.deref.ensures.value) c.in_ok-visit_all.ensures.visited;
+  };
+}

@@ -1,0 +1,16 @@
+-- A relation on things, against a relation on their numbers: the places of the things in a list.
+use Rattle.std.specs.Prelude.{◌≡◌, ℕ, List, slice_get, Some}
+
+-- R is E on the numbers of the things, and E leads from these to none but these
+pub record Numbers {A : Type 0} (E : A → A → Type 0) (xs : List A) (R : ℕ → ℕ → Type 0) : Type 0 where
+  pub sound : (i j : ℕ) (x : A) → slice_get xs i ≡ Some x → R i j → (y : A) × (slice_get xs j ≡ Some y) × E x y
+  pub complete : (i : ℕ) (x y : A) → slice_get xs i ≡ Some x → E x y → (j : ℕ) × (slice_get xs j ≡ Some y) × R i j
+
+-- N is S on the numbers of the things, and S holds of none but these
+pub record NumbersSet {A : Type 0} (S : A → Type 0) (xs : List A) (N : ℕ → Type 0) : Type 0 where
+  pub sound : (i : ℕ) → N i → (x : A) × (slice_get xs i ≡ Some x) × S x
+  pub complete : (x : A) → S x → (i : ℕ) × (slice_get xs i ≡ Some x) × N i
+
+-- no thing has two numbers
+abbrev pub AreDistinct : {A : Type 0} → List A → Type 0
+AreDistinct {A} xs = (i j : ℕ) (x : A) → slice_get xs i ≡ Some x → slice_get xs j ≡ Some x → i ≡ j

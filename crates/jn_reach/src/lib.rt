@@ -1,0 +1,6 @@
+//! Closures over numbered nodes.
+#![tactic(auto)]
+
+mod search;
+
+pub use search::origins;
