@@ -84,3 +84,9 @@ pub AreOrigins-more : (g : Graph) (starts : List ℕ) (i d : ℕ) (m m' : List (
     → i < length starts → AreOrigins g (take i starts) m → Spread g (get_or starts i d) m m' → AreOrigins g (take (i + 1) starts) m'
 AreOrigins-more g starts i d m m' l are sp =
     subst (λ xs. AreOrigins g xs m') (sym (take_more starts i d l)) (AreOrigins-push g (take i starts) (get_or starts i d) m m' are sp)
+
+-- a node with an origin is reached
+pub AreOrigins-reached : (g : Graph) (starts : List ℕ) (m : List (Option ℕ)) → AreOrigins g starts m → (b : ℕ) → IsFound m b → Reached g starts b
+AreOrigins-reached g starts m are b h =
+    let o = are.sound b h.0 h.1 in
+    record { start = h.0; among = Contains-slice_get starts o.place h.0 o.at; chain = o.chain }

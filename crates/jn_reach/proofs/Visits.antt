@@ -14,11 +14,11 @@ pub Contains-one : {X : Type 0} (y x : X) → Contains (y ∷ []) x → x ≡ y
 Contains-one y x h = elim (Contains-push_cases [] y x h) [ inl n ↦ absurd (Contains-none x n) | inr e ↦ sym e ]
 
 -- what the test of a node says
-is_empty : (o : Option ℕ) → is_some o ≡ false → o ≡ None
+pub is_empty : (o : Option ℕ) → is_some o ≡ false → o ≡ None
 is_empty None e = refl
 is_empty (Some x) e = absurd (cc)
 
-is_full : (o : Option ℕ) → is_some o ≡ true → (s : ℕ) × (o ≡ Some s)
+pub is_full : (o : Option ℕ) → is_some o ≡ true → (s : ℕ) × (o ≡ Some s)
 is_full None e = absurd (cc)
 is_full (Some x) e = (x, refl)
 
