@@ -11,12 +11,12 @@ use Rattle.jn_reach.proofs.Chains.{Chain-closed, Chain-push}
 use Rattle.jn_reach.proofs.Visits.{Contains-none, no_origin}
 use Rattle.jn_reach.proofs.Spreading.{IsFound-in}
 
-slice_get-append_left : {X : Type 0} (xs ys : List X) (k : ℕ) (x : X) → slice_get xs k ≡ Some x → slice_get (xs ++ ys) k ≡ Some x
+pub slice_get-append_left : {X : Type 0} (xs ys : List X) (k : ℕ) (x : X) → slice_get xs k ≡ Some x → slice_get (xs ++ ys) k ≡ Some x
 slice_get-append_left [] ys k x h = absurd (cc)
 slice_get-append_left (z ∷ zs) ys zero x h = h
 slice_get-append_left (z ∷ zs) ys (suc k) x h = slice_get-append_left zs ys k x h
 
-slice_get-push : {X : Type 0} (xs : List X) (x : X) → slice_get (xs ++ x ∷ []) (length xs) ≡ Some x
+pub slice_get-push : {X : Type 0} (xs : List X) (x : X) → slice_get (xs ++ x ∷ []) (length xs) ≡ Some x
 slice_get-push [] x = refl
 slice_get-push (z ∷ zs) x = slice_get-push zs x
 

@@ -4,3 +4,5 @@ pub mod Spreading
 pub mod Firsts
 pub mod Listing
 pub mod Rows
+pub mod Edges
+pub mod Pairings

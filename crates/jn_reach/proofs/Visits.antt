@@ -22,6 +22,10 @@ pub is_full : (o : Option ℕ) → is_some o ≡ true → (s : ℕ) × (o ≡ So
 is_full None e = absurd (cc)
 is_full (Some x) e = (x, refl)
 
+-- an origin can be taken out
+pub found_is_some : (m : List (Option ℕ)) (b : ℕ) → IsFound m b → is_some (get_or m b None) ≡ true
+found_is_some m b f = ap is_some f.1
+
 at_default : (m : List (Option ℕ)) (x : ℕ) (o : Option ℕ) → x < length m → o ≡ get_or m x o → get_or m x None ≡ o
 at_default m x o l is = get_or_default m x None o l ∙ sym is
 

@@ -3,6 +3,7 @@ pub mod Equivalent
 pub mod Derived
 pub mod Graph
 pub mod Origins
+pub mod Pairs
 pub mod Visited
 pub mod Numbers
 pub mod Each

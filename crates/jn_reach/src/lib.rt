@@ -2,7 +2,9 @@
 #![tactic(auto)]
 
 mod lists;
+mod pairs;
 mod search;
 
 pub use lists::{closure, reached, reached_from};
+pub use pairs::{class_firsts, edges_of, least_set};
 pub use search::origins;
