@@ -6,3 +6,7 @@ pub mod Listing
 pub mod Rows
 pub mod Edges
 pub mod Pairings
+pub mod Searches
+pub mod Numbering
+pub mod Cycles
+pub mod Eachs
