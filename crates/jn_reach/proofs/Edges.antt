@@ -26,12 +26,12 @@ no_edges_more rows row n empty g = record {
   none a b h (inl at) = (g.edges a b).0 (record { row = h.row; at = at; in_row = h.in_row })
   none a b h (inr e) = Contains-none b (subst (λ (xs : List ℕ). Contains xs b) (ap (λ (v : Vec ℕ Global). v.items) e.1 ∙ empty) h.in_row)
 
-slice_get-set_same : {X : Type 0} (xs : List X) (i : ℕ) (x : X) → i < length xs → slice_get (set xs i x) i ≡ Some x
+pub slice_get-set_same : {X : Type 0} (xs : List X) (i : ℕ) (x : X) → i < length xs → slice_get (set xs i x) i ≡ Some x
 slice_get-set_same [] i x l = absurd (omega (arith, l))
 slice_get-set_same (y ∷ ys) zero x l = refl
 slice_get-set_same (y ∷ ys) (suc i) x l = slice_get-set_same ys i x (omega (arith, l))
 
-slice_get-set_other : {X : Type 0} (xs : List X) (i j : ℕ) (x : X) → j ≢ i → slice_get (set xs i x) j ≡ slice_get xs j
+pub slice_get-set_other : {X : Type 0} (xs : List X) (i j : ℕ) (x : X) → j ≢ i → slice_get (set xs i x) j ≡ slice_get xs j
 slice_get-set_other [] i j x n = refl
 slice_get-set_other (y ∷ ys) zero zero x n = absurd (n refl)
 slice_get-set_other (y ∷ ys) zero (suc j) x n = refl
@@ -41,12 +41,27 @@ slice_get-set_other (y ∷ ys) (suc i) (suc j) x n = slice_get-set_other ys i j 
 same_row : {X : Type 0} (o : Option X) (x y : X) → o ≡ Some x → o ≡ Some y → x ≡ y
 same_row o x y p q = cc
 
--- one more node at the end of a row
+-- one more number at the end of a row
 pub AddsEdge-set : (g : Graph) (from to : ℕ) (row new : Vec ℕ Global) → from < length g → row ≡ get_or g from row
     → new.items ≡ row.items ++ to ∷ [] → AddsEdge g (set g from new) from to
-AddsEdge-set g from to row new l is pushed = record { long = length-set g from new; edges = λ a b. (forward a b, backward a b) } where
-  at_from : slice_get g from ≡ Some row
-  at_from = slice_get-get_or g from row l ∙ ap Some (sym is)
+AddsEdge-set g from to row new l is pushed = record {
+  row = row;
+  at = slice_get-get_or g from row l ∙ ap Some (sym is);
+  longer = new;
+  pushed = pushed;
+  is = refl;
+}
+
+-- the graph has one more edge
+pub record HasMore (old new : Graph) (from to : ℕ) : Type 0 where
+  pub long : length new ≡ length old
+  pub edges : (a b : ℕ) → HasEdge new a b ↔ (HasEdge old a b ⊎ ((a ≡ from) × (b ≡ to)))
+
+set_more : (g : Graph) (from to : ℕ) (row new : Vec ℕ Global) → slice_get g from ≡ Some row
+    → new.items ≡ row.items ++ to ∷ [] → HasMore g (set g from new) from to
+set_more g from to row new at_from pushed = record { long = length-set g from new; edges = λ a b. (forward a b, backward a b) } where
+  l : from < length g
+  l = slice_get_within g from row at_from
 
   in_old : (a b : ℕ) → a ≡ from → Contains row.items b → HasEdge g a b
   in_old a b e h = record { row = row; at = subst (λ k. slice_get g k ≡ Some row) (sym e) at_from; in_row = h }
@@ -80,6 +95,9 @@ AddsEdge-set g from to row new l is pushed = record { long = length-set g from n
         let same : h.row ≡ row = same_row (slice_get g from) h.row row at_a at_from in
         in_new a b e (Contains-append_left row.items (to ∷ []) b (subst (λ (v : Vec ℕ Global). Contains v.items b) same h.in_row))
   ]
+
+pub AddsEdge-more : (old new : Graph) (from to : ℕ) → AddsEdge old new from to → HasMore old new from to
+AddsEdge-more old new from to adds = rw adds.is (set_more old from to adds.row adds.longer adds.at adds.pushed)
 
 -- the numbers below n in order
 pub record CountsTo (n : ℕ) (nodes : List ℕ) : Type 0 where

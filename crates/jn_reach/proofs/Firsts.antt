@@ -2,6 +2,7 @@
 use Rattle.std.proofs.Common.{◌≡◌, ◌<◌, ◌+◌, ℕ, List, [], ◌∷◌, ◌++◌, Option, Some, None, Contains, length, ◌⊎◌, inl, inr, arith, subst, sym, refl, ◌∙◌, slice_get, take, get_or, zero, suc, replicate}
 use Rattle.std.proofs.lemmas.Option.{slice_get_within, get_or_from_slice_get}
 use Rattle.std.proofs.lemmas.List.{length-replicate, get_or-replicate, take_more}
+use Rattle.std.proofs.lemmas.Bool.{cases_order}
 use Rattle.std.proofs.lemmas.List.Elements.{Contains-push_cases}
 use Rattle.jn_reach.specs.Chain.{Chain}
 use Rattle.jn_reach.specs.Graph.{Graph, HasEdge, Reached}
@@ -90,3 +91,15 @@ pub AreOrigins-reached : (g : Graph) (starts : List ℕ) (m : List (Option ℕ))
 AreOrigins-reached g starts m are b h =
     let o = are.sound b h.0 h.1 in
     record { start = h.0; among = Contains-slice_get starts o.place h.0 o.at; chain = o.chain }
+
+-- two first starts are one
+pub IsOrigin-one : (g : Graph) (starts : List ℕ) (b s t : ℕ) → IsOrigin g starts b s → IsOrigin g starts b t → s ≡ t
+IsOrigin-one g starts b s t o p = elim (cases_order o.place p.place) [
+  | inl e ↦ same_start (slice_get starts o.place) s t o.at (subst (λ k. slice_get starts k ≡ Some t) (sym e) p.at)
+  | inr n ↦ elim n [
+    | inl before ↦ absurd (p.first o.place s before o.at o.chain)
+    | inr past ↦ absurd (o.first p.place t past p.at p.chain)
+  ]
+] where
+  same_start : (o : Option ℕ) (x y : ℕ) → o ≡ Some x → o ≡ Some y → x ≡ y
+  same_start o x y h k = cc

@@ -5,6 +5,7 @@ pub mod Firsts
 pub mod Listing
 pub mod Rows
 pub mod Edges
+pub mod Members
 pub mod Pairings
 pub mod Searches
 pub mod Numbering

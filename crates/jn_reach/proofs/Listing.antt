@@ -23,6 +23,14 @@ Listing-none P nodes is = rw is (record {
   ascending = λ k l. absurd (omega (arith, l));
 })
 
+-- a list with nothing in it
+pub Listing-empty : (P : ℕ → Type 0) (nodes : List ℕ) → ((b : ℕ) → Contains nodes b → ⊥) → Listing P 0 nodes
+Listing-empty P nodes none = record {
+  below = λ b h. absurd (none b h);
+  all = λ b l h. absurd (omega (arith, l));
+  ascending = λ k l. absurd (none (get_or nodes k 0) (Contains-get_or nodes k 0 (omega (arith, l))));
+}
+
 pub Listing-skip : (P : ℕ → Type 0) (n : ℕ) (nodes : List ℕ) → (P n → ⊥) → Listing P n nodes → Listing P (n + 1) nodes
 Listing-skip P n nodes none g = record {
   below = λ b h. let u = g.below b h in (omega (arith, u.0), u.1);

@@ -2,7 +2,7 @@
 use Rattle.std.proofs.Common.{◌≡◌, ◌<◌, ◌≤◌, ◌+◌, ◌↔◌, ◌⊎◌, ℕ, List, [], ◌∷◌, ◌++◌, All, Contains, length, get_or, take, set, inl, inr, sym, ap, subst, refl, ◌∙◌, arith, Some, None, Option, slice_get, length-append}
 use Rattle.std.proofs.lemmas.Bool.{cases_lt, cases_eq}
 use Rattle.std.proofs.lemmas.Option.{slice_get-get_or, slice_get_within, get_or_from_slice_get}
-use Rattle.std.proofs.lemmas.List.{take_more, get_or_append_left, get_or_push}
+use Rattle.std.proofs.lemmas.List.{take_more, get_or_append_left, get_or_push, get_or_default}
 use Rattle.std.proofs.lemmas.List.Elements.{Contains-push, Contains-push_cases, Contains-append_left, Contains-get_or, All-contains}
 use Rattle.std.specs.declared.vec.Vec.{Vec}
 use Rattle.std.specs.declared.alloc.Global.{Global}
@@ -13,7 +13,7 @@ use Rattle.jn_reach.specs.Graph.{Graph, HasEdge, InRange, Lists, Reached}
 use Rattle.jn_reach.specs.Origins.{HasOrigin, IsFound, IsOrigin, AreOrigins}
 use Rattle.jn_reach.specs.Pairs.{IsPair, AreBelow, IsGraphOf, AddsEdge, IsFirst, AreFirsts}
 use Rattle.jn_reach.proofs.Chains.{Chain-map, Chain-one, chain-Equivalent, Equivalent-chain, Derived-chain, chain-Derived}
-use Rattle.jn_reach.proofs.Rows.{slice_get-push_cases}
+use Rattle.jn_reach.proofs.Edges.{HasMore, AddsEdge-more}
 use Rattle.jn_reach.proofs.Visits.{Contains-none}
 
 -- the edges of a graph lead to its nodes where the relation leads to numbers below n
@@ -53,7 +53,10 @@ pair_next pairs i d l a b =
 -- one more pair
 pub IsGraphOf-pair : (n : ℕ) (pairs : List (ℕ × ℕ)) (i : ℕ) (d : ℕ × ℕ) (old new : Graph) → i < length pairs
     → IsGraphOf n (IsPair (take i pairs)) old → AddsEdge old new (get_or pairs i d).0 (get_or pairs i d).1 → IsGraphOf n (IsPair (take (i + 1) pairs)) new
-IsGraphOf-pair n pairs i d old new l g adds = record { long = adds.long ∙ g.long; edges = λ a b. (to a b, from a b) } where
+IsGraphOf-pair n pairs i d old new l g added = record { long = adds.long ∙ g.long; edges = λ a b. (to a b, from a b) } where
+  adds : HasMore old new (get_or pairs i d).0 (get_or pairs i d).1
+  adds = AddsEdge-more old new (get_or pairs i d).0 (get_or pairs i d).1 added
+
   to : (a b : ℕ) → HasEdge new a b → IsPair (take (i + 1) pairs) a b
   to a b h = elim ((adds.edges a b).0 h) [
     | inl o ↦ (pair_next pairs i d l a b).1 (inl ((g.edges a b).0 o))
@@ -71,7 +74,13 @@ pub IsGraphOf-both : (n : ℕ) (pairs : List (ℕ × ℕ)) (i : ℕ) (d : ℕ ×
     → IsGraphOf n (Either (IsPair (take i pairs))) old
     → AddsEdge old mid (get_or pairs i d).0 (get_or pairs i d).1 → AddsEdge mid new (get_or pairs i d).1 (get_or pairs i d).0
     → IsGraphOf n (Either (IsPair (take (i + 1) pairs))) new
-IsGraphOf-both n pairs i d old mid new l g adds turns = record { long = turns.long ∙ adds.long ∙ g.long; edges = λ a b. (to a b, from a b) } where
+IsGraphOf-both n pairs i d old mid new l g added turned_added = record { long = turns.long ∙ adds.long ∙ g.long; edges = λ a b. (to a b, from a b) } where
+  adds : HasMore old mid (get_or pairs i d).0 (get_or pairs i d).1
+  adds = AddsEdge-more old mid (get_or pairs i d).0 (get_or pairs i d).1 added
+
+  turns : HasMore mid new (get_or pairs i d).1 (get_or pairs i d).0
+  turns = AddsEdge-more mid new (get_or pairs i d).1 (get_or pairs i d).0 turned_added
+
   more : (a b : ℕ) → IsPair (take i pairs) a b ⊎ ((a ≡ (get_or pairs i d).0) × (b ≡ (get_or pairs i d).1)) → IsPair (take (i + 1) pairs) a b
   more a b h = (pair_next pairs i d l a b).1 h
 
@@ -184,3 +193,10 @@ pub starts_within : (n m : ℕ) (starts : List ℕ) → m ≡ n → length start
 starts_within n m starts same long at k d l =
     let within : k < n = omega (arith, l, long) in
     omega (arith, within, same, get_or_from_slice_get starts k k d (at k within))
+
+-- the least number of a class is no greater than any of it
+pub firsts_within : (E : ℕ → ℕ → Type 0) (n : ℕ) (firsts : List ℕ) → AreFirsts E n firsts → All (λ f. f < n) firsts
+firsts_within E n firsts are k d l =
+    let within : k < n = omega (arith, l, are.long) in
+    let least : get_or firsts k 0 ≤ k = (are.each k within).least k itself in
+    omega (arith, within, least, get_or_default firsts k d 0 l)

@@ -7,3 +7,4 @@ pub mod Pairs
 pub mod Visited
 pub mod Numbers
 pub mod Each
+pub mod GraphLaws

@@ -2,7 +2,7 @@ ghost use Rattle.std.specs.Prelude.{◌≡◌, ◌<◌, ◌↔◌, ℕ, All, Con
 ghost use Rattle.jn_reach.specs.Derived.{Derived};
 ghost use Rattle.jn_reach.specs.Equivalent.{Either, Equivalent};
 ghost use Rattle.jn_reach.specs.Graph.{HasEdge, Lists};
-ghost use Rattle.jn_reach.specs.Pairs.{IsPair, AreBelow, IsGraphOf, AddsEdge, AreFirsts};
+ghost use Rattle.jn_reach.specs.Pairs.{IsPair, AreBelow, IsGraphOf, AddsEdge, AreFirsts, AreMembers};
 
 use crate::lists::reached;
 use crate::search::origins;
@@ -99,6 +99,7 @@ pub fn class_firsts(
 ) -> Result<Vec<usize>, AllocError>
     requires { AreBelow count pairs.now }
     ensures firsts { IfOk result (λ firsts. AreFirsts (IsPair pairs.now) count firsts.items) }
+    ensures within { IfOk result (λ firsts. All (λ f. f < count) firsts.items) }
     ensures classes { IfOk result (λ firsts. (a b : ℕ) → a < count → b < count → (slice_index firsts.items a ≡ slice_index firsts.items b) ↔ Equivalent (IsPair pairs.now) a b) }
 {
     let edges = edges_both_ways(alloc, count, pairs)?;
@@ -109,4 +110,17 @@ pub fn class_firsts(
         firsts.push(origin.unwrap())?;
     }
     Ok(firsts)
+}
+
+/// The classes by their least nodes: for each node those whose least it is, in ascending order. `firsts` is what `class_firsts` gives.
+/// A node that is not the least of its class has none.
+pub fn class_members(alloc: Global, firsts: &[usize]) -> Result<Vec<Vec<usize>>, AllocError>
+    requires { All (λ f. f < length firsts.now) firsts.now }
+    ensures exact { IfOk result (λ rows. AreMembers firsts.now rows.items) }
+{
+    let mut rows = no_edges(alloc, firsts.len())?;
+    for (node, first) in firsts.iter().enumerate() {
+        add_edge(&mut rows, *first, node)?;
+    }
+    Ok(rows)
 }

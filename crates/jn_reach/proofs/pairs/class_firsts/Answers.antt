@@ -1,5 +1,5 @@
 use Rattle.std.proofs.Common.{◌<◌, ◌≤◌, length, arith}
-use Rattle.jn_reach.proofs.Pairings.{graph_in_range, pair_either_within, starts_within, has_first, is_first, same_first, AreFirsts-more}
+use Rattle.jn_reach.proofs.Pairings.{graph_in_range, pair_either_within, starts_within, has_first, is_first, same_first, AreFirsts-more, firsts_within}
 use Rattle.jn_reach.proofs.Visits.{found_is_some}
 use Rattle.jn_reach.proofs.pairs.class_firsts.Goals as goal
 
@@ -31,7 +31,14 @@ pub returns-clause-classes : goal.returns-clause-classes
 returns-clause-classes c a b l m =
     let are = rw (c.deref.ensures.value, c.deref-2.ensures.value) at c.in_ok-origins.ensures.exact in
     let done : c.args.count ≤ c.loop-origin.origin-index =
-        omega (arith, c.loop-origin-test.false, c.deref-origin-items.ensures.value, c.deref-origin-items.ensures.len, c.in_ok-origins.origins.ok.0, are.long, (c.in_ok-edges.ensures.exact).long) in
+        omega (arith, c.loop-origin-test.false, c.deref-origin-items.ensures.len, c.in_ok-origins.origins.ok.0, are.long, (c.in_ok-edges.ensures.exact).long) in
     let before_a : a < c.loop-origin.origin-index = omega (arith, l, done) in
     let before_b : b < c.loop-origin.origin-index = omega (arith, m, done) in
     same_first _ a b _ _ (c.loop-origin.invariant.each a before_a) (c.loop-origin.invariant.each b before_b)
+
+pub returns-clause-within : goal.returns-clause-within
+returns-clause-within c k d l =
+    let are = rw (c.deref.ensures.value, c.deref-2.ensures.value) at c.in_ok-origins.ensures.exact in
+    let done : c.loop-origin.origin-index ≤ c.args.count =
+        omega (arith, c.loop-origin.auto.origin-index-end, c.deref-origin-items.ensures.len, c.in_ok-origins.origins.ok.0, are.long, (c.in_ok-edges.ensures.exact).long) in
+    omega (arith, done, firsts_within _ _ _ c.loop-origin.invariant k d l)
