@@ -1,12 +1,14 @@
 -- How a loop over the nodes lists those of which P holds.
-use Rattle.std.proofs.Common.{◌≡◌, ◌<◌, ℕ, ◌+◌, List, [], ◌∷◌, ◌++◌, Contains, length, get_or, arith, inl, inr, subst, sym, length-append}
+use Rattle.std.proofs.Common.{All, ◌≡◌, ◌<◌, ℕ, ◌+◌, List, [], ◌∷◌, ◌++◌, Contains, length, get_or, arith, inl, inr, subst, sym, length-append}
 use Rattle.std.specs.List.Sorted.{IsStrictlyIncreasing}
-use Rattle.std.proofs.lemmas.List.Elements.{Contains-push, Contains-push_cases, Contains-append_left, Contains-get_or}
+use Rattle.std.proofs.lemmas.List.Elements.{Contains-push, Contains-push_cases, Contains-append_left, Contains-get_or, All-contains}
 use Rattle.std.proofs.lemmas.List.{get_or_append_left, get_or_push}
 use Rattle.std.proofs.lemmas.Bool.{cases_lt}
 use Rattle.jn_reach.specs.Chain.{Chain}
-use Rattle.jn_reach.specs.Graph.{Graph, HasEdge, Lists, Reached}
+use Rattle.jn_reach.specs.Graph.{Graph, HasEdge, InRange, Lists, Reached}
 use Rattle.jn_reach.specs.Origins.{AreOrigins, IsFound}
+use Rattle.jn_reach.proofs.Chains.{Chain-closed}
+use Rattle.jn_reach.proofs.Numbering.{edge_in_range}
 use Rattle.jn_reach.proofs.Visits.{Contains-one}
 use Rattle.jn_reach.proofs.Firsts.{AreOrigins-reached}
 
@@ -97,3 +99,11 @@ pub Lists-from : (g : Graph) (a : ℕ) (nodes : List ℕ) → Lists (Reached g (
 Lists-from g a nodes = Lists-same (Reached g (a ∷ [])) (Chain (HasEdge g) a) nodes
     (λ b r. let e = Contains-one a r.start r.among in subst (λ k. Chain (HasEdge g) k b) e r.chain)
     (λ b h. record { start = a; among = Contains-push [] a; chain = h })
+
+-- what a graph in range reaches from nodes is in range
+pub reached_within : (g : Graph) (starts nodes : List ℕ) → InRange g (length g) → All (λ s. s < length g) starts → Lists (Reached g starts) nodes
+    → All (λ b. b < length g) nodes
+reached_within g starts nodes within starts_in l k d m =
+    let r = (l.exact (get_or nodes k d)).0 (Contains-get_or nodes k d m) in
+    Chain-closed (HasEdge g) (λ (x : ℕ). x < length g) (λ a b _ e. edge_in_range g within a b e) r.chain
+    (All-contains (λ (x : ℕ). x < length g) starts r.start starts_in r.among)

@@ -2,7 +2,7 @@
 use Rattle.std.proofs.Common.{◌≡◌, ◌<◌, ◌≤◌, ◌+◌, ◌↔◌, ◌⊎◌, ℕ, List, [], ◌∷◌, ◌++◌, All, Contains, length, get_or, take, set, inl, inr, sym, ap, subst, refl, ◌∙◌, arith, Some, None, Option, slice_get, length-append}
 use Rattle.std.proofs.lemmas.Bool.{cases_lt, cases_eq}
 use Rattle.std.proofs.lemmas.Option.{slice_get-get_or, slice_get_within, get_or_from_slice_get}
-use Rattle.std.proofs.lemmas.List.{take_more, get_or_append_left, get_or_push, get_or_default}
+use Rattle.std.proofs.lemmas.List.{take_more, take_all, get_or_append_left, get_or_push, get_or_default}
 use Rattle.std.proofs.lemmas.List.Elements.{Contains-push, Contains-push_cases, Contains-append_left, Contains-get_or, All-contains}
 use Rattle.std.specs.declared.vec.Vec.{Vec}
 use Rattle.std.specs.declared.alloc.Global.{Global}
@@ -200,3 +200,7 @@ firsts_within E n firsts are k d l =
     let within : k < n = omega (arith, l, are.long) in
     let least : get_or firsts k 0 ≤ k = (are.each k within).least k itself in
     omega (arith, within, least, get_or_default firsts k d 0 l)
+
+-- all pairs are met
+pub all_pairs : (n i : ℕ) (pairs : List (ℕ × ℕ)) (g : Graph) → length pairs ≤ i → IsGraphOf n (IsPair (take i pairs)) g → IsGraphOf n (IsPair pairs) g
+all_pairs n i pairs g past is = subst (λ (xs : List (ℕ × ℕ)). IsGraphOf n (IsPair xs) g) (take_all i pairs past) is

@@ -1,9 +1,10 @@
 -- How a loop makes the rows of a closure.
-use Rattle.std.proofs.Common.{◌≡◌, ◌+◌, ℕ, List, [], ◌∷◌, ◌++◌, length, sym, Some, slice_get, arith, length-append, ◌⊎◌, inl, inr, subst, ap, zero, suc, refl}
+use Rattle.std.proofs.Common.{◌≡◌, ◌+◌, ℕ, List, [], ◌∷◌, ◌++◌, length, sym, Some, slice_get, arith, length-append, ◌⊎◌, inl, inr, subst, ap, zero, suc, refl, ◌∙◌}
 use Rattle.std.specs.declared.vec.Vec.{Vec}
 use Rattle.std.specs.declared.alloc.Global.{Global}
 use Rattle.jn_reach.specs.Chain.{Chain}
-use Rattle.jn_reach.specs.Graph.{Graph, HasEdge, Lists}
+use Rattle.jn_reach.specs.Graph.{Graph, HasEdge, InRange, IsClosure, Lists}
+use Rattle.jn_reach.proofs.Numbering.{closure_in_range}
 
 -- an element of a list with one more is the last, or one of before
 pub slice_get-push_cases : {X : Type 0} (xs : List X) (y : X) (i : ℕ) (x : X)
@@ -33,3 +34,9 @@ Rows-more g rows row n done now = record {
       let e : n ≡ a = omega (arith, done.long, h.0) in
       let f : Lists (Chain (HasEdge g) a) row.items = subst (λ k. Lists (Chain (HasEdge g) k) row.items) e now in
       subst (λ (v : Vec ℕ Global). Lists (Chain (HasEdge g) a) v.items) (sym h.1) f
+
+pub Rows-closure : (g : Graph) (n : ℕ) (rows : Graph) → n ≡ length g → Rows g n rows → IsClosure g rows
+Rows-closure g n rows e r = record { long = r.long ∙ e; each = r.each }
+
+pub rows_in_range : (g : Graph) (n : ℕ) (rows : Graph) → InRange g (length g) → n ≡ length g → Rows g n rows → InRange rows (length g)
+rows_in_range g n rows within e r = closure_in_range g rows within (Rows-closure g n rows e r)

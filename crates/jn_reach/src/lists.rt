@@ -28,6 +28,7 @@ pub fn reached(
     requires edges { InRange edges.now (length edges.now) }
     requires starts { All (λ s. s < length edges.now) starts.now }
     ensures exact { IfOk result (λ nodes. Lists (Reached edges.now starts.now) nodes.items) }
+    ensures within { IfOk result (λ nodes. All (λ b. b < length edges.now) nodes.items) }
 {
     let origins = origins(alloc, edges, starts)?;
     let nodes = found(alloc, &origins)?;
@@ -43,6 +44,7 @@ pub fn reached_from(
     requires edges { InRange edges.now (length edges.now) }
     requires start { start < length edges.now }
     ensures exact { IfOk result (λ nodes. Lists (Chain (HasEdge edges.now) start) nodes.items) }
+    ensures within { IfOk result (λ nodes. All (λ b. b < length edges.now) nodes.items) }
 {
     let nodes = reached(alloc, edges, &[start])?;
     Ok(nodes)
@@ -52,6 +54,7 @@ pub fn reached_from(
 pub fn closure(alloc: Global, edges: &[Vec<usize>]) -> Result<Vec<Vec<usize>>, AllocError>
     requires { InRange edges.now (length edges.now) }
     ensures exact { IfOk result (λ rows. IsClosure edges.now rows.items) }
+    ensures within { IfOk result (λ rows. InRange rows.items (length edges.now)) }
 {
     let mut rows = Vec::new(alloc);
     for start in 0..edges.len() {

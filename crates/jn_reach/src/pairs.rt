@@ -1,12 +1,19 @@
-ghost use Rattle.std.specs.Prelude.{◌≡◌, ◌<◌, ◌↔◌, ℕ, All, Contains, length, slice_index, slice_get, Some, IfOk, OnOk, vec_len};
+ghost use Rattle.std.specs.Prelude.{◌≡◌, ◌<◌, ◌↔◌, ℕ, All, Contains, length, slice_index, slice_get, Some, IfOk, OnOk, IsTrue, vec_len};
 ghost use Rattle.jn_reach.specs.Derived.{Derived};
 ghost use Rattle.jn_reach.specs.Equivalent.{Either, Equivalent};
-ghost use Rattle.jn_reach.specs.Graph.{HasEdge, Lists};
+ghost use Rattle.jn_reach.specs.Graph.{InRange, Lists};
 ghost use Rattle.jn_reach.specs.Pairs.{IsPair, AreBelow, IsGraphOf, AddsEdge, AreFirsts, AreMembers};
 
 use crate::lists::reached;
 use crate::search::origins;
 use std::alloc::{AllocError, Global};
+
+/// Whether both nodes of each pair are below `count`.
+pub fn are_below(count: usize, pairs: &[(usize, usize)]) -> bool
+    ensures { IsTrue result ↔ AreBelow count pairs.now }
+{
+    pairs.iter().all(|pair| pair.0 < count && pair.1 < count)
+}
 
 /// The graph with this many nodes that has no edge.
 fn no_edges(alloc: Global, count: usize) -> Result<Vec<Vec<usize>>, AllocError>
@@ -36,6 +43,7 @@ pub fn edges_of(
 ) -> Result<Vec<Vec<usize>>, AllocError>
     requires { AreBelow count pairs.now }
     ensures exact { IfOk result (λ rows. IsGraphOf count (IsPair pairs.now) rows.items) }
+    ensures within { IfOk result (λ rows. InRange rows.items (length rows.items)) }
 {
     let mut rows = no_edges(alloc, count)?;
     for pair in pairs {
@@ -72,6 +80,7 @@ pub fn least_set(
     requires seeds { All (λ s. s < count) seeds.now }
     requires rules { AreBelow count rules.now }
     ensures exact { IfOk result (λ nodes. Lists (Derived (Contains seeds.now) (IsPair rules.now)) nodes.items) }
+    ensures within { IfOk result (λ nodes. All (λ a. a < count) nodes.items) }
 {
     let edges = edges_of(alloc, count, rules)?;
     let nodes = reached(alloc, &edges, seeds)?;

@@ -8,15 +8,15 @@ use std::alloc::{AllocError, Global};
 /// Gives a node without an origin the start, and lets it wait.
 fn visit_node(
     origins: &mut Vec<Option<usize>>,
-    queue: &mut Vec<usize>,
+    waiting: &mut Vec<usize>,
     start: usize,
     node: usize,
 ) -> Result<(), AllocError>
     requires { node < vec_len origins.old }
-    ensures visited { OnOk result (Visited start (node ∷ []) origins.old.items queue.old.items origins.new.items queue.new.items) }
+    ensures visited { OnOk result (Visited start (node ∷ []) origins.old.items waiting.old.items origins.new.items waiting.new.items) }
 {
     if origins[node].is_none() {
-        queue.push(node)?;
+        waiting.push(node)?;
         origins[node] = Some(start);
     }
     Ok(())
@@ -25,15 +25,15 @@ fn visit_node(
 /// Visits each of the nodes.
 fn visit_all(
     origins: &mut Vec<Option<usize>>,
-    queue: &mut Vec<usize>,
+    waiting: &mut Vec<usize>,
     start: usize,
     nodes: &[usize],
 ) -> Result<(), AllocError>
     requires { All (λ w. w < vec_len origins.old) nodes.now }
-    ensures visited { OnOk result (Visited start nodes.now origins.old.items queue.old.items origins.new.items queue.new.items) }
+    ensures visited { OnOk result (Visited start nodes.now origins.old.items waiting.old.items origins.new.items waiting.new.items) }
 {
     for node in nodes {
-        visit_node(origins, queue, start, *node)?;
+        visit_node(origins, waiting, start, *node)?;
     }
     Ok(())
 }
@@ -41,16 +41,16 @@ fn visit_all(
 /// Visits the nodes that an edge leads to from a node.
 fn visit_from(
     origins: &mut Vec<Option<usize>>,
-    queue: &mut Vec<usize>,
+    waiting: &mut Vec<usize>,
     edges: &[Vec<usize>],
     start: usize,
     node: usize,
 ) -> Result<(), AllocError>
     requires edges { InRange edges.now (vec_len origins.old) }
     requires node { node < length edges.now }
-    ensures visited { OnOk result (VisitedFrom edges.now start node origins.old.items queue.old.items origins.new.items queue.new.items) }
+    ensures visited { OnOk result (VisitedFrom edges.now start node origins.old.items waiting.old.items origins.new.items waiting.new.items) }
 {
-    visit_all(origins, queue, start, &edges[node])?;
+    visit_all(origins, waiting, start, &edges[node])?;
     Ok(())
 }
 
@@ -68,10 +68,10 @@ fn spread(
     requires closed { IsClosedUnder edges.now origins.old.items }
     ensures spread { OnOk result (Spread edges.now start origins.old.items origins.new.items) }
 {
-    let mut queue = Vec::new(alloc);
-    visit_node(origins, &mut queue, start, start)?;
-    while let Some(node) = queue.pop() {
-        visit_from(origins, &mut queue, edges, start, node)?;
+    let mut waiting = Vec::new(alloc);
+    visit_node(origins, &mut waiting, start, start)?;
+    while let Some(node) = waiting.pop() {
+        visit_from(origins, &mut waiting, edges, start, node)?;
     }
     Ok(())
 }

@@ -1,5 +1,10 @@
-use Rattle.jn_reach.proofs.Rows.{Rows-more}
+use Rattle.std.proofs.Common.{arith}
+use Rattle.jn_reach.proofs.Rows.{Rows-more, rows_in_range}
 use Rattle.jn_reach.proofs.lists.closure.Goals as goal
 
 pub loop-start-preserved : goal.loop-start-preserved
 loop-start-preserved c = rw c.in_ok-push.ensures.items (Rows-more _ _ _ _ c.loop-start.invariant c.in_ok-row.ensures.exact)
+
+pub returns-clause-within : goal.returns-clause-within
+returns-clause-within c =
+    rows_in_range _ _ _ c.requires (omega (arith, c.loop-start-test.false, c.loop-start.auto.start-end)) c.loop-start.invariant

@@ -4,7 +4,7 @@ use Rattle.jn_reach.proofs.search.spread.Goals as goal
 
 pub loop-node-init : goal.loop-node-init
 loop-node-init c =
-    Searching-begun _ _ _ _ _ _ c.new-queue.ensures.items c.requires.closed c.in_ok-visit_node.ensures.visited
+    Searching-begun _ _ _ _ _ _ c.new-waiting.ensures.items c.requires.closed c.in_ok-visit_node.ensures.visited
 
 pub visit_from-requires-clause-node : goal.visit_from-requires-clause-node
 visit_from-requires-clause-node c =
@@ -18,5 +18,5 @@ loop-node-preserved c =
 
 pub returns : goal.returns
 returns c = record {
-  spread = Searching-done _ _ _ _ _ (omega (arith, c.in_default.ensures.cases, c.loop-node.queue.ok.0)) c.loop-node.invariant;
+  spread = Searching-done _ _ _ _ _ (omega (arith, c.in_default.ensures.cases, c.loop-node.waiting.ok.0)) c.loop-node.invariant;
 }

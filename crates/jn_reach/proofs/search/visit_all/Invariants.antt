@@ -4,4 +4,4 @@ use Rattle.jn_reach.proofs.search.visit_all.Given as goal
 
 abbrev pub invariant-loop-node : goal.invariant-loop-node
 invariant-loop-node l =
-    Visited l.start (take l.node-index l.nodes) l.initial.origins.items l.initial.queue.items l.origins.items l.queue.items
+    Visited l.start (take l.node-index l.nodes) l.initial.origins.items l.initial.waiting.items l.origins.items l.waiting.items
