@@ -42,11 +42,11 @@ Members-more firsts n d old new l m adds = rw adds.is (record { long = length-se
     | inl e ↦
         let at_first : slice_get (set old first adds.longer) first ≡ Some row = subst (λ k. slice_get (set old first adds.longer) k ≡ Some row) e at in
         let same : adds.longer ≡ row = same_some (slice_get (set old first adds.longer) first) adds.longer row
-            (slice_get-set_same old first adds.longer (slice_get_within old first adds.row adds.at)) at_first in
+        (slice_get-set_same old first adds.longer (slice_get_within old first adds.row adds.at)) at_first in
         let items : (adds.row).items ++ n ∷ [] ≡ row.items = sym adds.pushed ∙ ap (λ (v : Vec ℕ Global). v.items) same in
         subst (Listing (IsAt firsts a) (n + 1)) items
         (Listing-push (IsAt firsts a) n (adds.row).items (subst (λ k. slice_get firsts n ≡ Some k) (sym e) here)
-            (m.each a adds.row (subst (λ k. slice_get old k ≡ Some adds.row) (sym e) adds.at)))
+        (m.each a adds.row (subst (λ k. slice_get old k ≡ Some adds.row) (sym e) adds.at)))
   ]
 
 pub Members-done : (firsts : List ℕ) (n : ℕ) (rows : Graph) → n ≡ length firsts → Members firsts n rows → AreMembers firsts rows

@@ -67,14 +67,14 @@ pub Numbers-closure : {A : Type 0} (E : A → A → Type 0) (xs : List A) (g row
 Numbers-closure E xs g rows long c n =
     Numbers-alike (Chain E) xs (Chain (HasEdge g)) (HasEdge rows) has edge (Numbers-chain E xs (HasEdge g) n)
   where
-  edge : (i j : ℕ) → HasEdge rows i j → Chain (HasEdge g) i j
-  edge i j e = ((c.each i e.row e.at).exact j).0 e.in_row
+    edge : (i j : ℕ) → HasEdge rows i j → Chain (HasEdge g) i j
+    edge i j e = ((c.each i e.row e.at).exact j).0 e.in_row
 
-  has : (i j : ℕ) → i < length xs → Chain (HasEdge g) i j → HasEdge rows i j
-  has i j l p = elim (slice_get_cases rows i).1 [
-    | inl found ↦ record { row = found.0; at = found.2; in_row = ((c.each i found.0 found.2).exact j).1 p }
-    | inr past ↦ absurd (omega (arith, past.0, l, c.long, long))
-  ]
+    has : (i j : ℕ) → i < length xs → Chain (HasEdge g) i j → HasEdge rows i j
+    has i j l p = elim (slice_get_cases rows i).1 [
+      | inl found ↦ record { row = found.0; at = found.2; in_row = ((c.each i found.0 found.2).exact j).1 p }
+      | inr past ↦ absurd (omega (arith, past.0, l, c.long, long))
+    ]
 
 -- between two numbered things the numbers are related where the things are
 pub Numbers-between : {A : Type 0} (E : A → A → Type 0) (xs : List A) (R : ℕ → ℕ → Type 0) → Numbers E xs R → AreDistinct xs
@@ -143,7 +143,7 @@ pub Numbers-equivalent : {A : Type 0} (E : A → A → Type 0) (xs : List A) (R 
     → Numbers (Equivalent E) xs (Equivalent R)
 Numbers-equivalent E xs R distinct n =
     let both = Numbers-either E xs R (Numbers-forth E xs R distinct n)
-        (Numbers-forth (Turned E) xs (Turned R) distinct (NumbersPairs-turned E xs R n)) in
+    (Numbers-forth (Turned E) xs (Turned R) distinct (NumbersPairs-turned E xs R n)) in
     let chains = Numbers-chain (Either E) xs (Either R) both in
     record {
       sound = λ i j x at q. let s = chains.sound i j x at (Equivalent-chain R q) in (s.0, s.1, chain-Equivalent E s.2);

@@ -92,9 +92,9 @@ Visited-new start m q x l none = record {
   reaches = λ b h. (start, set_at m x b start l (Contains-one x b h));
   only = λ b s h. elim (cases_eq b x) [
     | inl e ↦ inr (
-        subst (Contains (x ∷ [])) (sym e) (Contains-push [] x),
-        record { is = same_origin (get_or (set m x (Some start)) b None) s start h (set_at m x b start l e); unfound_before = unfound_x b e },
-      )
+      subst (Contains (x ∷ [])) (sym e) (Contains-push [] x),
+      record { is = same_origin (get_or (set m x (Some start)) b None) s start h (set_at m x b start l e); unfound_before = unfound_x b e },
+    )
     | inr n ↦ inl (set_before m x b start s n h)
   ];
   waits = λ b h. Contains-append_left q (x ∷ []) b h;
@@ -127,9 +127,9 @@ Visited-joined start xs ys m q m1 q1 m2 q2 v w = record {
   only = λ b s h. elim (w.only b s h) [
     | inl a ↦ elim (v.only b s a) [ inl o ↦ inl o | inr o ↦ inr (Contains-append_left xs ys b o.0, o.1) ]
     | inr a ↦ inr (
-        Contains-append_right xs ys b a.0,
-        record { is = (a.1).is; unfound_before = λ f. (a.1).unfound_before (f.0, v.kept b f.0 f.1) },
-      )
+      Contains-append_right xs ys b a.0,
+      record { is = (a.1).is; unfound_before = λ f. (a.1).unfound_before (f.0, v.kept b f.0 f.1) },
+    )
   ];
   waits = λ b h. w.waits b (v.waits b h);
   fresh = λ b h. elim (w.fresh b h) [

@@ -8,14 +8,14 @@ pub returns-then-leads_to-clause-some : goal.returns-then-leads_to-clause-some
 returns-then-leads_to-clause-some c =
     let row = c.index-edges-node in
     (steps_by_row _ _ _ row.result c.requires.edges c.requires.closure (slice_get_read _ _ _ _ refl c.loop-node-test.true row.is)).0
-        (rw (← c.deref.ensures.value) (c.leads_to.ensures.0 c.if-leads_to.true))
+    (rw (← c.deref.ensures.value) (c.leads_to.ensures.0 c.if-leads_to.true))
 
 pub loop-node-preserved : goal.loop-node-preserved
 loop-node-preserved c =
     let row = c.index-edges-node in
     none_cyclic _ _
     (λ s. (rw c.deref.ensures.value at (not_when c.if-leads_to.false c.leads_to.ensures))
-        ((steps_by_row _ _ _ row.result c.requires.edges c.requires.closure (slice_get_read _ _ _ _ refl c.loop-node-test.true row.is)).1 s))
+    ((steps_by_row _ _ _ row.result c.requires.edges c.requires.closure (slice_get_read _ _ _ _ refl c.loop-node-test.true row.is)).1 s))
     c.loop-node.invariant
 
 pub returns-clause-none : goal.returns-clause-none
