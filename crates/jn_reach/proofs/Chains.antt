@@ -1,7 +1,7 @@
 -- Laws of chains, of the least equivalence and of the least set by rules.
-use Rattle.std.proofs.Common.{◌≡◌, refl}
+use Rattle.std.proofs.Common.{◌≡◌, refl, subst}
 use Rattle.jn_reach.specs.Chain.{Chain, here, step, Steps}
-use Rattle.jn_reach.specs.Equivalent.{Equivalent, pair, itself, turned, joined, Turned, Either, forth, back, IsEquivalence}
+use Rattle.jn_reach.specs.Equivalent.{Equivalent, pair, itself, turned, joined, Either, forth, back, IsEquivalence}
 use Rattle.jn_reach.specs.Derived.{Derived, seed, rule}
 
 -- a chain, and a chain from its end
@@ -92,3 +92,10 @@ pub Derived-least : {A : Type 0} (S : A → Type 0) (E : A → A → Type 0) (P 
     → ((a : A) → S a → P a) → ((a b : A) → P a → E a b → P b) → {a : A} → Derived S E a → P a
 Derived-least S E P seeds closed (seed {a = x} s) = seeds x s
 Derived-least S E P seeds closed (rule {a = x} {b = y} d e) = closed x y (Derived-least S E P seeds closed d) e
+
+-- from one seed the least set is what chains of rules lead to
+pub Chain-derived : {A : Type 0} (E : A → A → Type 0) (a b : A) → Chain E a b → Derived (λ x. x ≡ a) E b
+Chain-derived E a b p = Derived-chain (λ x. x ≡ a) E (seed refl) p
+
+pub Derived-one : {A : Type 0} (E : A → A → Type 0) (a b : A) → Derived (λ x. x ≡ a) E b → Chain E a b
+Derived-one E a b d = let c = chain-Derived (λ x. x ≡ a) E d in subst (λ x. Chain E x b) c.1 c.2

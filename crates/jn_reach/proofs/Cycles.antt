@@ -1,12 +1,13 @@
 -- A node leads back to itself where a closure's row of a node that an edge leads to has it.
-use Rattle.std.proofs.Common.{◌≡◌, ◌<◌, ◌+◌, ◌↔◌, ℕ, length, slice_get, Some, arith, subst, sym, Contains, Bool, IsTrue, inl, inr}
+use Rattle.std.proofs.Common.{◌≡◌, ◌<◌, ◌+◌, ◌↔◌, ℕ, length, slice_get, Some, arith, subst, Contains, Bool, IsTrue, inl, inr}
 use Rattle.std.specs.List.{Any}
 use Rattle.std.specs.declared.vec.Vec.{Vec}
 use Rattle.std.specs.declared.alloc.Global.{Global}
 use Rattle.std.proofs.lemmas.Bool.{cases_lt}
 use Rattle.std.proofs.lemmas.Option.{slice_get_within, slice_get_cases}
-use Rattle.jn_reach.specs.Chain.{Chain, Steps}
+use Rattle.jn_reach.specs.Chain.{Chain, here, Steps}
 use Rattle.jn_reach.specs.Graph.{Graph, HasEdge, InRange, IsClosure}
+use Rattle.jn_reach.proofs.Chains.{Chain-joined}
 use Rattle.jn_reach.proofs.Searches.{same_some}
 use Rattle.jn_reach.proofs.Numbering.{edge_in_range}
 
@@ -54,3 +55,12 @@ none_cyclic g i none before k l s = elim (cases_lt k i) [
 -- a node with an edge is in range
 pub steps_within : (g : Graph) (k : ℕ) → Steps (HasEdge g) k k → k < length g
 steps_within g k s = slice_get_within g k (s.first).row (s.first).at
+
+-- each node is in its row of a closure, and the rows are transitive
+pub closure_itself : (g rows : Graph) → IsClosure g rows → (a : ℕ) → a < length g → HasEdge rows a a
+closure_itself g rows c a l = closure_has g rows c a a l here
+
+pub closure_joined : (g rows : Graph) → IsClosure g rows → (a b d : ℕ) → HasEdge rows a b → HasEdge rows b d → HasEdge rows a d
+closure_joined g rows c a b d e f =
+    closure_has g rows c a d (omega (arith, slice_get_within rows a e.row e.at, c.long))
+    (Chain-joined (HasEdge g) (closure_edge g rows c a b e) (closure_edge g rows c b d f))

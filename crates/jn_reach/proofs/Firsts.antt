@@ -1,12 +1,12 @@
 -- Each start in turn is given to what it reaches and what none before it reached.
-use Rattle.std.proofs.Common.{◌≡◌, ◌<◌, ◌+◌, ℕ, List, [], ◌∷◌, ◌++◌, Option, Some, None, Contains, length, ◌⊎◌, inl, inr, arith, subst, sym, refl, ◌∙◌, slice_get, take, get_or, zero, suc, replicate}
+use Rattle.std.proofs.Common.{◌≡◌, ◌<◌, ◌+◌, ℕ, List, [], ◌∷◌, ◌++◌, Option, Some, None, Contains, length, inl, inr, arith, subst, sym, refl, ◌∙◌, slice_get, take, get_or, zero, suc, replicate}
 use Rattle.std.proofs.lemmas.Option.{slice_get_within, get_or_from_slice_get}
 use Rattle.std.proofs.lemmas.List.{length-replicate, get_or-replicate, take_more}
 use Rattle.std.proofs.lemmas.Bool.{cases_order}
 use Rattle.std.proofs.lemmas.List.Elements.{Contains-push_cases}
 use Rattle.jn_reach.specs.Chain.{Chain}
 use Rattle.jn_reach.specs.Graph.{Graph, HasEdge, Reached}
-use Rattle.jn_reach.specs.Origins.{HasOrigin, IsFound, IsOrigin, AreOrigins}
+use Rattle.jn_reach.specs.Origins.{IsFound, IsOrigin, AreOrigins}
 use Rattle.jn_reach.specs.Visited.{IsClosedUnder, Spread, IsNew}
 use Rattle.jn_reach.proofs.Chains.{Chain-closed, Chain-push}
 use Rattle.jn_reach.proofs.Visits.{Contains-none, no_origin}

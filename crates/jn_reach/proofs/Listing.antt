@@ -1,5 +1,5 @@
 -- How a loop over the nodes lists those of which P holds.
-use Rattle.std.proofs.Common.{All, ◌≡◌, ◌<◌, ℕ, ◌+◌, List, [], ◌∷◌, ◌++◌, Contains, length, get_or, arith, inl, inr, subst, sym, length-append}
+use Rattle.std.proofs.Common.{All, ◌≡◌, ◌<◌, ℕ, ◌+◌, List, [], ◌∷◌, ◌++◌, Contains, length, get_or, arith, inl, inr, subst, length-append}
 use Rattle.std.specs.List.Sorted.{IsStrictlyIncreasing}
 use Rattle.std.proofs.lemmas.List.Elements.{Contains-push, Contains-push_cases, Contains-append_left, Contains-get_or, All-contains}
 use Rattle.std.proofs.lemmas.List.{get_or_append_left, get_or_push}

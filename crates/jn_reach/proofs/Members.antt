@@ -1,11 +1,11 @@
 -- How a loop over the nodes makes the lists of those that have one first.
-use Rattle.std.proofs.Common.{◌≡◌, ◌<◌, ◌+◌, ℕ, List, [], ◌∷◌, ◌++◌, All, Contains, length, get_or, set, inl, inr, sym, ap, subst, ◌∙◌, arith, Some, slice_get}
+use Rattle.std.proofs.Common.{◌≡◌, ◌<◌, ◌+◌, ℕ, List, [], ◌∷◌, ◌++◌, length, get_or, set, inl, inr, sym, ap, subst, ◌∙◌, arith, Some, slice_get}
 use Rattle.std.proofs.lemmas.Bool.{cases_eq}
 use Rattle.std.proofs.lemmas.Option.{slice_get_within, slice_get-get_or}
 use Rattle.std.proofs.lemmas.List.{length-set}
 use Rattle.std.specs.declared.vec.Vec.{Vec}
 use Rattle.std.specs.declared.alloc.Global.{Global}
-use Rattle.jn_reach.specs.Graph.{Graph, HasEdge, Lists}
+use Rattle.jn_reach.specs.Graph.{Graph}
 use Rattle.jn_reach.specs.Pairs.{IsGraphOf, AddsEdge, AreMembers}
 use Rattle.jn_reach.proofs.Edges.{slice_get-set_same, slice_get-set_other}
 use Rattle.jn_reach.proofs.Listing.{Listing, Listing-empty, Listing-skip, Listing-push, Listing-done}

@@ -1,14 +1,14 @@
 -- A relation on numbered things against the relation of their numbers: each closure of the one numbers that of the other.
-use Rattle.std.proofs.Common.{◌≡◌, ◌<◌, ◌↔◌, ℕ, List, Contains, length, slice_get, get_or, Some, arith, subst, sym, ◌∙◌, All, inl, inr}
+use Rattle.std.proofs.Common.{◌≡◌, ◌<◌, ◌↔◌, ℕ, List, length, slice_get, get_or, Some, arith, subst, All, inl, inr}
 use Rattle.std.specs.declared.vec.Vec.{Vec}
 use Rattle.std.specs.declared.alloc.Global.{Global}
 use Rattle.std.proofs.lemmas.Option.{slice_get_within, slice_get_cases, slice_get-get_or, get_or_from_slice_get}
 use Rattle.std.proofs.lemmas.List.Elements.{Contains-get_or, All-contains}
 use Rattle.jn_reach.specs.Chain.{Chain, here, step, Steps}
-use Rattle.jn_reach.specs.Derived.{Derived, seed, rule}
+use Rattle.jn_reach.specs.Derived.{Derived, seed}
 use Rattle.jn_reach.specs.Equivalent.{Equivalent, Turned, Either, forth, back}
 use Rattle.jn_reach.specs.Graph.{Graph, HasEdge, InRange, IsClosure}
-use Rattle.jn_reach.specs.Numbers.{Numbers, NumbersSet, NumbersPairs, PairAt, PairOf, AreDistinct}
+use Rattle.jn_reach.specs.Numbers.{Numbers, NumbersSet, NumbersPairs, AreDistinct}
 use Rattle.jn_reach.proofs.Chains.{Chain-closed, Equivalent-chain, chain-Equivalent, Derived-chain, chain-Derived}
 use Rattle.jn_reach.proofs.Searches.{same_some}
 

@@ -1,15 +1,13 @@
 -- How a graph is made of pairs, and what its chains are.
-use Rattle.std.proofs.Common.{◌≡◌, ◌<◌, ◌≤◌, ◌+◌, ◌↔◌, ◌⊎◌, ℕ, List, [], ◌∷◌, ◌++◌, All, Contains, length, get_or, take, set, inl, inr, sym, ap, subst, refl, ◌∙◌, arith, Some, None, Option, slice_get, length-append}
-use Rattle.std.proofs.lemmas.Bool.{cases_lt, cases_eq}
+use Rattle.std.proofs.Common.{◌≡◌, ◌<◌, ◌≤◌, ◌+◌, ◌↔◌, ◌⊎◌, ℕ, List, [], ◌∷◌, ◌++◌, All, Contains, length, get_or, take, inl, inr, sym, ap, subst, ◌∙◌, arith, Some, Option, slice_get, length-append}
+use Rattle.std.proofs.lemmas.Bool.{cases_lt}
 use Rattle.std.proofs.lemmas.Option.{slice_get-get_or, slice_get_within, get_or_from_slice_get}
 use Rattle.std.proofs.lemmas.List.{take_more, take_all, get_or_append_left, get_or_push, get_or_default}
 use Rattle.std.proofs.lemmas.List.Elements.{Contains-push, Contains-push_cases, Contains-append_left, Contains-get_or, All-contains}
-use Rattle.std.specs.declared.vec.Vec.{Vec}
-use Rattle.std.specs.declared.alloc.Global.{Global}
-use Rattle.jn_reach.specs.Chain.{Chain, here, step}
-use Rattle.jn_reach.specs.Derived.{Derived, seed, rule}
-use Rattle.jn_reach.specs.Equivalent.{Equivalent, pair, itself, turned, joined, Either, forth, back}
-use Rattle.jn_reach.specs.Graph.{Graph, HasEdge, InRange, Lists, Reached}
+use Rattle.jn_reach.specs.Chain.{Chain, here}
+use Rattle.jn_reach.specs.Derived.{Derived, seed}
+use Rattle.jn_reach.specs.Equivalent.{Equivalent, itself, turned, joined, Either, forth, back}
+use Rattle.jn_reach.specs.Graph.{Graph, HasEdge, InRange, Reached}
 use Rattle.jn_reach.specs.Origins.{HasOrigin, IsFound, IsOrigin, AreOrigins}
 use Rattle.jn_reach.specs.Pairs.{IsPair, AreBelow, IsGraphOf, AddsEdge, IsFirst, AreFirsts}
 use Rattle.jn_reach.proofs.Chains.{Chain-map, Chain-one, chain-Equivalent, Equivalent-chain, Derived-chain, chain-Derived}

@@ -1,11 +1,11 @@
 -- How visits begin, go on and add up.
-use Rattle.std.proofs.Common.{◌≡◌, ◌≢◌, ◌+◌, ◌<◌, ℕ, List, [], ◌∷◌, ◌++◌, Option, Some, None, Bool, true, false, not, is_some, Contains, length, inl, inr, ◌⊎◌, arith, take, set, get_or, refl, sym, ◌∙◌, ap, subst, cond, length-append, get_or-set_same, get_or-set_other}
+use Rattle.std.proofs.Common.{◌≡◌, ◌≢◌, ◌+◌, ◌<◌, ℕ, List, [], ◌∷◌, ◌++◌, Option, Some, None, Bool, true, false, not, is_some, Contains, length, inl, inr, arith, take, set, get_or, refl, sym, ◌∙◌, ap, subst, cond, length-append, get_or-set_same, get_or-set_other}
 use Rattle.std.proofs.lemmas.Bool.{cases_eq}
 use Rattle.std.proofs.lemmas.List.{length-set, take_more, get_or_default}
 use Rattle.std.proofs.lemmas.List.Sums.{sum_by-set}
 use Rattle.std.proofs.lemmas.List.Elements.{Contains-push, Contains-push_cases, Contains-append_left, Contains-append_right, Contains-append_cases}
 use Rattle.jn_reach.specs.Origins.{HasOrigin, IsFound}
-use Rattle.jn_reach.specs.Visited.{Visited, IsNew, unfound}
+use Rattle.jn_reach.specs.Visited.{Visited, unfound}
 
 pub Contains-none : {X : Type 0} (x : X) → Contains [] x → ⊥
 Contains-none x h = omega (arith, h.1)

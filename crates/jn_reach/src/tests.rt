@@ -1,4 +1,4 @@
-ghost use Rattle.std.specs.Prelude.{◌≡◌, ◌<◌, All, length};
+ghost use Rattle.std.specs.Prelude.{◌≡◌, ◌<◌, ◌↔◌, All, IsTrue, length};
 ghost use Rattle.jn_reach.specs.Graph.{InRange};
 ghost use Rattle.jn_reach.specs.Pairs.{AreBelow};
 
@@ -160,21 +160,36 @@ fn classes(rt: &impl Abort, alloc: Global, example: &Example) -> Result<(), Allo
     rows_are(rt, alloc, &class_members(alloc, &firsts)?, example.members)
 }
 
+fn are_nodes(nodes: &[usize]) -> bool
+    ensures { IsTrue result ↔ All (λ a. a < 5) nodes.now }
+{
+    nodes.iter().all(|node| *node < 5)
+}
+
+fn holds(
+    rt: &impl Abort,
+    alloc: Global,
+    example: &Example,
+    starts: &[usize],
+) -> Result<(), AllocError>
+    requires pairs { AreBelow 5 example.now.pairs.now }
+    requires starts { All (λ a. a < 5) starts.now }
+{
+    let edges = edges_of(alloc, 5, example.pairs)?;
+    chains(rt, alloc, example, &edges)?;
+    two_starts(rt, alloc, example, &edges, starts)?;
+    let set = least_set(alloc, 5, starts, example.pairs)?;
+    nodes_are(rt, alloc, &set, example.from_three_and_one)?;
+    classes(rt, alloc, example)
+}
+
 #[test]
 fn small_graphs(rt: HostRuntime) -> Result<(), Fail> {
-    let alloc = rt.alloc();
-    for example in &EXAMPLES {
-        assert!(rt; are_below(5, example.pairs));
-        let edges = edges_of(alloc, 5, example.pairs)?;
-        chains(&rt, alloc, example, &edges)?;
-        two_starts(&rt, alloc, example, &edges, &[3, 1])?;
-        nodes_are(
-            &rt,
-            alloc,
-            &least_set(alloc, 5, &[3, 1], example.pairs)?,
-            example.from_three_and_one,
-        )?;
-        classes(&rt, alloc, example)?;
+    let starts = [3, 1];
+    assert!(rt; are_nodes(&starts));
+    for graph in &EXAMPLES {
+        assert!(rt; are_below(5, graph.pairs));
+        holds(&rt, rt.alloc(), graph, &starts)?;
     }
     Ok(())
 }

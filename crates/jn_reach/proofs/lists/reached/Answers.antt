@@ -1,5 +1,3 @@
-use Rattle.std.proofs.Common.{List, ℕ}
-use Rattle.jn_reach.specs.Graph.{Lists, Reached}
 use Rattle.jn_reach.proofs.Listing.{Lists-reached, reached_within}
 use Rattle.jn_reach.proofs.lists.reached.Goals as goal
 

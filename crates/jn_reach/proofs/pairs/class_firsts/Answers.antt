@@ -1,4 +1,4 @@
-use Rattle.std.proofs.Common.{◌<◌, ◌≤◌, length, arith}
+use Rattle.std.proofs.Common.{◌<◌, ◌≤◌, arith}
 use Rattle.jn_reach.proofs.Pairings.{graph_in_range, pair_either_within, starts_within, has_first, is_first, same_first, AreFirsts-more, firsts_within}
 use Rattle.jn_reach.proofs.Visits.{found_is_some}
 use Rattle.jn_reach.proofs.pairs.class_firsts.Goals as goal

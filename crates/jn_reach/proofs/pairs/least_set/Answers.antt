@@ -1,7 +1,4 @@
-use Rattle.std.proofs.Common.{ℕ, Contains, sym}
-use Rattle.jn_reach.specs.Derived.{Derived}
-use Rattle.jn_reach.specs.Graph.{Reached}
-use Rattle.jn_reach.specs.Pairs.{IsPair}
+use Rattle.std.proofs.Common.{sym}
 use Rattle.jn_reach.proofs.Listing.{Lists-same}
 use Rattle.jn_reach.proofs.Pairings.{Reached-Derived, Derived-Reached}
 use Rattle.jn_reach.proofs.pairs.least_set.Goals as goal
