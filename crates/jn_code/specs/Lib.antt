@@ -1,1 +1,6 @@
 pub mod Form
+pub mod Kinds
+pub mod Rows
+pub mod Valid
+pub mod Machine
+pub mod Example

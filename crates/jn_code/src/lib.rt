@@ -4,9 +4,12 @@
 pub mod fault;
 pub mod image;
 pub mod instr;
+pub mod kind;
+pub mod law;
 
 pub use fault::{CodeWhy, FieldKind, ImageFault, RowWhy};
 pub use image::{
     ClassRow, Code, FieldEntry, Group, Image, MemberEntry, MethodEntry, OtherEntry, Shape, Text,
 };
 pub use instr::Instr;
+pub use kind::OperandKind;
