@@ -4,3 +4,4 @@ pub mod Rows
 pub mod Valid
 pub mod Machine
 pub mod Example
+pub mod Known

@@ -1,7 +1,8 @@
 ghost use Rattle.std.specs.Prelude.{◌≡◌, ℕ, ◌∷◌, [], pos};
 ghost use Rattle.jn_code.specs.declared.image.Image.{Image};
 ghost use Rattle.jn_steps.specs.Laws.{RunsGoOn};
-ghost use Rattle.jn_code.specs.Valid.{first_fault};
+ghost use Rattle.jn_code.specs.Valid.{IsValid, first_fault};
+ghost use Rattle.jn_code.specs.Known.{IsSound};
 ghost use Rattle.jn_code.specs.Machine.{Machine, Halt, Done, instruct, mach};
 ghost use Rattle.jn_code.specs.Example.{plain_image, seven, wrong_kind, no_operand};
 
@@ -10,6 +11,11 @@ use crate::fault::{CodeWhy, ImageFault};
 /// A run with more instructions goes on from where it was, and one that has halted stays as it is. It does nothing.
 pub fn machine_goes_on()
     ensures { (i : Image) (capacity depth : ℕ) → RunsGoOn (instruct i capacity depth) (λ (m : Machine). m.output) }
+{}
+
+/// In a valid image the kinds before each instruction are known and right. It does nothing.
+pub fn valid_is_sound()
+    ensures { (i : Image) → IsValid i → IsSound i }
 {}
 
 /// Worked rows: an image that prints 7, cut off after 2 and after 1 instructions, and two that are not valid. It does
