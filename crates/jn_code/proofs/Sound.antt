@@ -93,14 +93,15 @@ same_or (suc k) (suc t) = elim (same_or k t) [ inl e ↦ inl (ap suc e) | inr n 
 pub set_grows : (s : Valid.Notes) (t : ℕ) (ks : List OperandKind) → slice_get s t ≡ Some None → Grows s (slice_set s t (Some ks))
 set_grows s t ks e = record {
   long = set_long s t (Some ks);
-  at = λ k js h. record { is = elim (same_or k t) [ inl q ↦ let h' = h.is in cc | inr n ↦ set_other s t (Some ks) k n ∙ h.is ] }
+  at = λ k js h. record { is = elim (same_or k t) [ inl q ↦ let h' = h.is in cc | inr n ↦ set_other s t (Some ks) k n ∙ h.is ] };
 }
 
 pub set_low : (m : ℕ) (s : Valid.Notes) (t : ℕ) (ks : List OperandKind) → slice_get s t ≡ Some None → length ks ≤ m → Low m s → Low m (slice_set s t (Some ks))
 set_low m s t ks e h low = record {
   at = λ k js q. elim (same_or k t) [
-    inl w ↦ let a = set_same s t (Some ks) None e in let q' = q.is in let b : ks ≡ js = cc in subst (λ (z : List OperandKind). length z ≤ m) b h
-  | inr n ↦ low.at k js (record { is = sym (set_other s t (Some ks) k n) ∙ q.is }) ]
+    | inl w ↦ let a = set_same s t (Some ks) None e in let q' = q.is in let b : ks ≡ js = cc in subst (λ (z : List OperandKind). length z ≤ m) b h
+    | inr n ↦ low.at k js (record { is = sym (set_other s t (Some ks) k n) ∙ q.is })
+  ];
 }
 
 -- Kinds are given to t: what was known stays, and these are known there
@@ -136,7 +137,7 @@ right_grows g f = record {
   known = g.at _ _ f.known;
   own = f.own;
   target = λ t e. g.at _ _ (f.target t e);
-  next = λ e. g.at _ _ (f.next e)
+  next = λ e. g.at _ _ (f.next e);
 }
 
 -- where a pass goes on
@@ -149,7 +150,7 @@ pub onward : (p : Valid.Pass) (go : Valid.Notes → Valid.Pass) (r : Valid.Notes
 onward (Valid.Known s) go r e = record { mid = s; first = refl; then' = e }
 onward (Valid.Found n w) go r e = cc
 
-unless_none : (b : Bool) (w : CodeWhy) (o : Option CodeWhy) → unless b w o ≡ None → (b ≡ true) × (o ≡ None)
+pub unless_none : {W : Type 0} (b : Bool) (w : W) (o : Option W) → unless b w o ≡ None → (b ≡ true) × (o ≡ None)
 unless_none true w o e = (refl, e)
 unless_none false w o e = absurd cc
 
@@ -169,14 +170,14 @@ own_fine i c x ks e =
     let h = unless_none (Valid.all_suit (takes i c x) ks) why.Kind returns g.1 in
     let k = unless_none (Valid.returns_well c x) why.Kind None h.1 in
     record {
-  number = a.0;
-  local = b.0;
-  place = d.0;
-  many = leb-true _ _ f.0;
-  low = leb-true _ _ g.0;
-  suits = h.0;
-  returns = k.0
-}
+      number = a.0;
+      local = b.0;
+      place = d.0;
+      many = leb-true _ _ f.0;
+      low = leb-true _ _ g.0;
+      suits = h.0;
+      returns = k.0;
+    }
 
 pub settle_as_grows : (n : ℕ) (s : Valid.Notes) (o : Option (Option (List OperandKind))) → slice_get s n ≡ o → n < length s → (m : ℕ) → Low m s → Given m n (Valid.or_none o) s (Valid.settle_as n s o)
 settle_as_grows n s None e h m low = let a = get_there s n h in absurd cc
@@ -238,18 +239,19 @@ passed i c n [] s r l h low e =
     let z : s ≡ r = cc in
     subst (λ (r : Valid.Notes). Passed i c n [] s r) z (record { grows = grows_refl s; low = low; first = λ h. absurd (omega arith); fine = λ k x e. absurd cc })
 passed i c n (x ∷ xs) s r l h low e =
+    let lt : n < length s = omega arith in
+    let st = settle_as_grows n s (slice_get s n) refl lt c.stack low in
     let a = onward _ _ r e in
-    let st = settle_as_grows n s (slice_get s n) refl (omega arith) c.stack low in
     let sl = st.grows.long in
     let j = judged i c n x xs (Valid.before s n) (Valid.own_fault i c x (Valid.before s n)) (Valid.settle n s) a.mid refl (st.there (omega arith)) (omega arith) (omega arith) st.low a.first in
     let jl = j.0.long in
     let p = passed i c (n + 1) xs a.mid r (omega arith) (omega arith) j.1 a.then' in
     record {
-  grows = grows_trans (grows_trans st.grows j.0) p.grows;
-  low = p.low;
-  first = λ b. p.grows.at n (Valid.before s n) (j.0.at n (Valid.before s n) (st.there (omega arith)));
-  fine = λ k y q. fine_at i c n x xs r k y q (right_grows p.grows j.2) p.fine
-}
+      grows = grows_trans (grows_trans st.grows j.0) p.grows;
+      low = p.low;
+      first = λ b. p.grows.at n (Valid.before s n) (j.0.at n (Valid.before s n) (st.there (omega arith)));
+      fine = λ k y q. fine_at i c n x xs r k y q (right_grows p.grows j.2) p.fine;
+    }
 
 none_known : (n t : ℕ) (ks : List OperandKind) → KnownAt (replicate n None) t ks → ⊥
 none_known zero t ks h = let q = h.is in cc
@@ -271,11 +273,11 @@ noted_all i c (x ∷ xs) r q e =
     let p = passed i c 0 (x ∷ xs) s r (omega arith) (omega arith) low e in
     let pl = p.grows.long in
     record {
-  long = omega arith;
-  low = p.low.at;
-  first = p.first (omega arith);
-  right = λ k y g. let z : 0 + k ≡ k = omega arith in subst (λ (k : ℕ). IsRight i c r k y) z (p.fine k y (subst (λ (xs : List Instr). slice_get xs k ≡ Some y) q g))
-}
+      long = omega arith;
+      low = p.low.at;
+      first = p.first (omega arith);
+      right = λ k y g. let z : 0 + k ≡ k = omega arith in subst (λ (k : ℕ). IsRight i c r k y) z (p.fine k y (subst (λ (xs : List Instr). slice_get xs k ≡ Some y) q g));
+    }
 
 -- where a pass with no fault ends
 pub noted : (i : Image) (c : Code) (r : Valid.Notes) → Valid.pass i c ≡ Valid.Known r → KindsKnown i c r
@@ -325,7 +327,7 @@ sound i v =
     let a = rows_sound i 0 i.classes v.none in
     let b = codes_sound i 0 i.codes a.0 in
     record {
-  rows = λ k r q. let z : 0 + k ≡ k = omega arith in subst (λ (k : ℕ). RowIsSound i k r) z (a.1 k r q);
-  codes = b.1;
-  start = b.0;
-}
+      rows = λ k r q. let z : 0 + k ≡ k = omega arith in subst (λ (k : ℕ). RowIsSound i k r) z (a.1 k r q);
+      codes = b.1;
+      start = b.0;
+    }

@@ -5,3 +5,4 @@ pub mod Valid
 pub mod Machine
 pub mod Example
 pub mod Known
+pub mod Never

@@ -3,6 +3,7 @@ ghost use Rattle.jn_code.specs.declared.image.Image.{Image};
 ghost use Rattle.jn_steps.specs.Laws.{RunsGoOn};
 ghost use Rattle.jn_code.specs.Valid.{IsValid, first_fault};
 ghost use Rattle.jn_code.specs.Known.{IsSound};
+ghost use Rattle.jn_code.specs.Never.{NeverStuck};
 ghost use Rattle.jn_code.specs.Machine.{Machine, Halt, Done, instruct, mach};
 ghost use Rattle.jn_code.specs.Example.{plain_image, seven, wrong_kind, no_operand};
 
@@ -16,6 +17,11 @@ pub fn machine_goes_on()
 /// In a valid image the kinds before each instruction are known and right. It does nothing.
 pub fn valid_is_sound()
     ensures { (i : Image) → IsValid i → IsSound i }
+{}
+
+/// A valid image never gets stuck, whatever the depth and the number of instructions. It does nothing.
+pub fn never_stuck()
+    ensures { (i : Image) → IsValid i → NeverStuck i }
 {}
 
 /// Worked rows: an image that prints 7, cut off after 2 and after 1 instructions, and two that are not valid. It does
