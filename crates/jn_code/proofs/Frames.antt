@@ -1,8 +1,8 @@
 -- Frames whose operands are of the kinds that are known, and what such a frame may do.
-use Rattle.std.proofs.Common.{◌≡◌, ◌≢◌, refl, sym, ap, ◌∙◌, ℕ, zero, suc, ◌+◌, ◌<◌, ◌≤◌, List, [], ◌∷◌, ◌++◌, length, map, drop, reverse, ℤ, pos, Bool, true, false, ◌&&◌, Option, Some, None, slice_get, arith, ◌⊎◌, inl, inr, subst}
+use Rattle.std.proofs.Common.{◌≡◌, ◌≢◌, refl, sym, ap, ◌∙◌, ℕ, ◌+◌, ◌<◌, List, [], ◌∷◌, ◌++◌, length, map, drop, reverse, ℤ, Bool, true, false, ◌&&◌, Option, Some, None, slice_get, arith, inl, inr, subst}
 use Rattle.std.specs.Prelude.{if◌then◌else◌}
 use Rattle.std.proofs.lemmas.List.{length-reverse, reverse-reverse, length-map}
-use Rattle.jn_steps.specs.Steps.{Step, Goes, Enters, Leaves, Falls, Faults, on_some, on_one, on_two, on_args}
+use Rattle.jn_steps.specs.Steps.{Goes, Enters, Leaves, Falls, Faults, on_some, on_one, on_two, on_args}
 use Rattle.jn_code.specs.declared.kind.OperandKind.{OperandKind}
 use Rattle.jn_code.specs.declared.kind.OperandKind.TheVariants as kind
 use Rattle.jn_code.specs.declared.instr.Instr.{Instr}
@@ -14,9 +14,9 @@ use Rattle.jn_code.specs.Kinds.{kind_of, result_kind, locals_of, each_some, list
 use Rattle.jn_code.specs.Rows.{kind_eq}
 use Rattle.jn_code.specs.Valid.{suits, all_suit}
 use Rattle.jn_code.specs.Known.{KnownAt, SuitsKinds, notes_of}
-use Rattle.jn_code.specs.Machine.{Halt, Null, Zero, Stuck, Frame, Ref, ref_word, ref_in, class_in, Did, on_ref, on_row}
+use Rattle.jn_code.specs.Machine.{Halt, Null, Stuck, Frame, Ref, ref_word, ref_in, class_in, Did, on_ref, on_row}
 use Rattle.jn_code.proofs.Sound.{both_left, both_right, kind_same, get_below, get_there}
-use Rattle.jn_code.proofs.Words.{Cell, Views, IsRef, IsWord, Pairs, AreWords, CellHolds, HeapOk, Later, words_later, pairs_long, ref_in_word}
+use Rattle.jn_code.proofs.Words.{Cell, IsRef, IsWord, AreWords, CellHolds, HeapOk, Later, words_later, pairs_long, ref_in_word}
 
 -- A frame at work or waiting, where these kinds are still to come on top of its operands.
 pub record Placed (i : Image) (p : List Cell) (f : Frame) (above : List OperandKind) : Type 0 where

@@ -1,32 +1,31 @@
 -- An instruction of a valid image finds what it looks for, and leads to where the kinds are known.
-use Rattle.std.proofs.Common.{◌≡◌, ◌≢◌, refl, sym, ap, ◌∙◌, ℕ, zero, suc, ◌+◌, ◌<◌, ◌≤◌, List, [], ◌∷◌, ◌++◌, length, map, drop, reverse, replicate, ℤ, pos, Bool, true, false, not, Option, Some, None, slice_get, slice_set, nat_lt, nat_le, arith, ◌⊎◌, inl, inr, subst}
+use Rattle.std.proofs.Common.{◌≡◌, refl, sym, ap, ◌∙◌, ℕ, zero, suc, ◌+◌, ◌<◌, ◌≤◌, List, [], ◌∷◌, ◌++◌, length, map, drop, reverse, ℤ, pos, Bool, true, false, not, Option, Some, None, slice_get, slice_set, nat_lt, nat_le, arith, inl, inr, subst}
 use Rattle.std.specs.Prelude.{is_some, nat_eq, int_lt, int_le, if◌then◌else◌}
 use Rattle.std.specs.Ordering.{int_eq}
 use Rattle.std.specs.Option.{option_map, option_and_then}
 use Rattle.std.proofs.lemmas.Bool.{ltb-true, leb-true, eqb-true}
 use Rattle.std.proofs.lemmas.Bool.Decides.{nat_tests}
 use Rattle.std.proofs.lemmas.List.{length-append, append-nil}
-use Rattle.jn_steps.specs.Steps.{Step, Goes, Enters, Leaves, Falls, Faults, on_some, on_one, on_two, on_args}
+use Rattle.jn_steps.specs.Steps.{Goes, Enters, Faults, on_some, on_one, on_two}
 use Rattle.jn_steps.specs.Numbers.{sum_of, difference_of, product_of, negation_of, quotient_of, remainder_of, line_of, number_line, truth_line}
 use Rattle.jn_code.specs.declared.kind.OperandKind.{OperandKind}
 use Rattle.jn_code.specs.declared.kind.OperandKind.TheVariants as kind
 use Rattle.jn_code.specs.declared.instr.Instr.{Instr}
 use Rattle.jn_code.specs.declared.instr.Instr.TheVariants as op
 use Rattle.jn_code.specs.declared.image.Image.{Image}
-use Rattle.jn_code.specs.declared.image.Text.{Text}
 use Rattle.jn_code.specs.declared.image.Shape.{Shape}
 use Rattle.jn_code.specs.declared.image.Group.{Group}
 use Rattle.jn_code.specs.declared.image.ClassRow.{ClassRow}
 use Rattle.jn_code.specs.declared.image.Code.{Code}
-use Rattle.jn_code.specs.Kinds.{kind_of, result_kind, locals_of, local_kind, argument_kinds, arguments_of, result_of, field_kind, each_some, one, list_of, takes, after_it, target_of, goes_on}
+use Rattle.jn_code.specs.Kinds.{kind_of, result_kind, locals_of, local_kind, argument_kinds, arguments_of, result_of, field_kind, each_some, one, list_of, after_it, target_of, goes_on}
 use Rattle.jn_code.specs.Rows.{numbered}
 use Rattle.jn_code.specs.Valid.{suits, all_suit}
-use Rattle.jn_code.specs.Known.{KnownAt, SuitsKinds, notes_of}
-use Rattle.jn_code.specs.Machine.{Halt, Null, Zero, Arena, Stuck, Frame, Ref, ref_word, ref_in, object_in, class_in, truth, word_of, ups_of, member_in, code_in, slot_in, other_in, counterpart_of, ref_viewed, viewed_as, viewed, field_value, object_cells, Did, next, jump, waits, on_ref, on_row, on_call, make, construct, obey}
-use Rattle.jn_code.proofs.Sound.{both_left, both_right, kind_same, get_below, get_there, set_long}
-use Rattle.jn_code.proofs.Words.{Cell, Slot, Views, IsRef, IsWord, Pairs, AreWords, CellHolds, HeapOk, Later, later_refl, words_later, pairs_long, pairs_get, pairs_set, ref_in_word, object_plan, plan_grows, heap_made, new_ref}
-use Rattle.jn_code.proofs.RowFacts.{RowsOk, RowIs, row_is, numbered_is, map_is, then_is, member_there, ups_there, group_there, IsEntry, code_there, IsSlot, slot_there, IsOther, other_there}
-use Rattle.jn_code.proofs.Frames.{Placed, expected, HandsBack, code_result, result_at, DoesOk, Ready, push, as_kind, some_there, some_or, if_ok, one_ok, two_ok, shape_ok, ref_ok, row_ok, class_below}
+use Rattle.jn_code.specs.Known.{KnownAt, notes_of}
+use Rattle.jn_code.specs.Machine.{Null, Zero, Arena, Stuck, Frame, Ref, ref_word, ref_in, object_in, class_in, truth, word_of, ups_of, member_in, code_in, slot_in, other_in, counterpart_of, ref_viewed, viewed_as, viewed, field_value, object_cells, Did, next, jump, waits, on_call, make, construct, obey}
+use Rattle.jn_code.proofs.Sound.{get_below, get_there, set_long}
+use Rattle.jn_code.proofs.Words.{Cell, Slot, Views, IsRef, IsWord, AreWords, CellHolds, HeapOk, Later, later_refl, words_later, pairs_long, pairs_get, pairs_set, ref_in_word, object_plan, plan_grows, heap_made, new_ref}
+use Rattle.jn_code.proofs.RowFacts.{RowsOk, RowIs, row_is, numbered_is, map_is, then_is, member_there, ups_there, group_there, IsEntry, code_there, IsSlot, slot_there, other_there}
+use Rattle.jn_code.proofs.Frames.{HandsBack, code_result, DoesOk, Ready, push, as_kind, some_there, some_or, if_ok, one_ok, two_ok, shape_ok, ref_ok, row_ok, class_below}
 
 drop_nil : {A : Type 0} (n : ℕ) → drop {A = A} n [] ≡ []
 drop_nil zero = refl

@@ -4,7 +4,6 @@ use Rattle.std.specs.Prelude.{nat_eq, if◌then◌else◌}
 use Rattle.std.specs.List.{list_all, find}
 use Rattle.std.specs.Option.{option_map, option_and_then}
 use Rattle.std.proofs.lemmas.Bool.{ltb-true, eqb-true}
-use Rattle.jn_code.specs.declared.kind.OperandKind.TheVariants as kind
 use Rattle.jn_code.specs.declared.image.Image.{Image}
 use Rattle.jn_code.specs.declared.image.Shape.{Shape}
 use Rattle.jn_code.specs.declared.image.Group.{Group}
@@ -14,13 +13,11 @@ use Rattle.jn_code.specs.declared.image.MethodEntry.{MethodEntry}
 use Rattle.jn_code.specs.declared.image.FieldEntry.{FieldEntry}
 use Rattle.jn_code.specs.declared.image.OtherEntry.{OtherEntry}
 use Rattle.jn_code.specs.declared.image.Code.{Code}
-use Rattle.jn_code.specs.declared.fault.RowWhy.{RowWhy}
 use Rattle.jn_code.specs.declared.fault.RowWhy.TheVariants as why
 use Rattle.jn_code.specs.Kinds.{kind_of}
-use Rattle.jn_code.specs.Rows.{unless, passes, kind_eq, same_numbers, numbered, group_at, group_of, up_is_good, group_is_good, member_is_good, has_shape, method_is_good, slot_is_good, field_is_good, other_is_good, row_fault}
-use Rattle.jn_code.specs.Known.{IsSound}
+use Rattle.jn_code.specs.Rows.{unless, passes, same_numbers, numbered, group_at, group_of, up_is_good, group_is_good, member_is_good, method_is_good, slot_is_good, field_is_good, other_is_good, row_fault}
 use Rattle.jn_code.specs.Machine.{up_of, ups_of, member_in, code_in, slot_in, other_in}
-use Rattle.jn_code.proofs.Sound.{both_left, both_right, unless_none, kind_same, get_below, get_there}
+use Rattle.jn_code.proofs.Sound.{both_left, both_right, unless_none, kind_same, get_below}
 
 -- no class has a fault
 abbrev pub RowsOk : Image → Type 0

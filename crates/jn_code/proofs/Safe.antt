@@ -1,24 +1,23 @@
 -- A valid image never gets stuck: its frames keep their operands of the kinds that are known.
-use Rattle.std.proofs.Common.{◌≡◌, ◌≢◌, refl, sym, ap, ◌∙◌, ℕ, zero, suc, ◌+◌, ◌<◌, ◌≤◌, List, [], ◌∷◌, ◌++◌, length, map, replicate, ℤ, pos, Bool, true, false, not, ◌&&◌, Option, Some, None, slice_get, nat_lt, arith, subst}
+use Rattle.std.proofs.Common.{◌≡◌, ◌≢◌, refl, sym, ℕ, zero, suc, ◌<◌, List, [], ◌∷◌, ◌++◌, length, map, replicate, ℤ, pos, Bool, true, false, not, Option, Some, None, slice_get, nat_lt, arith, subst}
 use Rattle.std.specs.Prelude.{is_some, nat_eq, if◌then◌else◌}
 use Rattle.std.specs.Option.{option_map}
 use Rattle.std.proofs.lemmas.Bool.{eqb-true}
 use Rattle.std.proofs.lemmas.List.{map-append}
-use Rattle.jn_steps.specs.Runs.{Report, Next, On, End, and_then, after, report}
-use Rattle.jn_steps.specs.Steps.{Step, Goes, Enters, Leaves, Falls, Faults}
-use Rattle.jn_steps.specs.Frames.{State, Rules, return_to, begin, machine_does, machine_step_of, machine_step}
+use Rattle.jn_steps.specs.Runs.{Next, On, End, and_then, after, report}
+use Rattle.jn_steps.specs.Steps.{Goes, Enters, Leaves, Falls, Faults}
+use Rattle.jn_steps.specs.Frames.{return_to, begin, machine_does, machine_step_of}
 use Rattle.jn_code.specs.declared.kind.OperandKind.{OperandKind}
 use Rattle.jn_code.specs.declared.instr.Instr.{Instr}
 use Rattle.jn_code.specs.declared.image.Image.{Image}
 use Rattle.jn_code.specs.declared.image.Code.{Code}
-use Rattle.jn_code.specs.Kinds.{kind_of, result_kind, locals_of, list_of}
+use Rattle.jn_code.specs.Kinds.{kind_of, result_kind, locals_of}
 use Rattle.jn_code.specs.Valid.{IsValid, starts_well}
-use Rattle.jn_code.specs.Known.{KnownAt, IsRight, KindsKnown, notes_of, IsSound}
-use Rattle.jn_code.specs.Machine.{Halt, Done, Depth, Stuck, Frame, Did, obey, move, given_if, given, fresh, rules, Machine, instruct, first_frame, boot, mach}
+use Rattle.jn_code.specs.Known.{KnownAt, notes_of, IsSound}
+use Rattle.jn_code.specs.Machine.{Halt, Stuck, Frame, Did, move, given_if, given, fresh, rules, Machine, instruct, first_frame, boot}
 use Rattle.jn_code.specs.Never.{NeverStuck}
 use Rattle.jn_code.proofs.Sound.{both_left, get_below, get_there, sound}
-use Rattle.jn_code.proofs.Words.{Cell, IsWord, Pairs, pairs_both, AreWords, HeapOk, Later, zero_words}
-use Rattle.jn_code.proofs.RowFacts.{map_is}
+use Rattle.jn_code.proofs.Words.{Cell, IsWord, Pairs, pairs_both, AreWords, HeapOk, zero_words}
 use Rattle.jn_code.proofs.Frames.{Placed, expected, WaitsFor, HandsBack, code_result, result_at, Waiting, DoesOk, Ready, push, some_there, waiting_later}
 use Rattle.jn_code.proofs.Obeyed.{obeyed}
 

@@ -1,5 +1,5 @@
 -- What a pass with no fault has found.
-use Rattle.std.proofs.Common.{◌≡◌, ◌≢◌, refl, sym, ap, ◌∙◌, ℕ, zero, suc, ◌+◌, ◌<◌, ◌≤◌, List, [], ◌∷◌, ◌++◌, length, drop, Bool, true, false, not, ◌&&◌, Option, Some, None, slice_get, slice_set, nat_lt, nat_le, replicate, if◌then◌else◌, arith, ◌⊎◌, inl, inr, subst}
+use Rattle.std.proofs.Common.{◌≡◌, ◌≢◌, refl, sym, ap, ◌∙◌, ℕ, zero, suc, ◌+◌, ◌<◌, ◌≤◌, List, [], ◌∷◌, length, Bool, true, false, ◌&&◌, Option, Some, None, slice_get, slice_set, nat_le, replicate, if◌then◌else◌, arith, ◌⊎◌, inl, inr, subst}
 use Rattle.std.proofs.lemmas.Bool.Decides.{nat_tests}
 use Rattle.std.proofs.lemmas.Bool.{leb-true}
 use Rattle.jn_code.specs.declared.kind.OperandKind.{OperandKind}
@@ -9,11 +9,10 @@ use Rattle.jn_code.specs.declared.image.Image.{Image}
 use Rattle.jn_code.specs.declared.image.ClassRow.{ClassRow}
 use Rattle.jn_code.specs.declared.image.Code.{Code}
 use Rattle.jn_code.specs.declared.fault.ImageFault.{ImageFault}
-use Rattle.jn_code.specs.declared.fault.ImageFault.TheVariants as fault
 use Rattle.jn_code.specs.declared.fault.CodeWhy.{CodeWhy}
 use Rattle.jn_code.specs.declared.fault.CodeWhy.TheVariants as why
 use Rattle.jn_code.specs.declared.fault.RowWhy.{RowWhy}
-use Rattle.jn_code.specs.Kinds.{locals_of, takes, after_it, target_of, goes_on}
+use Rattle.jn_code.specs.Kinds.{takes, after_it, target_of, goes_on}
 use Rattle.jn_code.specs.Rows.{unless, kind_eq, row_fault}
 use Rattle.jn_code.specs.Valid
 use Rattle.jn_code.specs.Known.{KnownAt, SuitsKinds, IsRight, KindsKnown, notes_in, notes_of, IsSound}

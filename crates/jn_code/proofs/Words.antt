@@ -1,5 +1,5 @@
 -- Words of a kind, and a heap whose cells are of their kinds.
-use Rattle.std.proofs.Common.{◌≡◌, ◌≢◌, refl, sym, ap, ◌∙◌, ℕ, zero, suc, ◌+◌, ◌*◌, ◌/◌, ◌%◌, ◌<◌, ◌≤◌, List, [], ◌∷◌, ◌++◌, length, map, drop, reverse, replicate, ℤ, pos, negsuc, Bool, true, false, Option, Some, None, slice_get, slice_set, arith, ◌⊎◌, inl, inr, subst}
+use Rattle.std.proofs.Common.{◌≡◌, refl, sym, ap, ◌∙◌, ℕ, zero, suc, ◌+◌, ◌*◌, ◌%◌, ◌<◌, ◌≤◌, List, [], ◌∷◌, ◌++◌, length, map, replicate, ℤ, pos, false, Option, Some, slice_get, slice_set, arith, ◌⊎◌, inl, inr, subst}
 use Rattle.std.specs.Prelude.{nat_eq}
 use Rattle.std.specs.Option.{option_map}
 use Rattle.std.proofs.lemmas.Nat.{div-mul-add, mod-mul-add}
@@ -11,7 +11,6 @@ use Rattle.jn_code.specs.declared.image.Group.{Group}
 use Rattle.jn_code.specs.declared.image.ClassRow.{ClassRow}
 use Rattle.jn_code.specs.Kinds.{kind_of}
 use Rattle.jn_code.specs.Machine.{Ref, ref_word, ref_in, object_cells}
-use Rattle.jn_code.proofs.Sound.{get_below, get_there, set_long}
 
 -- A cell is the first of an object of a group, or a slot of a kind.
 pub data Cell : Type 0 where

@@ -1,5 +1,5 @@
 -- What a valid image promises the machine: at each instruction the kinds of the operands are known and right.
-use Rattle.std.specs.Prelude.{◌≡◌, ℕ, ◌+◌, ◌≤◌, List, [], length, true, Option, Some, None, slice_get}
+use Rattle.std.specs.Prelude.{◌≡◌, ℕ, ◌+◌, ◌≤◌, List, [], length, true, Some, None, slice_get}
 use Rattle.jn_code.specs.declared.kind.OperandKind.{OperandKind}
 use Rattle.jn_code.specs.declared.instr.Instr.{Instr}
 use Rattle.jn_code.specs.declared.image.Image.{Image}

@@ -1,5 +1,5 @@
 -- No run gets stuck.
-use Rattle.std.specs.Prelude.{◌≡◌, ◌≢◌, ℕ, ◌<◌, Option, Some}
+use Rattle.std.specs.Prelude.{◌≢◌, ℕ, ◌<◌, Some}
 use Rattle.jn_code.specs.declared.image.Image.{Image}
 use Rattle.jn_code.specs.Machine.{Stuck, mach}
 

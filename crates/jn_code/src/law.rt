@@ -34,3 +34,25 @@ pub fn example_rows()
     ensures two { (a d : ℕ) → mach (plain_image 1 seven) a d 2 ≡ record { outcome = None; output = 55 ∷ 10 ∷ [] } }
     ensures one { (a d : ℕ) → mach (plain_image 1 seven) a d 1 ≡ record { outcome = None; output = [] } }
 {}
+
+#[cfg(test)]
+mod tests {
+    use super::{example_rows, machine_goes_on, never_stuck, valid_is_sound};
+    use crate::rows;
+
+    #[test]
+    fn the_laws_and_rows_are_there() {
+        machine_goes_on();
+        valid_is_sound();
+        never_stuck();
+        example_rows();
+        rows::number_rows();
+        rows::local_rows();
+        rows::view_rows();
+        rows::call_rows();
+        rows::code_fault_rows();
+        rows::row_fault_rows();
+        rows::start_rows();
+        rows::form_rows();
+    }
+}

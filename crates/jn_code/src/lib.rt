@@ -6,6 +6,7 @@ pub mod image;
 pub mod instr;
 pub mod kind;
 pub mod law;
+pub mod rows;
 
 pub use fault::{CodeWhy, FieldKind, ImageFault, RowWhy};
 pub use image::{
