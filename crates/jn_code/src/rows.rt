@@ -33,11 +33,14 @@ pub fn number_rows()
     ensures wraps { Runs (Instr.Int (pos 9223372036854775807) ∷ Instr.Int (pos 1) ∷ Instr.Add ∷
         Instr.Printi ∷ Instr.Ret ∷ []) Done (number_line (negsuc 9223372036854775807)) }
     ensures lt { Runs (Instr.Int (negsuc 0) ∷ Instr.Int (pos 0) ∷ Instr.Lt ∷ Instr.Printb ∷
-        Instr.Int (pos 0) ∷ Instr.Int (pos 0) ∷ Instr.Lt ∷ Instr.Printb ∷ Instr.Ret ∷ []) Done (truth_line true ++ truth_line false) }
+        Instr.Int (pos 0) ∷ Instr.Int (pos 0) ∷ Instr.Lt ∷ Instr.Printb ∷ Instr.Ret ∷ [])
+        Done (truth_line true ++ truth_line false) }
     ensures le { Runs (Instr.Int (pos 0) ∷ Instr.Int (pos 0) ∷ Instr.Le ∷ Instr.Printb ∷
-        Instr.Int (pos 1) ∷ Instr.Int (pos 0) ∷ Instr.Le ∷ Instr.Printb ∷ Instr.Ret ∷ []) Done (truth_line true ++ truth_line false) }
+        Instr.Int (pos 1) ∷ Instr.Int (pos 0) ∷ Instr.Le ∷ Instr.Printb ∷ Instr.Ret ∷ [])
+        Done (truth_line true ++ truth_line false) }
     ensures gt { Runs (Instr.Int (pos 1) ∷ Instr.Int (pos 0) ∷ Instr.Gt ∷ Instr.Printb ∷
-        Instr.Int (pos 0) ∷ Instr.Int (pos 0) ∷ Instr.Gt ∷ Instr.Printb ∷ Instr.Ret ∷ []) Done (truth_line true ++ truth_line false) }
+        Instr.Int (pos 0) ∷ Instr.Int (pos 0) ∷ Instr.Gt ∷ Instr.Printb ∷ Instr.Ret ∷ [])
+        Done (truth_line true ++ truth_line false) }
     ensures ge { Runs (Instr.Int (pos 0) ∷ Instr.Int (pos 0) ∷ Instr.Ge ∷ Instr.Printb ∷
         Instr.Int (negsuc 0) ∷ Instr.Int (pos 0) ∷ Instr.Ge ∷ Instr.Printb ∷
         Instr.Ret ∷ []) Done (truth_line true ++ truth_line false) }
@@ -45,13 +48,15 @@ pub fn number_rows()
         Instr.Int (pos 1) ∷ Instr.Int (negsuc 0) ∷ Instr.Eqi ∷ Instr.Printb ∷
         Instr.Ret ∷ []) Done (truth_line true ++ truth_line false) }
     ensures eqb { Runs (Instr.Bool 1 ∷ Instr.Bool 1 ∷ Instr.Eqb ∷ Instr.Printb ∷ Instr.Bool 1 ∷
-        Instr.Bool 0 ∷ Instr.Eqb ∷ Instr.Not ∷ Instr.Not ∷ Instr.Printb ∷ Instr.Ret ∷ []) Done (truth_line true ++ truth_line false) }
+        Instr.Bool 0 ∷ Instr.Eqb ∷ Instr.Not ∷ Instr.Not ∷ Instr.Printb ∷ Instr.Ret ∷ [])
+        Done (truth_line true ++ truth_line false) }
 {}
 
 /// Locals begin as 0, false and null; a jump goes to the instruction that it names.
 pub fn local_rows()
     ensures zeros { Runs (Instr.Load 1 ∷ Instr.Printi ∷ Instr.Load 2 ∷ Instr.Printb ∷ Instr.Load 0 ∷
-        Instr.Null ∷ Instr.Eqr ∷ Instr.Printb ∷ Instr.Ret ∷ []) Done (number_line (pos 0) ++ truth_line false ++ truth_line true) }
+        Instr.Null ∷ Instr.Eqr ∷ Instr.Printb ∷ Instr.Ret ∷ [])
+        Done (number_line (pos 0) ++ truth_line false ++ truth_line true) }
     ensures store { Runs (Instr.Int (pos 8) ∷ Instr.Store 1 ∷ Instr.Load 1 ∷ Instr.Load 1 ∷ Instr.Pop ∷
         Instr.Printi ∷ Instr.Ret ∷ []) Done (number_line (pos 8)) }
     ensures jump { Runs (Instr.Jump 3 ∷ Instr.Int (pos 1) ∷ Instr.Printi ∷ Instr.Int (pos 2) ∷
@@ -60,20 +65,23 @@ pub fn local_rows()
         Instr.Bool 1 ∷ Instr.Jfalse 8 ∷ Instr.Int (pos 3) ∷ Instr.Printi ∷ Instr.Ret ∷
         []) Done (number_line (pos 3)) }
     ensures jtrue { Runs (Instr.Bool 1 ∷ Instr.Jtrue 4 ∷ Instr.Int (pos 1) ∷ Instr.Printi ∷
-        Instr.Bool 0 ∷ Instr.Jtrue 8 ∷ Instr.Int (pos 3) ∷ Instr.Printi ∷ Instr.Ret ∷ []) Done (number_line (pos 3)) }
+        Instr.Bool 0 ∷ Instr.Jtrue 8 ∷ Instr.Int (pos 3) ∷ Instr.Printi ∷ Instr.Ret ∷ [])
+        Done (number_line (pos 3)) }
 {}
 
 /// Objects and views: two views of one object are equal references, and a field of kind 4 is read in the family of its
 /// object's view.
 pub fn view_rows()
     ensures one_object { Runs (Instr.Cls 1 ∷ Instr.New ∷ Instr.Store 0 ∷ Instr.Load 0 ∷ Instr.Load 0 ∷
-        Instr.Cls 3 ∷ Instr.Conv ∷ Instr.Eqr ∷ Instr.Printb ∷ Instr.Ret ∷ []) Done (truth_line true) }
+        Instr.Cls 3 ∷ Instr.Conv ∷ Instr.Eqr ∷ Instr.Printb ∷ Instr.Ret ∷ [])
+        Done (truth_line true) }
     ensures two_objects { Runs (Instr.Cls 1 ∷ Instr.New ∷ Instr.Cls 1 ∷ Instr.New ∷ Instr.Eqr ∷ Instr.Printb ∷
         Instr.Ret ∷ []) Done (truth_line false) }
     ensures not_null { Runs (Instr.Cls 1 ∷ Instr.New ∷ Instr.Null ∷ Instr.Eqr ∷ Instr.Printb ∷ Instr.Ret ∷ []) Done (truth_line false) }
     ensures fields { Runs (Instr.Cls 1 ∷ Instr.New ∷ Instr.Store 0 ∷ Instr.Load 0 ∷ Instr.Int (pos 5) ∷
         Instr.Put 0 ∷ Instr.Load 0 ∷ Instr.Get 0 ∷ Instr.Printi ∷ Instr.Load 0 ∷
-        Instr.Get 1 ∷ Instr.Null ∷ Instr.Eqr ∷ Instr.Printb ∷ Instr.Ret ∷ []) Done (number_line (pos 5) ++ truth_line true) }
+        Instr.Get 1 ∷ Instr.Null ∷ Instr.Eqr ∷ Instr.Printb ∷ Instr.Ret ∷ [])
+        Done (number_line (pos 5) ++ truth_line true) }
     ensures shared { Runs (Instr.Cls 1 ∷ Instr.New ∷ Instr.Store 0 ∷ Instr.Load 0 ∷ Instr.Int (pos 5) ∷
         Instr.Put 0 ∷ Instr.Load 0 ∷ Instr.Cls 2 ∷ Instr.Conv ∷ Instr.Get 0 ∷
         Instr.Printi ∷ Instr.Ret ∷ []) Done (number_line (pos 5)) }
@@ -85,7 +93,8 @@ pub fn view_rows()
         Instr.Ret ∷ []) Null [] }
     ensures null_stays { Runs (Instr.Null ∷ Instr.Cls 4 ∷ Instr.Conv ∷ Instr.Store 0 ∷ Instr.Ret ∷ []) Done [] }
     ensures viewof { Runs (Instr.Cls 3 ∷ Instr.New ∷ Instr.Viewof ∷ Instr.Up 1 ∷ Instr.Down 0 ∷
-        Instr.New ∷ Instr.Int (pos 7) ∷ Instr.Call 0 ∷ Instr.Printi ∷ Instr.Ret ∷ []) Done (number_line (pos 7)) }
+        Instr.New ∷ Instr.Int (pos 7) ∷ Instr.Call 0 ∷ Instr.Printi ∷ Instr.Ret ∷ [])
+        Done (number_line (pos 7)) }
     ensures viewof_null { Runs (Instr.Null ∷ Instr.Viewof ∷ Instr.Pop ∷ Instr.Ret ∷ []) Null [] }
     ensures up_none { Runs (Instr.Cls 1 ∷ Instr.Up 2 ∷ Instr.Pop ∷ Instr.Ret ∷ []) Null [] }
     ensures up_itself { Runs (Instr.Cls 4 ∷ Instr.Up 0 ∷ Instr.Pop ∷ Instr.Ret ∷ []) Done [] }
