@@ -1,0 +1,5 @@
+pub mod Calls
+pub mod Causes
+pub mod Told
+pub mod MemStoreState
+pub mod MemSinkState

@@ -1,0 +1,18 @@
+//! The outside of the compiler: where it reads and saves files, and where its output goes.
+//!
+//! `Store` and `Sink` are traits that count their faults: a call may answer `Failed` only where the count rose, so a
+//! caller that hands the fault on can't make one up. What a store or a sink holds is told or not. `MemStore` and
+//! `MemSink` tell all, and fail exactly where they are asked to. `DirStore` and `StdSink` are real files and streams;
+//! they tell no content, since no contract can say what the system holds.
+#![tactic(auto)]
+
+mod calls;
+mod faults;
+mod mem_sink;
+mod sink;
+mod store;
+
+pub use faults::{Failed, SaveFault};
+pub use mem_sink::MemSink;
+pub use sink::Sink;
+pub use store::Store;
