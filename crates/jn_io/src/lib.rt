@@ -8,6 +8,7 @@
 
 mod calls;
 mod faults;
+mod mem_files;
 mod mem_sink;
 mod sink;
 mod store;
