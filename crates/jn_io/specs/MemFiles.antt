@@ -1,5 +1,5 @@
 -- The saves of a store in memory, the oldest first, and the files that they come to.
-use Rattle.std.specs.Prelude.{◌≡◌, ℕ, ◌<◌, ◌≤◌, List, [], map, reverse, drop, length, slice_get, unwrap_or, string_bytes, ◌++◌, ◌∷◌}
+use Rattle.std.specs.Prelude.{◌≡◌, ℕ, ◌+◌, ◌<◌, ◌≤◌, List, [], map, reverse, drop, length, slice_get, unwrap_or, string_bytes, ◌++◌, ◌∷◌}
 use Rattle.std.specs.declared.option.Option.{Option}
 use Rattle.std.specs.declared.option.Option.TheVariants.{None, Some}
 use Rattle.std.specs.Option.{option_map}
@@ -24,6 +24,10 @@ bytes_at saves k = option_map (λ file. file.bytes.items) (slice_get saves k)
 abbrev pub rest_of : List MemFile → Option Reading → List ℕ
 rest_of saves None = []
 rest_of saves (Some reading) = drop reading.taken (unwrap_or (bytes_at saves reading.save) [])
+
+-- n bytes more are taken
+abbrev pub taken_further : Reading → ℕ → Reading
+taken_further reading n = record reading { taken = reading.taken + n }
 
 -- what is open is a save, of which no more is taken than it has
 pub record IsWithin (saves : List MemFile) (reading : Reading) : Type 0 where

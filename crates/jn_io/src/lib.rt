@@ -10,10 +10,12 @@ mod calls;
 mod faults;
 mod mem_files;
 mod mem_sink;
+mod mem_store;
 mod sink;
 mod store;
 
 pub use faults::{Failed, SaveFault};
 pub use mem_sink::MemSink;
+pub use mem_store::MemStore;
 pub use sink::Sink;
 pub use store::Store;

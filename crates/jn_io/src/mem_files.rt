@@ -1,8 +1,7 @@
 //! The saves of a store in memory. None is taken away, so what is open for reading stays as it was begun.
-ghost use Rattle.std.specs.Prelude.{◌≡◌, ◌<◌, ◌≤◌, ◌∷◌, [], ◌++◌, min, length, take, string_bytes, MatchOption, None, OnOk, OnErr};
+ghost use Rattle.std.specs.Prelude.{◌≡◌, ◌<◌, ◌≤◌, ◌∷◌, [], ◌++◌, min, length, take, string_bytes, MatchOption, None, Some, OnOk, OnErr};
 ghost use Rattle.std.specs.FinMap.{get};
-ghost use Rattle.jn_io.specs.MemFiles.{files_of, bytes_at};
-ghost use Rattle.jn_io.specs.MemFiles.{AddsFile};
+ghost use Rattle.jn_io.specs.MemFiles.{files_of, bytes_at, rest_of, taken_further, IsWithin, AddsFile};
 
 use std::alloc::{AllocError, Global};
 
@@ -45,8 +44,22 @@ pub(crate) fn add(alloc: Global, saves: &mut Vec<MemFile>, name: &str, bytes: &[
     Ok(())
 }
 
+/// Takes some of what is open into the front of `buf`, and says how many bytes.
+pub(crate) fn read(saves: &[MemFile], reading: Reading, buf: &mut [u8]) -> usize
+    requires within { IsWithin saves.now reading }
+    requires room { 0 < length buf.old }
+    ensures bytes { rest_of saves.now (Some reading)
+        ≡ take result buf.new ++ rest_of saves.now (Some (taken_further reading result)) }
+    ensures end { result ≡ 0 → rest_of saves.now (Some reading) ≡ [] }
+    ensures within { IsWithin saves.now (taken_further reading result) }
+    ensures bound { result ≤ length buf.new }
+{
+    let bytes = saves[reading.save].bytes.as_slice();
+    copy_front(buf, &bytes[reading.taken..])
+}
+
 /// Copies as many of the bytes as there is room for, and says how many.
-pub(crate) fn copy_front(buf: &mut [u8], bytes: &[u8]) -> usize
+fn copy_front(buf: &mut [u8], bytes: &[u8]) -> usize
     ensures count { result ≡ min (length buf.old) (length bytes.now) }
     ensures front { take result buf.new ≡ take result bytes.now }
     ensures room { length buf.new ≡ length buf.old }
