@@ -1,5 +1,5 @@
 -- A save more, and what is then found under a name.
-use Rattle.std.proofs.Common.{◌≡◌, ℕ, zero, suc, ◌+◌, ◌<◌, Bool, true, false, List, [], ◌∷◌, ◌++◌, length, take, drop, map, reverse, cond, Some, None, MatchOption, unwrap_or, slice_get, string_bytes, get_or, nat_eq, ap, sym, ◌∙◌, add-one, refl, arith}
+use Rattle.std.proofs.Common.{◌≡◌, ℕ, zero, suc, ◌+◌, ◌<◌, Bool, true, false, List, [], ◌∷◌, ◌++◌, length, take, drop, map, cond, Some, None, MatchOption, unwrap_or, slice_get, string_bytes, get_or, nat_eq, ap, sym, ◌∙◌, add-one, refl, arith}
 use Rattle.std.specs.declared.option.Option.{Option}
 use Rattle.std.proofs.lemmas.List.{reverse-append}
 use Rattle.std.proofs.lemmas.Option.{slice_get_read}

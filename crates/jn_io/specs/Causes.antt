@@ -1,6 +1,6 @@
 -- What a count of faults tells of a call. A count is that of a 64-bit counter: it starts at 0, never falls, and stays at
 -- the counter's last value once it is there.
-use Rattle.std.specs.Prelude.{◌≡◌, ℕ, ◌+◌, ◌-◌, ◌^◌, ◌<◌, ◌≤◌, ◌⊎◌, min, Result, IsErrOf, OnOk, OnErr}
+use Rattle.std.specs.Prelude.{◌≡◌, ℕ, ◌-◌, ◌^◌, ◌<◌, ◌≤◌, ◌⊎◌, Result, IsErrOf, OnOk, OnErr}
 use Rattle.jn_io.specs.declared.faults.SaveFault.{SaveFault}
 use Rattle.jn_io.specs.declared.faults.SaveFault.TheVariants as fault
 

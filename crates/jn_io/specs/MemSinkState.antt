@@ -29,5 +29,5 @@ abbrev pub after_put : MemSinkState → List ℕ → MemSinkState
 after_put s bytes = record s {
   taken = s.taken ++ take (most_taken s) bytes;
   calls = one_more s.calls;
-  faults = count_after (is_refused s bytes) s.faults
+  faults = count_after (is_refused s bytes) s.faults;
 }

@@ -37,7 +37,7 @@ abbrev pub after_reading : MemStoreState → List ℕ → MemStoreState
 after_reading s rest = record s {
   rest = rest;
   calls = one_more s.calls;
-  read_faults = count_after (is_listed s) s.read_faults
+  read_faults = count_after (is_listed s) s.read_faults;
 }
 
 -- a `save` leaves these files, and a listed one raises its count
@@ -45,5 +45,5 @@ abbrev pub after_saving : MemStoreState → Files → MemStoreState
 after_saving s files = record s {
   files = files;
   calls = one_more s.calls;
-  save_faults = count_after (is_listed s) s.save_faults
+  save_faults = count_after (is_listed s) s.save_faults;
 }

@@ -1,5 +1,5 @@
 -- What a store and a sink tell, and how each call changes it. What isn't told is `None`, and stays so.
-use Rattle.std.specs.Prelude.{◌≡◌, ℕ, ◌≤◌, List, [], length, take, ⊤, Some, None, IsSome, IsNone, Result, MatchResult}
+use Rattle.std.specs.Prelude.{◌≡◌, ℕ, List, [], take, ⊤, Some, None, IsSome, IsNone, Result, MatchResult}
 use Rattle.std.specs.declared.option.Option.{Option}
 use Rattle.std.specs.Option.{option_map}
 use Rattle.std.specs.declared.cmp.Ordering.{Ordering}

@@ -35,5 +35,9 @@ impl Calls {
 pub(crate) fn count_after(failed: bool, count: u64) -> u64
     ensures { result ≡ count_after failed count }
 {
-    if failed { count.saturating_add(1) } else { count }
+    if failed {
+        count.saturating_add(1)
+    } else {
+        count
+    }
 }

@@ -7,15 +7,19 @@
 #![tactic(auto)]
 
 mod calls;
+mod dir_store;
 mod faults;
 mod mem_files;
 mod mem_sink;
 mod mem_store;
 mod sink;
+mod std_sink;
 mod store;
 
+pub use dir_store::DirStore;
 pub use faults::{Failed, SaveFault};
 pub use mem_sink::MemSink;
 pub use mem_store::MemStore;
 pub use sink::Sink;
+pub use std_sink::StdSink;
 pub use store::Store;

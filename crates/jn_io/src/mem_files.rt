@@ -34,7 +34,12 @@ pub(crate) fn find(saves: &[MemFile], name: &str) -> Option<usize>
 }
 
 /// Adds a save.
-pub(crate) fn add(alloc: Global, saves: &mut Vec<MemFile>, name: &str, bytes: &[u8]) -> Result<(), AllocError>
+pub(crate) fn add(
+    alloc: Global,
+    saves: &mut Vec<MemFile>,
+    name: &str,
+    bytes: &[u8],
+) -> Result<(), AllocError>
     ensures ok { OnOk result (AddsFile saves.old.items saves.new.items name.now bytes.now) }
     ensures err { OnErr result (saves.new.items ≡ saves.old.items) }
 {

@@ -28,11 +28,11 @@ impl Model for MemSink {
     ghost Value = { MemSinkState };
 
     ghost view = { λ s. record {
-        taken = take s.len s.buf.items;
-        room = length s.buf.items;
-        fails = s.calls.fails.items;
-        calls = s.calls.last;
-        faults = s.faults;
+      taken = take s.len s.buf.items;
+      room = length s.buf.items;
+      fails = s.calls.fails.items;
+      calls = s.calls.last;
+      faults = s.faults;
     } };
 
     ghost invariant = { λ s. s.len ≤ length s.buf.items };
@@ -45,7 +45,12 @@ impl MemSink {
     {
         let buf = vec![in alloc; 0; room]?;
         let calls = Calls::new(alloc, fails)?;
-        Ok(MemSink { buf, len: 0, calls, faults: 0 })
+        Ok(MemSink {
+            buf,
+            len: 0,
+            calls,
+            faults: 0,
+        })
     }
 
     /// The bytes taken so far.

@@ -39,12 +39,12 @@ impl Model for MemStore {
     ghost use Rattle.jn_io.specs.MemFiles.{files_of, rest_of, IsWithin};
 
     ghost view = { λ s. record {
-        files = files_of s.saves.items;
-        rest = rest_of s.saves.items s.«open»;
-        fails = s.calls.fails.items;
-        calls = s.calls.last;
-        read_faults = s.read_faults;
-        save_faults = s.save_faults;
+      files = files_of s.saves.items;
+      rest = rest_of s.saves.items s.«open»;
+      fails = s.calls.fails.items;
+      calls = s.calls.last;
+      read_faults = s.read_faults;
+      save_faults = s.save_faults;
     } };
 
     ghost invariant = { λ s. ForSome s.«open» (IsWithin s.saves.items) };
@@ -54,12 +54,12 @@ impl MemStore {
     /// A store with no file and nothing to read, whose counts are 0.
     pub fn new(alloc: Global, fails: &[u64]) -> Result<MemStore, AllocError>
         ensures { IfOk result (λ store. store ≡ record {
-            files = map.empty;
-            rest = [];
-            fails = fails.now;
-            calls = 0;
-            read_faults = 0;
-            save_faults = 0
+          files = map.empty;
+          rest = [];
+          fails = fails.now;
+          calls = 0;
+          read_faults = 0;
+          save_faults = 0;
         }) }
     {
         let calls = Calls::new(alloc, fails)?;
@@ -134,7 +134,10 @@ impl Store for MemStore {
             return Ok(0);
         };
         let n = mem_files::read(&self.saves, reading, buf);
-        self.open = Some(Reading { taken: reading.taken + n, ..reading });
+        self.open = Some(Reading {
+            taken: reading.taken + n,
+            ..reading
+        });
         Ok(n)
     }
 
