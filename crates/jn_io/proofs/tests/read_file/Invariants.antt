@@ -7,5 +7,5 @@ abbrev pub invariant-loop : goal.invariant-loop
 invariant-loop g l =
     record {
       later : g.S.Store.read_faults l.initial.store ≤ g.S.Store.read_faults l.store;
-      bytes : prepend_known l.bytes.items (g.S.Store.rest l.store) ≡ g.S.Store.rest l.initial.store
+      bytes : prepend_known l.bytes.items (g.S.Store.rest l.store) ≡ g.S.Store.rest l.initial.store;
     }
