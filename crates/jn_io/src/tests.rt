@@ -49,12 +49,15 @@ fn put_pieces<O: Sink>(out: &mut O, bytes: &[u8]) -> Result<(), Failed>
     ensures taken { Takes (O.taken out.old) (O.taken out.new) bytes.now result }
     ensures cause { HasCause (O.faults out.old) (O.faults out.new) result }
 {
-    let mut rest = bytes;
-    while rest.len() > 4 {
-        out.put(&rest[..4])?;
-        rest = &rest[4..];
+    let mut at = 0;
+    while at < bytes.len() {
+        let end = at + (bytes.len() - at).min(4);
+        match out.put(&bytes[at..end]) {
+            Ok(()) => at = end,
+            Err(Failed) => return Err(Failed),
+        }
     }
-    out.put(rest)
+    Ok(())
 }
 
 // Takes the next bytes of a store, which are to be these.
@@ -68,7 +71,10 @@ fn expect_read<S: Store>(rt: &impl Abort, store: &mut S, want: &[u8]) {
 }
 
 fn expect_file(rt: &impl Abort, store: &MemStore, name: &str, want: &[u8]) {
-    assert!(rt; store.file(name).is_some_and(|bytes| bytes == want), "{name}");
+    assert!(rt;
+        store.file(name).is_some_and(|bytes| bytes == want),
+        "{name}"
+    );
 }
 
 #[test]
