@@ -12,7 +12,7 @@ use std::io::{self, Read, Write};
 use std::marker::Model;
 use std::rt::Files;
 
-/// The longest name of a new file that stands in until it is whole.
+// The longest name of the file that stands in until it is whole.
 const NAME_MAX: usize = 4096;
 
 /// Reads and saves the files that the runtime gives. It tells no content.
@@ -20,8 +20,8 @@ const NAME_MAX: usize = 4096;
 /// Each of its two counts is a u64 that starts at 0, and is raised where a call answers `Failed`. A file that isn't there
 /// is such a failure, and so is a folder, when it is read. It takes no memory, so `save` never answers `Memory`.
 ///
-/// `save` writes a new file beside the one to be saved and puts it in its place once it is whole, so that a failure leaves
-/// the old one. What is no ordinary file, as a device or a link, is written in place.
+/// `save` writes a new file beside the one to be saved, of its name and `.jandc-part`, and puts it in its place once it is
+/// whole, so that a failure leaves the old one. What is no ordinary file, as a device or a link, is written in place.
 #[derive(Drop)]
 pub struct DirStore<'a, R: Files> {
     rt: &'a R,
@@ -113,7 +113,7 @@ fn save_whole<R: Files>(rt: &R, name: &str, bytes: &[u8]) -> io::Result<()> {
         return fs::write(rt, name, bytes);
     }
     let mut beside = ArrayString::<NAME_MAX>::new();
-    if beside.try_push_str(name).is_err() || beside.try_push_str(".part").is_err() {
+    if beside.try_push_str(name).is_err() || beside.try_push_str(".jandc-part").is_err() {
         return Err(io::ErrorKind::InvalidFilename.into());
     }
     // One that a run cut off has left.
