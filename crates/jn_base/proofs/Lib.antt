@@ -1,0 +1,3 @@
+pub mod ClassOrders
+pub mod Reaching
+pub mod SuperLaws

@@ -1,0 +1,51 @@
+ghost use Rattle.jn_base.specs.LawsOfSupers.{DirectSupers, TopLevel, Levels, Heirs, SupersChain, MembersInherited, SupersOfMembers, UniverseClosed, ReachClosed, StrictOrder};
+
+/// The direct supers of a member, said by members.
+pub fn direct_supers()
+    ensures { DirectSupers }
+{}
+
+/// The direct supers of a top-level name are its written ones that are declared.
+pub fn top_level()
+    ensures { TopLevel }
+{}
+
+/// A super has the depth of its heir, and its prefixes are supers of the heir's.
+pub fn levels()
+    ensures { Levels }
+{}
+
+/// What stands above a path in the namespace of a super stands above it in the heir's.
+pub fn heirs()
+    ensures { Heirs }
+{}
+
+/// Each path is among its supers, and a super's super is a super.
+pub fn supers_chain()
+    ensures { SupersChain }
+{}
+
+/// A member of a super is a member, and the super's is in Sup of the heir's.
+pub fn members_inherited()
+    ensures { MembersInherited }
+{}
+
+/// A super of a member is a member of a super of its namespace, and of its namespace too.
+pub fn supers_of_members()
+    ensures { SupersOfMembers }
+{}
+
+/// The universe has all declared paths, and is closed under prefixes and supers.
+pub fn universe_closed()
+    ensures { UniverseClosed }
+{}
+
+/// What is reached is closed under supers and prefixes, and stays in the universe.
+pub fn reach_closed()
+    ensures { ReachClosed }
+{}
+
+/// The class order is a strict total order, where names are distinct texts.
+pub fn strict_order()
+    ensures { StrictOrder }
+{}
