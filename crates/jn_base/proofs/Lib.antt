@@ -1,3 +1,5 @@
 pub mod ClassOrders
+pub mod ExampleTools
+pub mod FamiliesProof
 pub mod Reaching
 pub mod SuperLaws

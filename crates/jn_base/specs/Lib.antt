@@ -1,5 +1,7 @@
 pub mod ClassOrder
 pub mod Duplicates
+pub mod ExampleTrees
+pub mod FamiliesExample
 pub mod LawsOfSupers
 pub mod Members
 pub mod Paths

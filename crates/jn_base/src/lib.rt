@@ -4,6 +4,7 @@
 //! of its elements and as its value, so that a contract compares trees by what they hold.
 #![tactic(auto)]
 
+pub mod examples;
 pub mod laws;
 pub mod path;
 pub mod refusal;

@@ -1,0 +1,322 @@
+-- Facts of small programs, by tests that compute.
+use Rattle.std.proofs.Common.{◌≡◌, ◌<◌, ℕ, List, [], ◌∷◌, length, zero, suc, refl, sym, ap, ◌∙◌, subst, Bool, true, false, ◌||◌, ◌&&◌, nat_eq, ◌⊎◌, inl, inr, ◌↔◌, arith, Contains}
+use Rattle.std.specs.List.{list_all, list_any}
+use Rattle.std.proofs.lemmas.List.Sums.{AllPass-from_list_all}
+use Rattle.std.proofs.lemmas.List.Elements.{All-contains}
+use Rattle.jn_base.specs.declared.tree.Name.{Name}
+use Rattle.jn_base.specs.declared.tree.Program.{Program}
+use Rattle.jn_base.specs.declared.tree.Decl.{Decl}
+use Rattle.jn_base.specs.declared.tree.Method.{Method}
+use Rattle.jn_base.specs.declared.tree.Field.{Field}
+use Rattle.jn_base.specs.Paths.{Path, nested, methods, fields, StandsIn, StandsAt, Declared, Extends}
+use Rattle.jn_base.specs.Supers.{Direct, inherited, written, Sup, itself, above, Member}
+use Rattle.jn_base.specs.Members.{MethodAt, FieldAt, Least, IsField, Decls, FieldDecls}
+use Rattle.jn_base.specs.Duplicates.{has_name}
+use Rattle.jn_base.proofs.SuperLaws.{top_direct, sup_level}
+
+pub in_cons : {X : Type 0} (y : X) (ys : List X) (x : X) → Contains (y ∷ ys) x → (y ≡ x) ⊎ Contains ys x
+in_cons y ys x (zero, l, e) = inl e
+in_cons y ys x (suc k, l, e) = inr (k, omega (arith, l), e)
+
+pub in_none : {X : Type 0} (x : X) → Contains [] x → ⊥
+in_none x c = omega (arith, c.1)
+
+pub first : {X : Type 0} (x : X) (xs : List X) → Contains (x ∷ xs) x
+first x xs = (0, omega arith, refl)
+
+pub later : {X : Type 0} (y : X) (xs : List X) (x : X) → Contains xs x → Contains (y ∷ xs) x
+later y xs x (k, l, e) = (suc k, omega (arith, l), e)
+
+and_both : (a b : Bool) → (a && b) ≡ true → (a ≡ true) × (b ≡ true)
+and_both true b e = (refl, e)
+and_both false b e = cc
+
+or_either : (a b : Bool) → (a || b) ≡ true → (a ≡ true) ⊎ (b ≡ true)
+or_either true b e = inl refl
+or_either false b e = inr e
+
+pub same_name : (a b : Name) → nat_eq a.0 b.0 ≡ true → a ≡ b
+same_name a b e = ap (λ (n : ℕ). record { 0 = n }) (numbers a.0 b.0 e) where
+  numbers : (m n : ℕ) → nat_eq m n ≡ true → m ≡ n
+  numbers m n h = grind arith
+
+pub itself_named : (a : Name) → nat_eq a.0 a.0 ≡ true
+itself_named a = grind arith
+
+or_left : (a b : Bool) → a ≡ true → (a || b) ≡ true
+or_left true b e = refl
+or_left false b e = cc
+
+or_right : (a b : Bool) → b ≡ true → (a || b) ≡ true
+or_right true b e = refl
+or_right false b e = e
+
+has_either : (y : Name) (ys : List Name) (x : Name) → (y ≡ x) ⊎ (has_name ys x ≡ true) → has_name (y ∷ ys) x ≡ true
+has_either y ys x (inl e) = or_left (nat_eq y.0 x.0) (has_name ys x) (subst (λ (n : Name). nat_eq y.0 n.0 ≡ true) e (itself_named y))
+has_either y ys x (inr h) = or_right (nat_eq y.0 x.0) (has_name ys x) h
+
+second : {A B C : Type 0} → (B → C) → A ⊎ B → A ⊎ C
+second f (inl a) = inl a
+second f (inr b) = inr (f b)
+
+pub has_from : (names : List Name) (x : Name) → Contains names x → has_name names x ≡ true
+has_from [] x c = absurd (in_none x c)
+has_from (y ∷ ys) x c = has_either y ys x (second (λ (h : Contains ys x). has_from ys x h) (in_cons y ys x c))
+
+contains_either : (y : Name) (ys : List Name) (x : Name) → (nat_eq y.0 x.0 ≡ true) ⊎ Contains ys x → Contains (y ∷ ys) x
+contains_either y ys x (inl h) = subst (Contains (y ∷ ys)) (same_name y x h) (first y ys)
+contains_either y ys x (inr h) = later y ys x h
+
+pub has_in : (names : List Name) (x : Name) → has_name names x ≡ true → Contains names x
+has_in [] x e = cc
+has_in (y ∷ ys) x e = contains_either y ys x (second (λ (h : has_name ys x ≡ true). has_in ys x h) (or_either (nat_eq y.0 x.0) (has_name ys x) e))
+
+abbrev pub implies : Bool → Bool → Bool
+implies true b = b
+implies false b = true
+
+implied : (a b : Bool) → implies a b ≡ true → a ≡ true → b ≡ true
+implied true b e h = e
+implied false b e h = cc
+
+pub passes : {X : Type 0} (t : X → Bool) (xs : List X) (x : X) → list_all t xs ≡ true → Contains xs x → t x ≡ true
+passes t xs x e c = All-contains (λ y. t y ≡ true) xs x (AllPass-from_list_all t xs e) c
+
+-- ---- tests of the declarations at depth 1 and at depth 2
+
+abbrev pub tops : (Decl → Bool) → Program → Bool
+tops t p = list_all t p.decls
+
+abbrev pub inners : (Name → Decl → Bool) → Program → Bool
+inners t p = list_all (λ e. list_all (t e.name.name) (nested e.members)) p.decls
+
+pub at_top : (p : Program) (t : Decl → Bool) → tops t p ≡ true → (A : Name) (d : Decl) → StandsAt p (A ∷ []) d → t d ≡ true
+at_top p t e A d s = passes t p.decls d e s.0
+
+pub at_inner : (p : Program) (t : Name → Decl → Bool) → inners t p ≡ true → (C A : Name) (d : Decl) → StandsAt p (C ∷ A ∷ []) d → t A d ≡ true
+at_inner p t e C A d s =
+    let f = passes (λ (f : Decl). list_all (t f.name.name) (nested f.members)) p.decls s.0.0 e s.0.1 in
+    subst (λ (n : Name). t n d ≡ true) s.0.2 (passes (t s.0.0.name.name) (nested s.0.0.members) d f s.0.3)
+
+-- the names of `names` extend only names of `names`
+abbrev pub keeps : List Name → Decl → Bool
+keeps names d = implies (has_name names d.name.name) (list_all (λ n. has_name names n.name) d.extends)
+
+-- S is the class C of the package A, for names C and A of the lists
+pub data OneOf (Cs As : List Name) : Path → Type 0 where
+  one : (C A : Name) → has_name Cs C ≡ true → has_name As A ≡ true → OneOf Cs As (C ∷ A ∷ [])
+
+top_kept : (p : Program) (As : List Name) → tops (keeps As) p ≡ true → (A D : Name) → has_name As A ≡ true → Extends p (A ∷ []) D → has_name As D ≡ true
+top_kept p As e A D a x =
+    let k = at_top p (keeps As) e A x.decl x.stands in
+    let h = implied (has_name As x.decl.name.name) (list_all (λ n. has_name As n.name) x.decl.extends) k (subst (λ (n : Name). has_name As n ≡ true) (sym x.stands.1) a) in
+    subst (λ (n : Name). has_name As n ≡ true) x.name (passes (λ n. has_name As n.name) x.decl.extends x.named h x.extends)
+
+inner_kept : (p : Program) (Cs : List Name) → inners (λ A. keeps Cs) p ≡ true → (C A D : Name) → has_name Cs C ≡ true → Extends p (C ∷ A ∷ []) D → has_name Cs D ≡ true
+inner_kept p Cs e C A D c x =
+    let k = at_inner p (λ A. keeps Cs) e C A x.decl x.stands in
+    let h = implied (has_name Cs x.decl.name.name) (list_all (λ n. has_name Cs n.name) x.decl.extends) k (subst (λ (n : Name). has_name Cs n ≡ true) (sym x.stands.1) c) in
+    subst (λ (n : Name). has_name Cs n ≡ true) x.name (passes (λ n. has_name Cs n.name) x.decl.extends x.named h x.extends)
+
+one_long : (S : Path) → length S ≡ 1 → (B : Name) × (S ≡ B ∷ [])
+one_long [] e = absurd (omega (arith, e))
+one_long (B ∷ []) e = (B, refl)
+one_long (B ∷ C ∷ S) e = absurd (omega (arith, e))
+
+pub top_sup : (p : Program) (A : Name) (S : Path) → Sup p (A ∷ []) S → (B : Name) × (S ≡ B ∷ [])
+top_sup p A S s = one_long S (sup_level s)
+
+-- what holds of a path and goes on along direct supers holds of each super
+pub sup_closed : {p : Program} (T : Path → Type 0) → ((R S : Path) → Direct p R S → T R → T S) → {R S : Path} → Sup p R S → T R → T S
+sup_closed T f itself t = t
+sup_closed T f (above d s) t = sup_closed T f s (f _ _ d t)
+
+direct_kept : (p : Program) (Cs As : List Name) → tops (keeps As) p ≡ true → inners (λ A. keeps Cs) p ≡ true
+    → {S : Path} (C A : Name) → has_name Cs C ≡ true → has_name As A ≡ true → Direct p (C ∷ A ∷ []) S → OneOf Cs As S
+direct_kept p Cs As t i C A c a (inherited {Q = Q} d s x) =
+    let r = (top_direct p A Q).0 d in
+    subst (λ (P : Path). OneOf Cs As (C ∷ P)) (sym r.3) (one C r.0 c (top_kept p As t A r.0 a r.1))
+direct_kept p Cs As t i C A c a (written {S = T} {D = D} s e u x) =
+    let b = top_sup p A T s in
+    one D A (inner_kept p Cs i C b.0 D c (subst (λ (P : Path). Extends p (C ∷ P) D) b.1 e)) a
+
+kept : (p : Program) (Cs As : List Name) → tops (keeps As) p ≡ true → inners (λ A. keeps Cs) p ≡ true
+    → (R S : Path) → Direct p R S → OneOf Cs As R → OneOf Cs As S
+kept p Cs As t i R S d (one C A c a) = direct_kept p Cs As t i C A c a d
+
+-- all supers of a class are of those names, where these names extend none but these
+pub sups_kept : (p : Program) (Cs As : List Name) → tops (keeps As) p ≡ true → inners (λ A. keeps Cs) p ≡ true
+    → (C A : Name) → has_name Cs C ≡ true → has_name As A ≡ true → (S : Path) → Sup p (C ∷ A ∷ []) S → OneOf Cs As S
+sups_kept p Cs As t i C A c a S s = sup_closed (OneOf Cs As) (kept p Cs As t i) s (one C A c a)
+
+-- ---- which classes declare a method or a field
+
+abbrev pub has_method : Name → Decl → Bool
+has_method m d = list_any (λ x. nat_eq x.name.name.0 m.0) (methods d.members)
+
+abbrev pub has_field : Name → Decl → Bool
+has_field f d = list_any (λ x. nat_eq x.name.name.0 f.0) (fields d.members)
+
+any_more : {X : Type 0} (t : X → Bool) (y : X) (ys : List X) (x : X) → t x ≡ true → (y ≡ x) ⊎ (list_any t ys ≡ true) → list_any t (y ∷ ys) ≡ true
+any_more t y ys x e (inl h) = or_left (t y) (list_any t ys) (subst (λ z. t z ≡ true) (sym h) e)
+any_more t y ys x e (inr h) = or_right (t y) (list_any t ys) h
+
+any_from : {X : Type 0} (t : X → Bool) (xs : List X) (x : X) → t x ≡ true → Contains xs x → list_any t xs ≡ true
+any_from t [] x e c = absurd (in_none x c)
+any_from t (y ∷ ys) x e c = any_more t y ys x e (second (λ (h : Contains ys x). any_from t ys x e h) (in_cons y ys x c))
+
+-- what declares m passes the test
+abbrev pub if_method : Name → (Name → Name → Bool) → Name → Decl → Bool
+if_method m t A d = implies (has_method m d) (t d.name.name A)
+
+abbrev pub if_field : Name → (Name → Name → Bool) → Name → Decl → Bool
+if_field f t A d = implies (has_field f d) (t d.name.name A)
+
+pub method_in : (p : Program) (m : Name) (t : Name → Name → Bool) → inners (if_method m t) p ≡ true
+    → (C A : Name) (method : Method) → MethodAt p (C ∷ A ∷ []) m method → t C A ≡ true
+method_in p m t e C A method x =
+    let k = at_inner p (if_method m t) e C A x.decl x.stands in
+    let named : nat_eq method.name.name.0 m.0 ≡ true = subst (λ (n : Name). nat_eq n.0 m.0 ≡ true) (sym x.name) (itself_named m) in
+    let h = any_from (λ (y : Method). nat_eq y.name.name.0 m.0) (methods x.decl.members) method named x.has in
+    subst (λ (n : Name). t n A ≡ true) x.stands.1 (implied (has_method m x.decl) (t x.decl.name.name A) k h)
+
+pub field_in : (p : Program) (f : Name) (t : Name → Name → Bool) → inners (if_field f t) p ≡ true
+    → (C A : Name) (field : Field) → FieldAt p (C ∷ A ∷ []) f field → t C A ≡ true
+field_in p f t e C A field x =
+    let k = at_inner p (if_field f t) e C A x.decl x.stands in
+    let named : nat_eq field.name.name.0 f.0 ≡ true = subst (λ (n : Name). nat_eq n.0 f.0 ≡ true) (sym x.name) (itself_named f) in
+    let h = any_from (λ (y : Field). nat_eq y.name.name.0 f.0) (fields x.decl.members) field named x.has in
+    subst (λ (n : Name). t n A ≡ true) x.stands.1 (implied (has_field f x.decl) (t x.decl.name.name A) k h)
+
+-- ---- what stands where, by tests
+
+abbrev pub same : Name → Name → Bool
+same a b = nat_eq a.0 b.0
+
+some_either : {X : Type 0} (t : X → Bool) (y : X) (ys : List X) → (t y ≡ true) ⊎ ((x : X) × Contains ys x × (t x ≡ true))
+    → (x : X) × Contains (y ∷ ys) x × (t x ≡ true)
+some_either t y ys (inl e) = (y, first y ys, e)
+some_either t y ys (inr h) = (h.0, later y ys h.0 h.1, h.2)
+
+pub some_passes : {X : Type 0} (t : X → Bool) (xs : List X) → list_any t xs ≡ true → (x : X) × Contains xs x × (t x ≡ true)
+some_passes t [] e = cc
+some_passes t (y ∷ ys) e = some_either t y ys (second (λ (h : list_any t ys ≡ true). some_passes t ys h) (or_either (t y) (list_any t ys) e))
+
+abbrev pub top_has : Program → Name → (Decl → Bool) → Bool
+top_has p A t = list_any (λ e. same e.name.name A && t e) p.decls
+
+abbrev pub inner_has : Program → Name → Name → (Decl → Bool) → Bool
+inner_has p A C t = top_has p A (λ e. list_any (λ d. same d.name.name C && t d) (nested e.members))
+
+pub top_stands : (p : Program) (A : Name) (t : Decl → Bool) → top_has p A t ≡ true → (d : Decl) × StandsAt p (A ∷ []) d × (t d ≡ true)
+top_stands p A t e =
+    let s = some_passes (λ d. same d.name.name A && t d) p.decls e in
+    let b = and_both (same s.0.name.name A) (t s.0) s.2 in
+    (s.0, (s.1, same_name s.0.name.name A b.0), b.1)
+
+pub inner_stands : (p : Program) (A C : Name) (t : Decl → Bool) → inner_has p A C t ≡ true
+    → (d : Decl) × StandsAt p (C ∷ A ∷ []) d × (t d ≡ true)
+inner_stands p A C t e =
+    let o = top_stands p A (λ f. list_any (λ d. same d.name.name C && t d) (nested f.members)) e in
+    let s = some_passes (λ d. same d.name.name C && t d) (nested o.0.members) o.2 in
+    let b = and_both (same s.0.name.name C) (t s.0) s.2 in
+    (s.0, ((o.0, o.1.0, o.1.1, s.1), same_name s.0.name.name C b.0), b.1)
+
+abbrev pub anything : Decl → Bool
+anything d = true
+
+abbrev pub extending : Name → Decl → Bool
+extending D d = list_any (λ n. same n.name D) d.extends
+
+extends_from : (p : Program) (R : Path) (D : Name) (d : Decl) → StandsAt p R d → extending D d ≡ true → Extends p R D
+extends_from p R D d s e =
+    let n = some_passes (λ n. same n.name D) d.extends e in
+    record { decl = d; stands = s; named = n.0; extends = n.1; name = same_name n.0.name D n.2 }
+
+pub top_member : (p : Program) (A : Name) → top_has p A anything ≡ true → Member p [] A
+top_member p A e =
+    let d = top_stands p A anything e in
+    record { at = []; super = itself; declared = record { decl = d.0; stands = d.1 } }
+
+-- A extends D, at the top
+pub top_above : (p : Program) (A D : Name) → top_has p A (extending D) ≡ true → top_has p D anything ≡ true → Sup p (A ∷ []) (D ∷ [])
+top_above p A D e x =
+    let d = top_stands p A (extending D) e in
+    let m = top_stands p D anything x in
+    above (written itself (extends_from p (A ∷ []) D d.0 d.1 d.2) itself (record { decl = m.0; stands = m.1 })) itself
+
+-- a declaration in A is a member of each heir of A
+pub inner_member : (p : Program) (H A C : Name) → Sup p (H ∷ []) (A ∷ []) → inner_has p A C anything ≡ true → Member p (H ∷ []) C
+inner_member p H A C s e =
+    let d = inner_stands p A C anything e in
+    record { at = A ∷ []; super = s; declared = record { decl = d.0; stands = d.1 } }
+
+-- where C extends D in A, D of an heir is a super of its C
+pub inner_above : (p : Program) (H A C D : Name) → Sup p (H ∷ []) (A ∷ []) → inner_has p A C (extending D) ≡ true
+    → Member p (H ∷ []) D → Sup p (C ∷ H ∷ []) (D ∷ H ∷ [])
+inner_above p H A C D s e m =
+    let d = inner_stands p A C (extending D) e in
+    above (written s (extends_from p (C ∷ A ∷ []) D d.0 d.1 d.2) m.super m.declared) itself
+
+pub inner_method : (p : Program) (A C m : Name) → inner_has p A C (has_method m) ≡ true → (method : Method) × MethodAt p (C ∷ A ∷ []) m method
+inner_method p A C m e =
+    let d = inner_stands p A C (has_method m) e in
+    let x = some_passes (λ (x : Method). nat_eq x.name.name.0 m.0) (methods d.0.members) d.2 in
+    (x.0, record { decl = d.0; stands = d.1; has = x.1; name = same_name x.0.name.name m x.2 })
+
+pub inner_field : (p : Program) (A C f : Name) → inner_has p A C (has_field f) ≡ true → (field : Field) × FieldAt p (C ∷ A ∷ []) f field
+inner_field p A C f e =
+    let d = inner_stands p A C (has_field f) e in
+    let x = some_passes (λ (x : Field). nat_eq x.name.name.0 f.0) (fields d.0.members) d.2 in
+    (x.0, record { decl = d.0; stands = d.1; has = x.1; name = same_name x.0.name.name f x.2 })
+
+-- a proof for each element of a list
+abbrev pub EachOf : List Name → (Name → Type 0) → Type 0
+EachOf [] T = Unit {0}
+EachOf (x ∷ xs) T = T x × EachOf xs T
+
+each_or : (x : Name) (xs : List Name) (T : Name → Type 0) → T x → (y : Name) → (x ≡ y) ⊎ T y → T y
+each_or x xs T t y (inl e) = subst T e t
+each_or x xs T t y (inr u) = u
+
+pub of_each : (xs : List Name) (T : Name → Type 0) → EachOf xs T → (y : Name) → Contains xs y → T y
+of_each [] T t y c = absurd (in_none y c)
+of_each (x ∷ xs) T t y c = each_or x xs T t.0 y (second (λ (h : Contains xs y). of_each xs T t.1 y h) (in_cons x xs y c))
+
+-- ---- least declarations and fields of a class whose supers are all known
+
+-- the classes of these names in these packages
+abbrev pub EachClass : List Name → List Name → (Name → Name → Type 0) → Type 0
+EachClass Cs As T = EachOf Cs (λ C. EachOf As (T C))
+
+pub of_class : (Cs As : List Name) (T : Path → Type 0) → EachClass Cs As (λ C A. T (C ∷ A ∷ [])) → (S : Path) → OneOf Cs As S → T S
+of_class Cs As T t S (one C A c a) = of_each As (λ B. T (C ∷ B ∷ [])) (of_each Cs (λ D. EachOf As (λ B. T (D ∷ B ∷ []))) t C (has_in Cs C c)) A (has_in As A a)
+
+-- Q is the least of its method where the method stands, among the classes of these names, only at and above Q
+pub least_from : (p : Program) (Cs As : List Name) (t : Name → Name → Bool) (m : Name) (R Q : Path)
+    → ((S : Path) → Sup p R S → OneOf Cs As S)
+    → ((C A : Name) (x : Method) → MethodAt p (C ∷ A ∷ []) m x → t C A ≡ true)
+    → EachClass Cs As (λ C A. t C A ≡ true → Sup p Q (C ∷ A ∷ []))
+    → Sup p R Q → (x : Method) → MethodAt p Q m x → Least p R m Q
+least_from p Cs As t m R Q among told each s x k = record {
+  among = record { super = s; method = x; at = k };
+  below = λ S d. at_one S (among S d.super) d.method d.at;
+} where
+  at_one : (S : Path) → OneOf Cs As S → (y : Method) → MethodAt p S m y → Sup p Q S
+  at_one S (one C A c a) y h =
+      of_each As (λ B. t C B ≡ true → Sup p Q (C ∷ B ∷ []))
+      (of_each Cs (λ D. EachOf As (λ B. t D B ≡ true → Sup p Q (D ∷ B ∷ []))) each C (has_in Cs C c)) A (has_in As A a) (told C A y h)
+
+pub field_from : (p : Program) (Cs As : List Name) (t : Name → Name → Bool) (f : Name) (R Q : Path)
+    → ((S : Path) → Sup p R S → OneOf Cs As S)
+    → ((C A : Name) (x : Field) → FieldAt p (C ∷ A ∷ []) f x → t C A ≡ true)
+    → EachClass Cs As (λ C A. t C A ≡ true → ◌≡◌ {A = Path} (C ∷ A ∷ []) Q)
+    → Sup p R Q → (x : Field) → FieldAt p Q f x → IsField p R f Q
+field_from p Cs As t f R Q among told each s x k = record {
+  declares = record { super = s; field = x; at = k };
+  only = λ S d. at_one S (among S d.super) d.field d.at;
+} where
+  at_one : (S : Path) → OneOf Cs As S → (y : Field) → FieldAt p S f y → S ≡ Q
+  at_one S (one C A c a) y h =
+      of_each As (λ B. t C B ≡ true → ◌≡◌ {A = Path} (C ∷ B ∷ []) Q)
+      (of_each Cs (λ D. EachOf As (λ B. t D B ≡ true → ◌≡◌ {A = Path} (D ∷ B ∷ []) Q)) each C (has_in Cs C c)) A (has_in As A a) (told C A y h)
