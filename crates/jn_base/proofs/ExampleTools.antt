@@ -1,5 +1,5 @@
 -- Facts of small programs, by tests that compute.
-use Rattle.std.proofs.Common.{◌≡◌, ◌<◌, ℕ, List, [], ◌∷◌, length, zero, suc, refl, sym, ap, ◌∙◌, subst, Bool, true, false, ◌||◌, ◌&&◌, nat_eq, ◌⊎◌, inl, inr, ◌↔◌, arith, Contains}
+use Rattle.std.proofs.Common.{◌≡◌, ◌<◌, ℕ, List, [], ◌∷◌, length, zero, suc, refl, sym, ap, ◌∙◌, subst, Bool, true, false, ◌||◌, ◌&&◌, nat_eq, ◌⊎◌, inl, inr, ◌↔◌, arith, Contains, not, drop}
 use Rattle.std.specs.List.{list_all, list_any}
 use Rattle.std.proofs.lemmas.List.Sums.{AllPass-from_list_all}
 use Rattle.std.proofs.lemmas.List.Elements.{All-contains}
@@ -10,7 +10,10 @@ use Rattle.jn_base.specs.declared.tree.Method.{Method}
 use Rattle.jn_base.specs.declared.tree.Field.{Field}
 use Rattle.jn_base.specs.Paths.{Path, nested, methods, fields, StandsIn, StandsAt, Declared, Extends}
 use Rattle.jn_base.specs.Supers.{Direct, inherited, written, Sup, itself, above, Member}
-use Rattle.jn_base.specs.Members.{MethodAt, FieldAt, Least, IsField, Decls, FieldDecls}
+use Rattle.jn_base.specs.declared.tree.Kind.{Kind}
+use Rattle.jn_base.specs.declared.tree.Kind.TheVariants as kind
+use Rattle.jn_base.specs.ExampleTrees.{line}
+use Rattle.jn_base.specs.Members.{IsHome, HasKind, MethodAt, FieldAt, Least, IsField, Decls, FieldDecls}
 use Rattle.jn_base.specs.Duplicates.{has_name}
 use Rattle.jn_base.proofs.SuperLaws.{top_direct, sup_level}
 
@@ -320,3 +323,139 @@ field_from p Cs As t f R Q among told each s x k = record {
   at_one S (one C A c a) y h =
       of_each As (λ B. t C B ≡ true → ◌≡◌ {A = Path} (C ∷ B ∷ []) Q)
       (of_each Cs (λ D. EachOf As (λ B. t D B ≡ true → ◌≡◌ {A = Path} (D ∷ B ∷ []) Q)) each C (has_in Cs C c)) A (has_in As A a) (told C A y h)
+
+-- ---- direct supers
+
+pub top_edge : (p : Program) (A D : Name) → top_has p A (extending D) ≡ true → top_has p D anything ≡ true → Direct p (A ∷ []) (D ∷ [])
+top_edge p A D e x =
+    let d = top_stands p A (extending D) e in
+    let m = top_stands p D anything x in
+    written itself (extends_from p (A ∷ []) D d.0 d.1 d.2) itself (record { decl = m.0; stands = m.1 })
+
+-- all that A extends is among these names
+abbrev pub extends_only : Name → List Name → Decl → Bool
+extends_only A names d = implies (same d.name.name A) (list_all (λ n. has_name names n.name) d.extends)
+
+pub top_extends : (p : Program) (A : Name) (names : List Name) → tops (extends_only A names) p ≡ true → (D : Name) → Extends p (A ∷ []) D → has_name names D ≡ true
+top_extends p A names e D x =
+    let k = at_top p (extends_only A names) e A x.decl x.stands in
+    let h = implied (same x.decl.name.name A) (list_all (λ n. has_name names n.name) x.decl.extends) k (subst (λ (n : Name). nat_eq n.0 A.0 ≡ true) (sym x.stands.1) (itself_named A)) in
+    subst (λ (n : Name). has_name names n ≡ true) x.name (passes (λ n. has_name names n.name) x.decl.extends x.named h x.extends)
+
+-- all that A.C extends is among these names
+pub inner_extends : (p : Program) (C : Name) (names : List Name) (T : Name → Bool)
+    → inners (λ A d. implies (T A) (extends_only C names d)) p ≡ true
+    → (A D : Name) → T A ≡ true → Extends p (C ∷ A ∷ []) D → has_name names D ≡ true
+inner_extends p C names T e A D a x =
+    let k = at_inner p (λ B d. implies (T B) (extends_only C names d)) e C A x.decl x.stands in
+    let m = implied (T A) (extends_only C names x.decl) k a in
+    let h = implied (same x.decl.name.name C) (list_all (λ n. has_name names n.name) x.decl.extends) m (subst (λ (n : Name). nat_eq n.0 C.0 ≡ true) (sym x.stands.1) (itself_named C)) in
+    subst (λ (n : Name). has_name names n ≡ true) x.name (passes (λ n. has_name names n.name) x.decl.extends x.named h x.extends)
+
+pub one_package : {Cs As : List Name} {C A : Name} → OneOf Cs As (C ∷ A ∷ []) → has_name As A ≡ true
+one_package (one C A c a) = a
+
+-- C extends D in A, and D is a member of the heir H: D of H is a direct super of its C
+pub inner_edge : (p : Program) (H A C D : Name) → Sup p (H ∷ []) (A ∷ []) → inner_has p A C (extending D) ≡ true
+    → Member p (H ∷ []) D → Direct p (C ∷ H ∷ []) (D ∷ H ∷ [])
+inner_edge p H A C D s e m =
+    let d = inner_stands p A C (extending D) e in
+    written s (extends_from p (C ∷ A ∷ []) D d.0 d.1 d.2) m.super m.declared
+
+-- ---- places and kinds
+
+abbrev pub on_line : ℕ → Decl → Bool
+on_line n d = nat_eq d.name.at.line n && nat_eq d.name.at.column 1
+
+pub its_line : (n : ℕ) (d : Decl) → on_line n d ≡ true → line n ≡ d.name.at
+its_line n d e =
+    let b = and_both (nat_eq d.name.at.line n) (nat_eq d.name.at.column 1) e in
+    two (numbers d.name.at.line n b.0) (numbers d.name.at.column 1 b.1) where
+      numbers : (m n : ℕ) → nat_eq m n ≡ true → m ≡ n
+      numbers m n h = grind arith
+
+      two : d.name.at.line ≡ n → d.name.at.column ≡ 1 → line n ≡ d.name.at
+      two h k i = record { line = sym h i; column = sym k i }
+
+abbrev pub class_kind : Kind → Bool
+class_kind kind.Class = true
+class_kind kind.Package = false
+
+abbrev pub is_class : Decl → Bool
+is_class d = class_kind d.kind
+
+abbrev pub is_package : Decl → Bool
+is_package d = not (class_kind d.kind)
+
+class_from : (k : Kind) → class_kind k ≡ true → k ≡ kind.Class
+class_from kind.Class e = refl
+class_from kind.Package e = cc
+
+package_from : (k : Kind) → not (class_kind k) ≡ true → k ≡ kind.Package
+package_from kind.Class e = cc
+package_from kind.Package e = refl
+
+pub inner_class : (p : Program) (R : Path) (A C : Name) → Sup p R (C ∷ A ∷ []) → inner_has p A C is_class ≡ true → HasKind p R kind.Class
+inner_class p R A C s e =
+    let d = inner_stands p A C is_class e in
+    record { at = C ∷ A ∷ []; super = s; decl = d.0; stands = d.1; is = class_from d.0.kind d.2 }
+
+pub inner_package : (p : Program) (R : Path) (A C : Name) → Sup p R (C ∷ A ∷ []) → inner_has p A C is_package ≡ true → HasKind p R kind.Package
+inner_package p R A C s e =
+    let d = inner_stands p A C is_package e in
+    record { at = C ∷ A ∷ []; super = s; decl = d.0; stands = d.1; is = package_from d.0.kind d.2 }
+
+-- a declared class has its home at its own name
+pub inner_home : (p : Program) (A C : Name) (n : ℕ) → inner_has p A C (on_line n) ≡ true → IsHome p (C ∷ A ∷ []) (line n)
+inner_home p A C n e =
+    let d = inner_stands p A C (on_line n) e in
+    record { off = 0; decl = d.0; stands = d.1; longest = λ k l. absurd (omega (arith, l)); is = its_line n d.0 d.2 }
+
+-- one that isn't declared at its package's
+pub outer_home : (p : Program) (A C : Name) (n : ℕ) → top_has p A (on_line n) ≡ true → (Declared p (C ∷ A ∷ []) → ⊥) → IsHome p (C ∷ A ∷ []) (line n)
+outer_home p A C n e x =
+    let d = top_stands p A (on_line n) e in
+    record { off = 1; decl = d.0; stands = d.1; longest = shorter; is = its_line n d.0 d.2 } where
+      shorter : (k : ℕ) → k < 1 → Declared p (drop k (C ∷ A ∷ [])) → ⊥
+      shorter zero l h = x h
+      shorter (suc k) l h = absurd (omega (arith, l))
+
+-- no declaration stands in the package A
+pub none_inside : (p : Program) (A C : Name) → inners (λ B d. not (same B A)) p ≡ true → Declared p (C ∷ A ∷ []) → ⊥
+none_inside p A C e x = go (itself_named A) (at_inner p (λ B d. not (same B A)) e C A x.decl x.stands) where
+  both : (b : Bool) → b ≡ true → not b ≡ true → ⊥
+  both true h k = cc k
+  both false h k = cc h
+
+  go : nat_eq A.0 A.0 ≡ true → not (nat_eq A.0 A.0) ≡ true → ⊥
+  go h k = both (nat_eq A.0 A.0) h k
+
+-- ---- depth 3
+
+abbrev pub nesting : Name → Decl → Bool
+nesting N d = list_any (λ e. same e.name.name N) (nested d.members)
+
+pub deep_declared : (p : Program) (A C N : Name) → inner_has p A C (nesting N) ≡ true → Declared p (N ∷ C ∷ A ∷ [])
+deep_declared p A C N e =
+    let d = inner_stands p A C (nesting N) e in
+    let s = some_passes (λ (f : Decl). same f.name.name N) (nested d.0.members) d.2 in
+    record { decl = s.0; stands = ((d.0, d.1.0, d.1.1, s.1), same_name s.0.name.name N s.2) }
+
+pub deep_none : (p : Program) (A C N : Name) → inners (λ B d. not (same B A) || not (nesting N d)) p ≡ true → Declared p (N ∷ C ∷ A ∷ []) → ⊥
+deep_none p A C N e x =
+    let f = x.stands.0.0 in
+    let k = at_inner p (λ B d. not (same B A) || not (nesting N d)) e C A f (x.stands.0.1, x.stands.0.2) in
+    let named : nat_eq x.decl.name.name.0 N.0 ≡ true = subst (λ (n : Name). nat_eq n.0 N.0 ≡ true) (sym x.stands.1) (itself_named N) in
+    let h = any_from (λ (g : Decl). same g.name.name N) (nested f.members) x.decl named x.stands.0.3 in
+    neither (same A A) (nesting N f) (itself_named A) h k where
+      neither : (a b : Bool) → a ≡ true → b ≡ true → (not a || not b) ≡ true → ⊥
+      neither true true h k m = cc m
+      neither true false h k m = cc k
+      neither false b h k m = cc h
+
+only : (y x : Name) → (y ≡ x) ⊎ Contains [] x → y ≡ x
+only y x (inl e) = e
+only y x (inr c) = absurd (in_none x c)
+
+pub has_only : (y x : Name) → has_name (y ∷ []) x ≡ true → y ≡ x
+has_only y x e = only y x (in_cons y [] x (has_in (y ∷ []) x e))

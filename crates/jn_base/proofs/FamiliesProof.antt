@@ -40,19 +40,29 @@ base_has C c = of_three (in_cons Lit (Add ∷ Exp ∷ []) C c) where
   of_one : (Exp ≡ C) ⊎ Contains [] C → Member families (base ∷ []) C
   of_one (inl e) = subst (Member families (base ∷ [])) e (inner_member families base base Exp itself (simp (outs-Inner, outs-Slot, outs-Body)))
   of_one (inr h) = absurd (in_none C h)
+
   of_two : (Add ≡ C) ⊎ Contains (Exp ∷ []) C → Member families (base ∷ []) C
   of_two (inl e) = subst (Member families (base ∷ [])) e (inner_member families base base Add itself (simp (outs-Inner, outs-Slot, outs-Body)))
   of_two (inr h) = of_one (in_cons Exp [] C h)
+
   of_three : (Lit ≡ C) ⊎ Contains (Add ∷ Exp ∷ []) C → Member families (base ∷ []) C
   of_three (inl e) = subst (Member families (base ∷ [])) e (inner_member families base base Lit itself (simp (outs-Inner, outs-Slot, outs-Body)))
   of_three (inr h) = of_two (in_cons Add (Exp ∷ []) C h)
 
 packages : EachOf all_four (λ A. Sup families (both ∷ []) (A ∷ []) × Sup families (A ∷ []) (base ∷ []))
 packages = (
-  (itself, sup_joined both_shower shower_base), (
-    (both_shower, shower_base), (
-      (both_doubler, doubler_base), (
-        (sup_joined both_shower shower_base, itself), tt))))
+  (itself, sup_joined both_shower shower_base),
+  (
+    (both_shower, shower_base),
+    (
+      (both_doubler, doubler_base),
+      (
+        (sup_joined both_shower shower_base, itself),
+        tt,
+      ),
+    ),
+  ),
+)
 
 -- the class C of both has the class C of each of the four above it
 in_each : (C A : Name) → Contains (Lit ∷ Add ∷ Exp ∷ []) C → Contains all_four A → Sup families (C ∷ both ∷ []) (C ∷ A ∷ [])
@@ -68,13 +78,21 @@ both_exp = member_heir both_base (base_has Exp (2, omega arith, refl))
 
 lit_names : EachOf (Lit ∷ Exp ∷ []) (λ C. Contains (Lit ∷ Add ∷ Exp ∷ []) C × Sup families (Lit ∷ both ∷ []) (C ∷ both ∷ []))
 lit_names = (
-  ((0, omega arith, refl), itself), (
-    ((2, omega arith, refl), inner_above families both base Lit Exp both_base (simp outs-Inner) both_exp), tt))
+  ((0, omega arith, refl), itself),
+  (
+    ((2, omega arith, refl), inner_above families both base Lit Exp both_base (simp outs-Inner) both_exp),
+    tt,
+  ),
+)
 
 add_names : EachOf (Add ∷ Exp ∷ []) (λ C. Contains (Lit ∷ Add ∷ Exp ∷ []) C × Sup families (Add ∷ both ∷ []) (C ∷ both ∷ []))
 add_names = (
-  ((1, omega arith, refl), itself), (
-    ((2, omega arith, refl), inner_above families both base Add Exp both_base (simp outs-Inner) both_exp), tt))
+  ((1, omega arith, refl), itself),
+  (
+    ((2, omega arith, refl), inner_above families both base Add Exp both_base (simp outs-Inner) both_exp),
+    tt,
+  ),
+)
 
 class_of : (Cs As : List Name) (S : Path) → OneOf Cs As S → IsClassOf Cs As S
 class_of Cs As S (one C A c a) = record { C = C; A = A; is = refl; class = has_in Cs C c; package_in = has_in As A a }
@@ -127,8 +145,12 @@ unfolding evals
 lit_eval =
     let x = inner_method families doubler Lit eval (simp (outs-Inner, outs-Body)) in
     least_from families (Lit ∷ Exp ∷ []) all_four evals eval (Lit ∷ both ∷ []) (Lit ∷ doubler ∷ []) lit_one eval_in (
-      (λ e. cc e, (λ e. cc e, (λ e. itself, (λ e. doubler_lit, tt)))), (
-        (λ e. cc e, (λ e. cc e, (λ e. cc e, (λ e. doubler_exp, tt)))), tt))
+      (λ e. cc e, (λ e. cc e, (λ e. itself, (λ e. doubler_lit, tt)))),
+      (
+        (λ e. cc e, (λ e. cc e, (λ e. cc e, (λ e. doubler_exp, tt)))),
+        tt,
+      ),
+    )
     lit_doubler x.0 x.1
 
 add_exp : (A : Name) → Sup families (A ∷ []) (base ∷ []) → Sup families (Add ∷ A ∷ []) (Exp ∷ A ∷ [])
@@ -139,8 +161,12 @@ unfolding evals
 add_eval =
     let x = inner_method families base Add eval (simp (outs-Inner, outs-Body, outs-Slot)) in
     least_from families (Add ∷ Exp ∷ []) all_four evals eval (Add ∷ both ∷ []) (Add ∷ base ∷ []) add_one eval_in (
-      (λ e. cc e, (λ e. cc e, (λ e. cc e, (λ e. itself, tt)))), (
-        (λ e. cc e, (λ e. cc e, (λ e. cc e, (λ e. add_exp base itself, tt)))), tt))
+      (λ e. cc e, (λ e. cc e, (λ e. cc e, (λ e. itself, tt)))),
+      (
+        (λ e. cc e, (λ e. cc e, (λ e. cc e, (λ e. add_exp base itself, tt)))),
+        tt,
+      ),
+    )
     (in_each Add base (1, omega arith, refl) (3, omega arith, refl)) x.0 x.1
 
 shows : Name → Name → Bool
@@ -155,8 +181,12 @@ unfolding shows
 lit_show =
     let x = inner_method families shower Lit show (simp (outs-Inner, outs-Body)) in
     least_from families (Lit ∷ Exp ∷ []) all_four shows show (Lit ∷ both ∷ []) (Lit ∷ shower ∷ []) lit_one show_in (
-      (λ e. cc e, (λ e. itself, (λ e. cc e, (λ e. cc e, tt)))), (
-        (λ e. cc e, (λ e. lit_exp shower shower_base, (λ e. cc e, (λ e. cc e, tt)))), tt))
+      (λ e. cc e, (λ e. itself, (λ e. cc e, (λ e. cc e, tt)))),
+      (
+        (λ e. cc e, (λ e. lit_exp shower shower_base, (λ e. cc e, (λ e. cc e, tt)))),
+        tt,
+      ),
+    )
     (in_each Lit shower (0, omega arith, refl) (1, omega arith, refl)) x.0 x.1
 
 pub add_show : Least families (Add ∷ both ∷ []) show (Add ∷ shower ∷ [])
@@ -164,8 +194,12 @@ unfolding shows
 add_show =
     let x = inner_method families shower Add show (simp (outs-Inner, outs-Body)) in
     least_from families (Add ∷ Exp ∷ []) all_four shows show (Add ∷ both ∷ []) (Add ∷ shower ∷ []) add_one show_in (
-      (λ e. cc e, (λ e. itself, (λ e. cc e, (λ e. cc e, tt)))), (
-        (λ e. cc e, (λ e. add_exp shower shower_base, (λ e. cc e, (λ e. cc e, tt)))), tt))
+      (λ e. cc e, (λ e. itself, (λ e. cc e, (λ e. cc e, tt)))),
+      (
+        (λ e. cc e, (λ e. add_exp shower shower_base, (λ e. cc e, (λ e. cc e, tt)))),
+        tt,
+      ),
+    )
     (in_each Add shower (1, omega arith, refl) (1, omega arith, refl)) x.0 x.1
 
 at_base_lit : Name → Name → Bool
@@ -180,8 +214,12 @@ unfolding at_base_lit
 lit_v =
     let x = inner_field families base Lit v (simp (outs-Inner, outs-Slot, outs-Body)) in
     field_from families (Lit ∷ Exp ∷ []) all_four at_base_lit v (Lit ∷ both ∷ []) (Lit ∷ base ∷ []) lit_one v_in (
-      (λ e. cc e, (λ e. cc e, (λ e. cc e, (λ e. refl, tt)))), (
-        (λ e. cc e, (λ e. cc e, (λ e. cc e, (λ e. cc e, tt)))), tt))
+      (λ e. cc e, (λ e. cc e, (λ e. cc e, (λ e. refl, tt)))),
+      (
+        (λ e. cc e, (λ e. cc e, (λ e. cc e, (λ e. cc e, tt)))),
+        tt,
+      ),
+    )
     (in_each Lit base (0, omega arith, refl) (3, omega arith, refl)) x.0 x.1
 
 made_in : (C A : Name) (m : Method) → MethodAt families (C ∷ A ∷ []) Lit m → at_base_lit C A ≡ true
@@ -193,8 +231,12 @@ unfolding at_base_lit
 lit_made =
     let x = inner_method families base Lit Lit (simp (outs-Inner, outs-Slot, outs-Body)) in
     least_from families (Lit ∷ Exp ∷ []) all_four at_base_lit Lit (Lit ∷ both ∷ []) (Lit ∷ base ∷ []) lit_one made_in (
-      (λ e. cc e, (λ e. cc e, (λ e. cc e, (λ e. itself, tt)))), (
-        (λ e. cc e, (λ e. cc e, (λ e. cc e, (λ e. cc e, tt)))), tt))
+      (λ e. cc e, (λ e. cc e, (λ e. cc e, (λ e. itself, tt)))),
+      (
+        (λ e. cc e, (λ e. cc e, (λ e. cc e, (λ e. cc e, tt)))),
+        tt,
+      ),
+    )
     (in_each Lit base (0, omega arith, refl) (3, omega arith, refl)) x.0 x.1
 
 pub both_has : (C : Name) → Contains (Lit ∷ Add ∷ Exp ∷ []) C → InUniverse families (C ∷ both ∷ [])

@@ -36,9 +36,12 @@ declaration k at n extends members = record {
 abbrev pub package_at : ℕ → Name → List Name → List Member → Decl
 package_at at n extends members = declaration kind.Package at n extends members
 
+abbrev pub inner : Kind → ℕ → Name → List Name → List Member → Member
+inner k at n extends members = member.Inner (declaration k at n extends members)
+
 -- class n extends .. { .. }, in a body
 abbrev pub class_in : Name → List Name → List Member → Member
-class_in n extends members = member.Inner (declaration kind.Class 1 n extends members)
+class_in n extends members = inner kind.Class 1 n extends members
 
 abbrev pub method : Name → Member
 method n = member.Body (record { result = None; name = word n; params = []; sharing = []; body = [] })

@@ -56,14 +56,14 @@ l = name 11
 abbrev pub families : Program
 families = program (
     package_at 1 base [] (
-        class_in Exp [] (method eval ∷ [])
-        ∷ class_in Lit (Exp ∷ []) (field v ∷ method Lit ∷ method eval ∷ [])
-        ∷ class_in Add (Exp ∷ []) (field l ∷ method Add ∷ method eval ∷ [])
-        ∷ class_in Make [] [] ∷ [])
+    class_in Exp [] (method eval ∷ [])
+    ∷ class_in Lit (Exp ∷ []) (field v ∷ method Lit ∷ method eval ∷ [])
+    ∷ class_in Add (Exp ∷ []) (field l ∷ method Add ∷ method eval ∷ [])
+    ∷ class_in Make [] [] ∷ [])
     ∷ package_at 2 shower (base ∷ []) (
-        class_in Exp [] (method show ∷ [])
-        ∷ class_in Lit [] (method show ∷ [])
-        ∷ class_in Add [] (method show ∷ []) ∷ [])
+    class_in Exp [] (method show ∷ [])
+    ∷ class_in Lit [] (method show ∷ [])
+    ∷ class_in Add [] (method show ∷ []) ∷ [])
     ∷ package_at 3 doubler (base ∷ []) (class_in Lit [] (method eval ∷ []) ∷ [])
     ∷ package_at 4 both (shower ∷ doubler ∷ []) [] ∷ [])
 

@@ -5,6 +5,7 @@ pub mod FamiliesExample
 pub mod LawsOfSupers
 pub mod Members
 pub mod Paths
+pub mod SmallExamples
 pub mod Supers
 pub mod TableRules
 pub mod Universe

@@ -1,6 +1,27 @@
 ghost use Rattle.jn_base.specs.FamiliesExample.{FamiliesExample};
+ghost use Rattle.jn_base.specs.SmallExamples.{ConflictExample, CycleExample, MixedExample, JoinedExample};
 
 /// The supers and members of the classes of a family that joins two heirs of one family.
 pub fn joined_families()
     ensures { FamiliesExample }
+{}
+
+/// A method that an intersection has twice, with no least declaration until the heir overrides it.
+pub fn conflict()
+    ensures { ConflictExample }
+{}
+
+/// Two classes that are each other's super where two namespaces are joined.
+pub fn cycle()
+    ensures { CycleExample }
+{}
+
+/// A class and a package of one name.
+pub fn two_kinds()
+    ensures { MixedExample }
+{}
+
+/// A class that has in an intersection the members of both sides.
+pub fn joined_members()
+    ensures { JoinedExample }
 {}
