@@ -58,7 +58,7 @@ has_either : (y : Name) (ys : List Name) (x : Name) → (y ≡ x) ⊎ (has_name 
 has_either y ys x (inl e) = or_left (nat_eq y.0 x.0) (has_name ys x) (subst (λ (n : Name). nat_eq y.0 n.0 ≡ true) e (itself_named y))
 has_either y ys x (inr h) = or_right (nat_eq y.0 x.0) (has_name ys x) h
 
-second : {A B C : Type 0} → (B → C) → A ⊎ B → A ⊎ C
+pub second : {A B C : Type 0} → (B → C) → A ⊎ B → A ⊎ C
 second f (inl a) = inl a
 second f (inr b) = inr (f b)
 

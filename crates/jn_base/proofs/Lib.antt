@@ -5,3 +5,4 @@ pub mod FamiliesProof
 pub mod Reaching
 pub mod SmallProofs
 pub mod SuperLaws
+pub mod Unique
