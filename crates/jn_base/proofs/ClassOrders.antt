@@ -76,3 +76,6 @@ by_order p u P Q a b Greater e = inr (inr ((class_total p).antisymm Q P ∙ ap o
 pub before_total : (p : Program) → HasDistinctNames p → (P Q : Path) → HasItsNames p P → HasItsNames p Q
     → (P ≡ Q) ⊎ (Before p P Q ⊎ Before p Q P)
 before_total p u P Q a b = by_order p u P Q a b (class_cmp p P Q) refl
+
+pub before_chain : (p : Program) (P Q R : Path) → Before p P Q → Before p Q R → Before p P R
+before_chain p P Q R a b = (class_total p).trans P Q R a b

@@ -5,4 +5,5 @@ pub mod FamiliesProof
 pub mod Reaching
 pub mod SmallProofs
 pub mod SuperLaws
+pub mod TableLaws
 pub mod Unique

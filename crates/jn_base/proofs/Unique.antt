@@ -111,9 +111,9 @@ members_clean R before [] e d c = absurd (in_none d c)
 members_clean R before (m ∷ ms) e d c =
     let f = found_none R before m ms e in
     either (nested_cases (out-Member m) (nested ms) d c) f.inside (λ h. members_clean R (gives (out-Member m) ∷ before) ms f.rest d h) where
-  either : (out-Member m ≡ Member-F.Inner d) ⊎ Contains (nested ms) d → (in_member m).inside R ≡ [] → (Contains (nested ms) d → (in_decl d).inside R ≡ []) → (in_decl d).inside R ≡ []
-  either (inl h) i k = sym (inside_is m d R h) ∙ i
-  either (inr h) i k = k h
+      either : (out-Member m ≡ Member-F.Inner d) ⊎ Contains (nested ms) d → (in_member m).inside R ≡ [] → (Contains (nested ms) d → (in_decl d).inside R ≡ []) → (in_decl d).inside R ≡ []
+      either (inl h) i k = sym (inside_is m d R h) ∙ i
+      either (inr h) i k = k h
 
 -- ---- one of a name: for declarations, methods and fields alike
 
@@ -122,41 +122,40 @@ module _ {X : Type 0} (pick : Member-F Member Decl → Option X) (key : X → Gi
     (fits : (o : Member-F Member Decl) (x : X) → pick o ≡ Some x → gives o ≡ key x)
     (none : (x : X) → In [] x → ⊥)
     (cases : (m : Member) (ms : List Member) (x : X) → In (m ∷ ms) x → (pick (out-Member m) ≡ Some x) ⊎ In ms x)
-    where
+  where
+    not_before_by : (before : List Given) (m : Member) (x : X) → list_any (same_given (gives (out-Member m))) before ≡ false
+        → (pick (out-Member m) ≡ Some x) ⊎ (list_any (same_given (key x)) (gives (out-Member m) ∷ before) ≡ false)
+        → list_any (same_given (key x)) before ≡ false
+    not_before_by before m x n (inl e) = subst (λ (g : Given). list_any (same_given g) before ≡ false) (fits (out-Member m) x e) n
+    not_before_by before m x n (inr h) = (or_none (same_given (key x) (gives (out-Member m))) (list_any (same_given (key x)) before) h).1
 
-  not_before_by : (before : List Given) (m : Member) (x : X) → list_any (same_given (gives (out-Member m))) before ≡ false
-      → (pick (out-Member m) ≡ Some x) ⊎ (list_any (same_given (key x)) (gives (out-Member m) ∷ before) ≡ false)
-      → list_any (same_given (key x)) before ≡ false
-  not_before_by before m x n (inl e) = subst (λ (g : Given). list_any (same_given g) before ≡ false) (fits (out-Member m) x e) n
-  not_before_by before m x n (inr h) = (or_none (same_given (key x) (gives (out-Member m))) (list_any (same_given (key x)) before) h).1
+    -- what is given once differs from what was given before
+    not_before : (before : List Given) (ms : List Member) → Once before (givens ms) → (x : X) → In ms x → list_any (same_given (key x)) before ≡ false
+    unfolding givens
+    not_before before [] o x i = absurd (none x i)
+    not_before before (m ∷ ms) (once_more n o) x i =
+        not_before_by before m x n (second (λ (h : In ms x). not_before (gives (out-Member m) ∷ before) ms o x h) (cases m ms x i))
 
-  -- what is given once differs from what was given before
-  not_before : (before : List Given) (ms : List Member) → Once before (givens ms) → (x : X) → In ms x → list_any (same_given (key x)) before ≡ false
-  unfolding givens
-  not_before before [] o x i = absurd (none x i)
-  not_before before (m ∷ ms) (once_more n o) x i =
-      not_before_by before m x n (second (λ (h : In ms x). not_before (gives (out-Member m) ∷ before) ms o x h) (cases m ms x i))
+    one_of : (m : Member) (ms : List Member) → (before : List Given) → Once (gives (out-Member m) ∷ before) (givens ms)
+        → ((x y : X) → In ms x → In ms y → same_given (key x) (key y) ≡ true → x ≡ y)
+        → (x y : X) → same_given (key x) (key y) ≡ true → same_given (key y) (key x) ≡ true
+        → (pick (out-Member m) ≡ Some x) ⊎ In ms x → (pick (out-Member m) ≡ Some y) ⊎ In ms y → x ≡ y
+    one_of m ms before o ih x y e f (inl h) (inl k) = some_same x y (sym h ∙ k)
+    one_of m ms before o ih x y e f (inl h) (inr k) =
+        let n = or_none (same_given (key y) (gives (out-Member m))) (list_any (same_given (key y)) before) (not_before (gives (out-Member m) ∷ before) ms o y k) in
+        absurd (not_both (same_given (key y) (key x)) f (subst (λ (g : Given). same_given (key y) g ≡ false) (fits (out-Member m) x h) n.0))
+    one_of m ms before o ih x y e f (inr h) (inl k) =
+        let n = or_none (same_given (key x) (gives (out-Member m))) (list_any (same_given (key x)) before) (not_before (gives (out-Member m) ∷ before) ms o x h) in
+        absurd (not_both (same_given (key x) (key y)) e (subst (λ (g : Given). same_given (key x) g ≡ false) (fits (out-Member m) y k) n.0))
+    one_of m ms before o ih x y e f (inr h) (inr k) = ih x y h k e
 
-  one_of : (m : Member) (ms : List Member) → (before : List Given) → Once (gives (out-Member m) ∷ before) (givens ms)
-      → ((x y : X) → In ms x → In ms y → same_given (key x) (key y) ≡ true → x ≡ y)
-      → (x y : X) → same_given (key x) (key y) ≡ true → same_given (key y) (key x) ≡ true
-      → (pick (out-Member m) ≡ Some x) ⊎ In ms x → (pick (out-Member m) ≡ Some y) ⊎ In ms y → x ≡ y
-  one_of m ms before o ih x y e f (inl h) (inl k) = some_same x y (sym h ∙ k)
-  one_of m ms before o ih x y e f (inl h) (inr k) =
-      let n = or_none (same_given (key y) (gives (out-Member m))) (list_any (same_given (key y)) before) (not_before (gives (out-Member m) ∷ before) ms o y k) in
-      absurd (not_both (same_given (key y) (key x)) f (subst (λ (g : Given). same_given (key y) g ≡ false) (fits (out-Member m) x h) n.0))
-  one_of m ms before o ih x y e f (inr h) (inl k) =
-      let n = or_none (same_given (key x) (gives (out-Member m))) (list_any (same_given (key x)) before) (not_before (gives (out-Member m) ∷ before) ms o x h) in
-      absurd (not_both (same_given (key x) (key y)) e (subst (λ (g : Given). same_given (key x) g ≡ false) (fits (out-Member m) y k) n.0))
-  one_of m ms before o ih x y e f (inr h) (inr k) = ih x y h k e
-
-  one_given : ((x y : X) → same_given (key x) (key y) ≡ true → same_given (key y) (key x) ≡ true)
-      → (before : List Given) (ms : List Member) → Once before (givens ms)
-      → (x y : X) → In ms x → In ms y → same_given (key x) (key y) ≡ true → x ≡ y
-  unfolding givens
-  one_given turn before [] o x y i j e = absurd (none x i)
-  one_given turn before (m ∷ ms) (once_more n o) x y i j e =
-      one_of m ms before o (one_given turn (gives (out-Member m) ∷ before) ms o) x y e (turn x y e) (cases m ms x i) (cases m ms y j)
+    one_given : ((x y : X) → same_given (key x) (key y) ≡ true → same_given (key y) (key x) ≡ true)
+        → (before : List Given) (ms : List Member) → Once before (givens ms)
+        → (x y : X) → In ms x → In ms y → same_given (key x) (key y) ≡ true → x ≡ y
+    unfolding givens
+    one_given turn before [] o x y i j e = absurd (none x i)
+    one_given turn before (m ∷ ms) (once_more n o) x y i j e =
+        one_of m ms before o (one_given turn (gives (out-Member m) ∷ before) ms o) x y e (turn x y e) (cases m ms x i) (cases m ms y j)
 
 -- the three kinds of member
 inner_of : Member-F Member Decl → Option Decl
@@ -305,3 +304,48 @@ top_one before [] x d e c h n = absurd (in_none d c)
 top_one before (f ∷ ds) x d e c h n =
     let t = top_found before f ds x in
     one_by before f ds t.rest d e n (λ c h. top_one (f.name.name ∷ before) ds t.rest d e c h n) (in_cons f ds d c) (in_cons f ds e h)
+
+-- ---- down the paths
+
+record CleanIn (p : Program) (P : Path) : Type 0 where
+  pub clean : (d : Decl) → StandsIn p P d → (in_decl d).inside P ≡ []
+  pub one : (d e : Decl) → StandsIn p P d → StandsIn p P e → d.name.name ≡ e.name.name → d ≡ e
+
+-- of what is found in a declaration of the namespace P, what is found in its body
+body_clean : (P : Path) (d : Decl) → (in_decl d).inside P ≡ [] → in_members (d.name.name ∷ P) [] (map in_member d.members) ≡ []
+body_clean P d e =
+    (append_none (in_lists (d.name.name ∷ P) d.extends d.shares d.adapts) _ (sym (ap (λ (x : InDecl). x.inside P) (decl_opened d)) ∙ e)).1
+
+body_once : (P : Path) (d : Decl) → (in_decl d).inside P ≡ [] → Once [] (givens d.members)
+body_once P d e = members_once (d.name.name ∷ P) [] d.members (body_clean P d e)
+
+clean_in : (p : Program) → duplicates p ≡ [] → (P : Path) → CleanIn p P
+clean_in p e [] = record { clean = top_clean [] p.decls e; one = top_one [] p.decls e }
+clean_in p e (C ∷ P) =
+    let up = clean_in p e P in
+    record {
+      clean = λ d s.
+          let i = members_clean (s.0.name.name ∷ P) [] s.0.members (body_clean P s.0 (up.clean s.0 s.1)) d s.3 in
+          subst (λ (N : Name). (in_decl d).inside (N ∷ P) ≡ []) s.2 i;
+      one = λ d f s t n.
+          let same_body = up.one s.0 t.0 s.1 t.1 (s.2 ∙ sym t.2) in
+          one_nested t.0.members (body_once P t.0 (up.clean t.0 t.1)) d f (subst (λ (g : Decl). Contains (nested g.members) d) same_body s.3) t.3 n;
+    }
+
+pub one_decl : (p : Program) → duplicates p ≡ [] → (R : Path) (d e : Decl) → StandsAt p R d → StandsAt p R e → d ≡ e
+one_decl p x [] d e s t = absurd s
+one_decl p x (C ∷ P) d e s t = (clean_in p x P).one d e s.0 t.0 (s.1 ∙ sym t.1)
+
+once_at : (p : Program) → duplicates p ≡ [] → (R : Path) (d : Decl) → StandsAt p R d → Once [] (givens d.members)
+once_at p x [] d s = absurd s
+once_at p x (C ∷ P) d s = body_once P d ((clean_in p x P).clean d s.0)
+
+pub one_method_at : (p : Program) → duplicates p ≡ [] → (R : Path) (m : Name) (x y : Method) → MethodAt p R m x → MethodAt p R m y → x ≡ y
+one_method_at p e R m x y h k =
+    let d = one_decl p e R h.decl k.decl h.stands k.stands in
+    one_method k.decl.members (once_at p e R k.decl k.stands) x y (subst (λ (g : Decl). Contains (methods g.members) x) d h.has) k.has (h.name ∙ sym k.name)
+
+pub one_field_at : (p : Program) → duplicates p ≡ [] → (R : Path) (f : Name) (x y : Field) → FieldAt p R f x → FieldAt p R f y → x ≡ y
+one_field_at p e R f x y h k =
+    let d = one_decl p e R h.decl k.decl h.stands k.stands in
+    one_field k.decl.members (once_at p e R k.decl k.stands) x y (subst (λ (g : Decl). Contains (fields g.members) x) d h.has) k.has (h.name ∙ sym k.name)

@@ -3,6 +3,7 @@ pub mod Duplicates
 pub mod ExampleTrees
 pub mod FamiliesExample
 pub mod LawsOfSupers
+pub mod LawsOfTable
 pub mod Members
 pub mod Paths
 pub mod SmallExamples

@@ -1,3 +1,4 @@
+ghost use Rattle.jn_base.specs.LawsOfTable.{NothingTwice, MembersAreOne, UniverseNamed, TableVerdictIsOne};
 ghost use Rattle.jn_base.specs.LawsOfSupers.{DirectSupers, TopLevel, Levels, Heirs, SupersChain, MembersInherited, SupersOfMembers, UniverseClosed, ReachClosed, StrictOrder};
 
 /// The direct supers of a member, said by members.
@@ -48,4 +49,24 @@ pub fn reach_closed()
 /// The class order is a strict total order, where names are distinct texts.
 pub fn strict_order()
     ensures { StrictOrder }
+{}
+
+/// Where nothing is found twice there is one declaration at a path, one home, and one method and field of a name in a body.
+pub fn nothing_twice()
+    ensures { NothingTwice }
+{}
+
+/// A method has one least declaration where no path is its own super, and a field one declaration that is alone.
+pub fn members_are_one()
+    ensures { MembersAreOne }
+{}
+
+/// The paths of the universe have the names of the declared ones.
+pub fn universe_named()
+    ensures { UniverseNamed }
+{}
+
+/// A class table has one refusal at most, and none where it passes.
+pub fn table_verdict_is_one()
+    ensures { TableVerdictIsOne }
 {}
