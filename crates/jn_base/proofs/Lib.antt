@@ -1,5 +1,6 @@
 pub mod ClassOrders
 pub mod ConflictProof
+pub mod DuplicatesProof
 pub mod ExampleTools
 pub mod FamiliesProof
 pub mod Reaching

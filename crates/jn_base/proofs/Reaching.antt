@@ -1,11 +1,12 @@
 -- The universe and what is reached in it.
-use Rattle.std.proofs.Common.{[], ◌∷◌}
+use Rattle.std.proofs.Common.{◌≡◌, [], ◌∷◌, length, suc, ap}
 use Rattle.jn_base.specs.declared.tree.Decl.{Decl}
 use Rattle.jn_base.specs.declared.tree.Program.{Program}
 use Rattle.jn_base.specs.Paths.{Path, StandsIn, StandsAt, Declared}
 use Rattle.jn_base.specs.Supers.{Direct, inherited, written, Sup, itself, above}
 use Rattle.jn_base.specs.Universe.{IsNamespace, InUniverse, Reach, here, outwards, upwards}
-use Rattle.jn_base.proofs.SuperLaws.{direct_namespace}
+use Rattle.jn_base.specs.LawsOfSupers.{DeclaredAsDeep}
+use Rattle.jn_base.proofs.SuperLaws.{direct_namespace, sup_level}
 
 -- the namespace of a declaration is one
 pub stands_namespace : (p : Program) (P : Path) (d : Decl) → StandsIn p P d → IsNamespace p P
@@ -44,3 +45,7 @@ pub reach_in_universe : {p : Program} {q R : Path} → InUniverse p q → Reach 
 reach_in_universe u here = u
 reach_in_universe u (outwards r) = (reach_in_universe u r).0
 reach_in_universe u (upwards r d) = direct_in_universe d (reach_in_universe u r)
+
+pub universe_depth : (p : Program) (R : Path) → InUniverse p R → DeclaredAsDeep p R
+universe_depth p [] u = absurd u
+universe_depth p (C ∷ P) u = record { path = C ∷ u.1.at; declared = u.1.declared; long = ap suc (sup_level u.1.super) }

@@ -18,10 +18,10 @@ use Rattle.jn_base.proofs.ExampleTools.{in_cons, in_none, itself_named, same_nam
 
 -- ---- the folds, opened
 
-decl_opened : (d : Decl) → in_decl d ≡ decl_step (record { kind = d.kind; name = d.name; extends = d.extends; shares = d.shares; adapts = d.adapts; members = map in_member d.members })
+pub decl_opened : (d : Decl) → in_decl d ≡ decl_step (record { kind = d.kind; name = d.name; extends = d.extends; shares = d.shares; adapts = d.adapts; members = map in_member d.members })
 decl_opened d = fold_out-Decl InMember InDecl member_step decl_step d
 
-member_opened : (m : Member) → in_member m ≡ member_step (map-Member _ _ _ _ in_member in_decl (out-Member m))
+pub member_opened : (m : Member) → in_member m ≡ member_step (map-Member _ _ _ _ in_member in_decl (out-Member m))
 member_opened m = fold_out-Member InMember InDecl member_step decl_step m
 
 append_none : {X : Type 0} (xs ys : List X) → xs ++ ys ≡ [] → (xs ≡ []) × (ys ≡ [])

@@ -63,11 +63,19 @@ pub record SuperIn (p : Program) (P : Path) (C : Name) (Q : Path) (D : Name) : T
 abbrev pub SupersOfMembers : Type 0
 SupersOfMembers = (p : Program) (P Q : Path) (C D : Name) → Member p P C → Sup p (C ∷ P) (D ∷ Q) → SuperIn p P C Q D
 
--- the universe is closed under prefixes that have a name, and under supers
+-- some declared path is as long as R
+pub record DeclaredAsDeep (p : Program) (R : Path) : Type 0 where
+  pub path : Path
+  pub declared : Declared p path
+  pub long : length path ≡ length R
+
+-- the universe has all declared paths, and is closed under prefixes that have a name, and under supers
 pub record UniverseOf (p : Program) : Type 0 where
   pub declared : (R : Path) → Declared p R → InUniverse p R
   pub prefixes : (P : Path) (C D : Name) → InUniverse p (D ∷ C ∷ P) → InUniverse p (C ∷ P)
   pub supers : (R S : Path) → InUniverse p R → Sup p R S → InUniverse p S
+  -- so no path is longer than the longest declared one
+  pub depth : (R : Path) → InUniverse p R → DeclaredAsDeep p R
 
 abbrev pub UniverseClosed : Type 0
 UniverseClosed = (p : Program) → UniverseOf p

@@ -1,5 +1,6 @@
 pub mod ClassOrder
 pub mod Duplicates
+pub mod DuplicatesExample
 pub mod ExampleTrees
 pub mod FamiliesExample
 pub mod LawsOfSupers

@@ -1,3 +1,4 @@
+ghost use Rattle.jn_base.specs.DuplicatesExample.{DuplicatesExample};
 ghost use Rattle.jn_base.specs.FamiliesExample.{FamiliesExample};
 ghost use Rattle.jn_base.specs.SmallExamples.{ConflictExample, CycleExample, MixedExample, JoinedExample};
 
@@ -24,4 +25,9 @@ pub fn two_kinds()
 /// A class that has in an intersection the members of both sides.
 pub fn joined_members()
     ensures { JoinedExample }
+{}
+
+/// Names that stand twice, each found at its second place in the order of the source.
+pub fn names_twice()
+    ensures { DuplicatesExample }
 {}
