@@ -1,16 +1,16 @@
 -- The example of a method without a least declaration.
-use Rattle.std.proofs.Common.{◌≡◌, ℕ, List, [], ◌∷◌, refl, sym, subst, Bool, true, false, ◌⊎◌, inl, inr, Contains, ◌↔◌, ◌||◌, arith}
+use Rattle.std.proofs.Common.{◌≡◌, List, [], ◌∷◌, refl, sym, subst, Bool, true, ◌⊎◌, inl, inr, Contains, ◌↔◌}
 use Rattle.jn_base.specs.declared.tree.Name.{Name}
 use Rattle.jn_base.specs.declared.tree.Method.{Method}
-use Rattle.jn_base.specs.declared.tree.Member.TheVariants.{outs-Inner, outs-Slot, outs-Body}
-use Rattle.jn_base.specs.Paths.{Path, Extends, Declared}
+use Rattle.jn_base.specs.declared.tree.Member.TheVariants.{outs-Inner, outs-Body}
+use Rattle.jn_base.specs.Paths.{Path, Extends}
 use Rattle.jn_base.specs.Supers.{Direct, Sup, itself, above, Member, Above, by_heir, by_text}
 use Rattle.jn_base.specs.Universe.{InUniverse}
-use Rattle.jn_base.specs.Members.{MethodAt, Least, Decls}
+use Rattle.jn_base.specs.Members.{MethodAt, Least}
 use Rattle.jn_base.specs.Duplicates.{has_name}
 use Rattle.jn_base.specs.SmallExamples.{a, b, c, d, E, n, conflicting, settled}
-use Rattle.jn_base.proofs.SuperLaws.{sup_joined, sup_inherited, member_heir, top_direct, direct_cases, direct_above}
-use Rattle.jn_base.proofs.ExampleTools.{OneOf, one, sups_kept, top_above, top_edge, top_extends, inner_extends, inner_member, top_member, inner_method, method_in, in_cons, in_none, has_in, same, tops, keeps, top_sup, of_each, one_package}
+use Rattle.jn_base.proofs.SuperLaws.{sup_inherited, member_heir, top_direct, direct_cases, direct_above}
+use Rattle.jn_base.proofs.ExampleTools.{OneOf, one, sups_kept, top_edge, top_extends, inner_extends, inner_member, top_member, inner_method, method_in, in_cons, in_none, has_in, tops, keeps, top_sup, of_each, one_package}
 
 d_b : Direct conflicting (d ∷ []) (b ∷ [])
 d_b = top_edge conflicting d b refl refl

@@ -1,11 +1,11 @@
 -- The example of names that stand twice.
-use Rattle.std.proofs.Common.{◌≡◌, [], ◌∷◌, refl, map}
+use Rattle.std.proofs.Common.{◌≡◌}
 use Rattle.jn_base.specs.declared.tree.Member.TheVariants.{outs-Inner, outs-Slot, outs-Body}
 use Rattle.jn_base.specs.declared.tree.Stmt.{Stmt, out-Stmt}
 use Rattle.jn_base.specs.declared.tree.Stmt.TheVariants.{outs-Block, outs-Local, outs-If}
 use Rattle.jn_base.specs.declared.tree.Stmt.TheFolds.{fold_out-Stmt, map-Stmt}
-use Rattle.jn_base.specs.Duplicates.{duplicates, duplicate, in_stmt, InStmt, stmt_step}
-use Rattle.jn_base.specs.DuplicatesExample.{apart, two_fields, two_classes, two_nested, scopes, DuplicatesExample}
+use Rattle.jn_base.specs.Duplicates.{in_stmt, InStmt, stmt_step}
+use Rattle.jn_base.specs.DuplicatesExample.{DuplicatesExample}
 use Rattle.jn_base.proofs.Unique.{decl_opened, member_opened}
 
 stmt_opened : (s : Stmt) → in_stmt s ≡ stmt_step (map-Stmt _ _ in_stmt (out-Stmt s))

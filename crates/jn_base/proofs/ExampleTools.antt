@@ -1,5 +1,5 @@
 -- Facts of small programs, by tests that compute.
-use Rattle.std.proofs.Common.{◌≡◌, ◌<◌, ℕ, List, [], ◌∷◌, length, zero, suc, refl, sym, ap, ◌∙◌, subst, Bool, true, false, ◌||◌, ◌&&◌, nat_eq, ◌⊎◌, inl, inr, ◌↔◌, arith, Contains, not, drop}
+use Rattle.std.proofs.Common.{◌≡◌, ◌<◌, ℕ, List, [], ◌∷◌, length, zero, suc, refl, sym, ap, subst, Bool, true, false, ◌||◌, ◌&&◌, nat_eq, ◌⊎◌, inl, inr, arith, Contains, not, drop}
 use Rattle.std.specs.List.{list_all, list_any}
 use Rattle.std.proofs.lemmas.List.Sums.{AllPass-from_list_all}
 use Rattle.std.proofs.lemmas.List.Elements.{All-contains}
@@ -8,12 +8,12 @@ use Rattle.jn_base.specs.declared.tree.Program.{Program}
 use Rattle.jn_base.specs.declared.tree.Decl.{Decl}
 use Rattle.jn_base.specs.declared.tree.Method.{Method}
 use Rattle.jn_base.specs.declared.tree.Field.{Field}
-use Rattle.jn_base.specs.Paths.{Path, nested, methods, fields, StandsIn, StandsAt, Declared, Extends}
+use Rattle.jn_base.specs.Paths.{Path, nested, methods, fields, StandsAt, Declared, Extends}
 use Rattle.jn_base.specs.Supers.{Direct, inherited, written, Sup, itself, above, Member}
 use Rattle.jn_base.specs.declared.tree.Kind.{Kind}
 use Rattle.jn_base.specs.declared.tree.Kind.TheVariants as kind
 use Rattle.jn_base.specs.ExampleTrees.{line}
-use Rattle.jn_base.specs.Members.{IsHome, HasKind, MethodAt, FieldAt, Least, IsField, Decls, FieldDecls}
+use Rattle.jn_base.specs.Members.{IsHome, HasKind, MethodAt, FieldAt, Least, IsField}
 use Rattle.jn_base.specs.Duplicates.{has_name}
 use Rattle.jn_base.proofs.SuperLaws.{top_direct, sup_level}
 

@@ -1,17 +1,17 @@
 -- The example of the families.
-use Rattle.std.proofs.Common.{◌≡◌, ℕ, List, [], ◌∷◌, refl, sym, subst, Bool, true, false, ◌⊎◌, inl, inr, Contains, ◌↔◌, ◌&&◌, ◌||◌, arith}
+use Rattle.std.proofs.Common.{◌≡◌, List, [], ◌∷◌, refl, sym, subst, Bool, true, ◌⊎◌, inl, inr, Contains, ◌↔◌, ◌&&◌, ◌||◌, arith}
 use Rattle.jn_base.specs.declared.tree.Name.{Name}
 use Rattle.jn_base.specs.declared.tree.Member.TheVariants.{outs-Inner, outs-Slot, outs-Body}
 use Rattle.jn_base.specs.Paths.{Path}
 use Rattle.jn_base.specs.Supers.{Sup, itself, Member}
-use Rattle.jn_base.specs.Members.{MethodAt, FieldAt, Least, IsField, Decls, FieldDecls}
+use Rattle.jn_base.specs.Members.{MethodAt, FieldAt, Least, IsField}
 use Rattle.jn_base.specs.Universe.{InUniverse}
 use Rattle.jn_base.specs.Duplicates.{has_name}
 use Rattle.jn_base.specs.declared.tree.Method.{Method}
 use Rattle.jn_base.specs.declared.tree.Field.{Field}
 use Rattle.jn_base.specs.FamiliesExample.{families, all_four, Lit, Exp, Add, base, both, shower, doubler, eval, show, v, IsClassOf}
 use Rattle.jn_base.proofs.SuperLaws.{sup_joined, sup_inherited, member_heir}
-use Rattle.jn_base.proofs.ExampleTools.{tops, inners, keeps, OneOf, one, sups_kept, top_above, inner_member, inner_above, has_in, in_cons, in_none, has_from, top_has, inner_has, anything, extending, EachOf, of_each, EachClass, of_class, same, method_in, field_in, inner_method, inner_field, least_from, field_from, top_member}
+use Rattle.jn_base.proofs.ExampleTools.{tops, inners, keeps, OneOf, one, sups_kept, top_above, inner_member, inner_above, has_in, in_cons, in_none, EachOf, of_each, same, method_in, field_in, inner_method, inner_field, least_from, field_from, top_member}
 
 tops_ok : tops (keeps all_four) families ≡ true
 tops_ok = refl

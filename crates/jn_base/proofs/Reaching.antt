@@ -1,8 +1,8 @@
 -- The universe and what is reached in it.
-use Rattle.std.proofs.Common.{◌≡◌, [], ◌∷◌, length, suc, ap}
+use Rattle.std.proofs.Common.{[], ◌∷◌, suc, ap}
 use Rattle.jn_base.specs.declared.tree.Decl.{Decl}
 use Rattle.jn_base.specs.declared.tree.Program.{Program}
-use Rattle.jn_base.specs.Paths.{Path, StandsIn, StandsAt, Declared}
+use Rattle.jn_base.specs.Paths.{Path, StandsIn, StandsAt}
 use Rattle.jn_base.specs.Supers.{Direct, inherited, written, Sup, itself, above}
 use Rattle.jn_base.specs.Universe.{IsNamespace, InUniverse, Reach, here, outwards, upwards}
 use Rattle.jn_base.specs.LawsOfSupers.{DeclaredAsDeep}

@@ -1,8 +1,6 @@
 -- A class table has one refusal at most.
-use Rattle.std.proofs.Common.{◌≡◌, ◌<◌, ◌≤◌, ◌+◌, ℕ, List, [], ◌∷◌, ◌++◌, length, zero, suc, drop, refl, sym, ap, ◌∙◌, subst, ◌⊎◌, inl, inr, arith, Contains, Some, None, length-append}
+use Rattle.std.proofs.Common.{◌≡◌, ◌<◌, ◌≤◌, ℕ, List, [], ◌∷◌, ◌++◌, length, drop, refl, sym, ap, ◌∙◌, subst, ◌⊎◌, inl, inr, arith, Contains, length-append}
 use Rattle.std.specs.Prelude.{All}
-use Rattle.std.specs.declared.cmp.Ordering.{Ordering}
-use Rattle.std.specs.declared.cmp.Ordering.TheVariants.{Less}
 use Rattle.std.specs.List.{AllByRecursion}
 use Rattle.std.specs.List.Sorted.{IsStrictlySortedBy}
 use Rattle.std.proofs.lemmas.List.Elements.{All-nil, All-cons, All-head, All-tail, All-contains, All-from_recursion, Contains-append_cases}
@@ -14,18 +12,18 @@ use Rattle.jn_base.specs.declared.tree.Decl.{Decl}
 use Rattle.jn_base.specs.declared.refusal.Refusal.{Refusal}
 use Rattle.jn_base.specs.declared.refusal.Rule.{Rule}
 use Rattle.jn_base.specs.declared.refusal.Rule.TheVariants as rule
-use Rattle.jn_base.specs.Paths.{Path, StandsAt, Declared}
+use Rattle.jn_base.specs.Paths.{Path, StandsAt}
 use Rattle.jn_base.specs.Supers.{Sup, itself, above, Member, IsOwnSuper}
 use Rattle.jn_base.specs.Universe.{IsNamespace, InUniverse}
 use Rattle.jn_base.specs.ClassOrder.{class_cmp, Before, HasDistinctNames, HasItsNames, IsFirst}
-use Rattle.jn_base.specs.Members.{IsHome, Least, IsField}
+use Rattle.jn_base.specs.Members.{IsHome, Least}
 use Rattle.jn_base.specs.Duplicates.{duplicates}
-use Rattle.jn_base.specs.TableRules.{MOST_PATHS, IsPathAfter, IsOver, IsCycle, IsMixed, ExtendsUnknown, HasUnknown, NoneIs, at_home, unknown_at, TableRefuses, too_many, cycle, two_kinds, unknown, TablePasses}
+use Rattle.jn_base.specs.TableRules.{MOST_PATHS, IsPathAfter, IsCycle, IsMixed, ExtendsUnknown, HasUnknown, at_home, unknown_at, TableRefuses, too_many, cycle, two_kinds, unknown, TablePasses}
 use Rattle.jn_base.specs.LawsOfTable.{NamesItsPaths}
 use Rattle.jn_base.proofs.SuperLaws.{sup_joined}
 use Rattle.jn_base.proofs.Reaching.{declared_in_universe}
 use Rattle.jn_base.proofs.ClassOrders.{before_irreflexive, before_total, before_chain}
-use Rattle.jn_base.proofs.ExampleTools.{in_cons, in_none, first, later, second}
+use Rattle.jn_base.proofs.ExampleTools.{in_cons, in_none, first, later}
 use Rattle.jn_base.proofs.Unique.{one_decl}
 
 -- ---- homes

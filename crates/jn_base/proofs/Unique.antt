@@ -1,19 +1,18 @@
 -- Where nothing is found twice, a path has one declaration, and a body one method and one field of a name.
-use Rattle.std.proofs.Common.{◌≡◌, ◌<◌, ℕ, List, [], ◌∷◌, ◌++◌, map, Option, Some, None, refl, sym, ap, ◌∙◌, subst, Bool, true, false, ◌||◌, ◌&&◌, nat_eq, ◌⊎◌, inl, inr, arith, Contains}
+use Rattle.std.proofs.Common.{◌≡◌, List, [], ◌∷◌, ◌++◌, map, Option, Some, None, refl, sym, ap, ◌∙◌, subst, Bool, true, false, ◌||◌, nat_eq, ◌⊎◌, inl, inr, Contains}
 use Rattle.std.specs.List.{list_any}
 use Rattle.jn_base.specs.declared.tree.Name.{Name}
 use Rattle.jn_base.specs.declared.tree.Named.{Named}
 use Rattle.jn_base.specs.declared.tree.Program.{Program}
 use Rattle.jn_base.specs.declared.tree.Method.{Method}
 use Rattle.jn_base.specs.declared.tree.Field.{Field}
-use Rattle.jn_base.specs.declared.tree.Member.{Member, out-Member, fold-Member}
-use Rattle.jn_base.specs.declared.tree.Member.TheOpen.{Member-F, Decl-F}
+use Rattle.jn_base.specs.declared.tree.Member.{Member, out-Member}
+use Rattle.jn_base.specs.declared.tree.Member.TheOpen.{Member-F}
 use Rattle.jn_base.specs.declared.tree.Member.TheFolds.{fold_out-Member, fold_out-Decl, map-Member}
-use Rattle.jn_base.specs.declared.tree.Decl.{Decl, fold-Decl}
-use Rattle.jn_base.specs.declared.refusal.Refusal.{Refusal}
+use Rattle.jn_base.specs.declared.tree.Decl.{Decl}
 use Rattle.jn_base.specs.Paths.{Path, nested, and_nested, methods, and_method, fields, and_field, StandsIn, StandsAt}
 use Rattle.jn_base.specs.Members.{MethodAt, FieldAt}
-use Rattle.jn_base.specs.Duplicates.{only_if, has_name, Space, of_decls, of_fields, of_methods, same_space, Given, same_given, InMember, InDecl, in_members, in_decls, in_lists, in_member, in_decl, member_step, decl_step, duplicates}
+use Rattle.jn_base.specs.Duplicates.{only_if, has_name, of_decls, of_fields, of_methods, Given, same_given, InMember, InDecl, in_members, in_decls, in_lists, in_member, in_decl, member_step, decl_step, duplicates}
 use Rattle.jn_base.proofs.ExampleTools.{in_cons, in_none, itself_named, same_name, second}
 
 -- ---- the folds, opened

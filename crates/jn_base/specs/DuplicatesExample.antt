@@ -1,5 +1,5 @@
 -- Names that stand twice, and where they are found.
-use Rattle.std.specs.Prelude.{◌≡◌, ℕ, List, [], ◌∷◌, Some, None, false}
+use Rattle.std.specs.Prelude.{◌≡◌, ℕ, List, [], ◌∷◌, None, false}
 use Rattle.jn_base.specs.declared.tree.Name.{Name}
 use Rattle.jn_base.specs.declared.tree.Named.{Named}
 use Rattle.jn_base.specs.declared.tree.Kind.TheVariants as kind
@@ -13,10 +13,8 @@ use Rattle.jn_base.specs.declared.tree.Stmt.TheVariants as stmt
 use Rattle.jn_base.specs.declared.tree.Param.{Param}
 use Rattle.jn_base.specs.declared.tree.Decl.{Decl}
 use Rattle.jn_base.specs.declared.tree.Program.{Program}
-use Rattle.jn_base.specs.declared.refusal.Refusal.{Refusal}
-use Rattle.jn_base.specs.Paths.{Path, shown}
 use Rattle.jn_base.specs.Duplicates.{duplicates, refusal, duplicate}
-use Rattle.jn_base.specs.ExampleTrees.{name, line, word, package_at, method, program}
+use Rattle.jn_base.specs.ExampleTrees.{name, line, word, method, program}
 
 abbrev pub Main : Name
 Main = name 0

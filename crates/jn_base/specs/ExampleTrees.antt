@@ -1,9 +1,8 @@
 -- Small programs, by what their class tables need.
-use Rattle.std.specs.Prelude.{ℕ, List, [], ◌∷◌, map, None, codes}
+use Rattle.std.specs.Prelude.{ℕ, List, [], map, None}
 use Rattle.jn_base.specs.declared.tree.Name.{Name}
 use Rattle.jn_base.specs.declared.tree.Place.{Place}
 use Rattle.jn_base.specs.declared.tree.Named.{Named}
-use Rattle.jn_base.specs.declared.tree.Text.{Text}
 use Rattle.jn_base.specs.declared.tree.Kind.{Kind}
 use Rattle.jn_base.specs.declared.tree.Kind.TheVariants as kind
 use Rattle.jn_base.specs.declared.tree.Program.{Program}

@@ -8,11 +8,11 @@
 --   package shower extends base { class Exp { void show() { .. } } class Lit { void show() { .. } } class Add { void show() { .. } } }
 --   package doubler extends base { class Lit { int eval() { .. } } }
 --   package both extends shower & doubler { }
-use Rattle.std.specs.Prelude.{◌≡◌, ℕ, List, [], ◌∷◌, Contains, ◌↔◌}
+use Rattle.std.specs.Prelude.{◌≡◌, List, [], ◌∷◌, Contains, ◌↔◌}
 use Rattle.jn_base.specs.declared.tree.Name.{Name}
 use Rattle.jn_base.specs.declared.tree.Program.{Program}
 use Rattle.jn_base.specs.Paths.{Path}
-use Rattle.jn_base.specs.Supers.{Sup, Member}
+use Rattle.jn_base.specs.Supers.{Sup}
 use Rattle.jn_base.specs.Universe.{InUniverse}
 use Rattle.jn_base.specs.Members.{Least, IsField, IsConstructor}
 use Rattle.jn_base.specs.ExampleTrees.{name, package_at, class_in, method, field, program}

@@ -1,12 +1,12 @@
 -- Small programs that show one rule each.
-use Rattle.std.specs.Prelude.{◌≡◌, ℕ, List, [], ◌∷◌, Contains, ◌↔◌, ◌⊎◌, codes, map}
+use Rattle.std.specs.Prelude.{◌≡◌, ℕ, List, [], ◌∷◌, ◌↔◌, ◌⊎◌, codes}
 use Rattle.jn_base.specs.declared.tree.Name.{Name}
 use Rattle.jn_base.specs.declared.tree.Text.{Text}
 use Rattle.jn_base.specs.declared.tree.Kind.TheVariants as kind
 use Rattle.jn_base.specs.declared.tree.Decl.{Decl}
 use Rattle.jn_base.specs.declared.tree.Program.{Program}
 use Rattle.jn_base.specs.Paths.{Path}
-use Rattle.jn_base.specs.Supers.{Direct, Sup, Member, IsOwnSuper}
+use Rattle.jn_base.specs.Supers.{Direct, IsOwnSuper}
 use Rattle.jn_base.specs.Universe.{InUniverse}
 use Rattle.jn_base.specs.Members.{IsHome, HasTwoKinds, Least}
 use Rattle.jn_base.specs.ExampleTrees.{name, line, inner, package_at, class_in, method, program}

@@ -31,3 +31,18 @@ pub fn joined_members()
 pub fn names_twice()
     ensures { DuplicatesExample }
 {}
+
+#[cfg(test)]
+mod tests {
+    use super::*;
+
+    #[test]
+    fn each_example_holds() {
+        joined_families();
+        conflict();
+        cycle();
+        two_kinds();
+        joined_members();
+        names_twice();
+    }
+}

@@ -70,3 +70,26 @@ pub fn universe_named()
 pub fn table_verdict_is_one()
     ensures { TableVerdictIsOne }
 {}
+
+#[cfg(test)]
+mod tests {
+    use super::*;
+
+    #[test]
+    fn each_law_holds() {
+        direct_supers();
+        top_level();
+        levels();
+        heirs();
+        supers_chain();
+        members_inherited();
+        supers_of_members();
+        universe_closed();
+        reach_closed();
+        strict_order();
+        nothing_twice();
+        members_are_one();
+        universe_named();
+        table_verdict_is_one();
+    }
+}
