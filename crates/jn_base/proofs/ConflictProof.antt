@@ -10,7 +10,8 @@ use Rattle.jn_base.specs.Members.{MethodAt, Least}
 use Rattle.jn_base.specs.Duplicates.{has_name}
 use Rattle.jn_base.specs.SmallExamples.{a, b, c, d, E, n, conflicting, settled}
 use Rattle.jn_base.proofs.SuperLaws.{sup_inherited, member_heir, top_direct, direct_cases, direct_above}
-use Rattle.jn_base.proofs.ExampleTools.{OneOf, one, sups_kept, top_edge, top_extends, inner_extends, inner_member, top_member, inner_method, method_in, in_cons, in_none, has_in, tops, keeps, top_sup, of_each, one_package}
+use Rattle.jn_base.proofs.ExampleTools.{OneOf, one, sups_kept, top_edge, top_extends, inner_extends, inner_member, top_member, inner_method, method_in, tops, keeps, top_sup, of_each, one_package}
+use Rattle.jn_base.proofs.NameTests.{in_cons, in_none, has_in}
 
 d_b : Direct conflicting (d ∷ []) (b ∷ [])
 d_b = top_edge conflicting d b refl refl

@@ -15,75 +15,8 @@ use Rattle.jn_base.specs.declared.tree.Kind.TheVariants as kind
 use Rattle.jn_base.specs.ExampleTrees.{line}
 use Rattle.jn_base.specs.Members.{IsHome, HasKind, MethodAt, FieldAt, Least, IsField}
 use Rattle.jn_base.specs.Duplicates.{has_name}
+use Rattle.jn_base.proofs.NameTests.{in_cons, in_none, first, later, and_both, or_either, same_name, itself_named, or_left, or_right, second, has_from, has_in, implies, implied, passes}
 use Rattle.jn_base.proofs.SuperLaws.{top_direct, sup_level}
-
-pub in_cons : {X : Type 0} (y : X) (ys : List X) (x : X) → Contains (y ∷ ys) x → (y ≡ x) ⊎ Contains ys x
-in_cons y ys x (zero, l, e) = inl e
-in_cons y ys x (suc k, l, e) = inr (k, omega (arith, l), e)
-
-pub in_none : {X : Type 0} (x : X) → Contains [] x → ⊥
-in_none x c = omega (arith, c.1)
-
-pub first : {X : Type 0} (x : X) (xs : List X) → Contains (x ∷ xs) x
-first x xs = (0, omega arith, refl)
-
-pub later : {X : Type 0} (y : X) (xs : List X) (x : X) → Contains xs x → Contains (y ∷ xs) x
-later y xs x (k, l, e) = (suc k, omega (arith, l), e)
-
-and_both : (a b : Bool) → (a && b) ≡ true → (a ≡ true) × (b ≡ true)
-and_both true b e = (refl, e)
-and_both false b e = cc
-
-or_either : (a b : Bool) → (a || b) ≡ true → (a ≡ true) ⊎ (b ≡ true)
-or_either true b e = inl refl
-or_either false b e = inr e
-
-pub same_name : (a b : Name) → nat_eq a.0 b.0 ≡ true → a ≡ b
-same_name a b e = ap (λ (n : ℕ). record { 0 = n }) (numbers a.0 b.0 e) where
-  numbers : (m n : ℕ) → nat_eq m n ≡ true → m ≡ n
-  numbers m n h = grind arith
-
-pub itself_named : (a : Name) → nat_eq a.0 a.0 ≡ true
-itself_named a = grind arith
-
-or_left : (a b : Bool) → a ≡ true → (a || b) ≡ true
-or_left true b e = refl
-or_left false b e = cc
-
-or_right : (a b : Bool) → b ≡ true → (a || b) ≡ true
-or_right true b e = refl
-or_right false b e = e
-
-has_either : (y : Name) (ys : List Name) (x : Name) → (y ≡ x) ⊎ (has_name ys x ≡ true) → has_name (y ∷ ys) x ≡ true
-has_either y ys x (inl e) = or_left (nat_eq y.0 x.0) (has_name ys x) (subst (λ (n : Name). nat_eq y.0 n.0 ≡ true) e (itself_named y))
-has_either y ys x (inr h) = or_right (nat_eq y.0 x.0) (has_name ys x) h
-
-pub second : {A B C : Type 0} → (B → C) → A ⊎ B → A ⊎ C
-second f (inl a) = inl a
-second f (inr b) = inr (f b)
-
-pub has_from : (names : List Name) (x : Name) → Contains names x → has_name names x ≡ true
-has_from [] x c = absurd (in_none x c)
-has_from (y ∷ ys) x c = has_either y ys x (second (λ (h : Contains ys x). has_from ys x h) (in_cons y ys x c))
-
-contains_either : (y : Name) (ys : List Name) (x : Name) → (nat_eq y.0 x.0 ≡ true) ⊎ Contains ys x → Contains (y ∷ ys) x
-contains_either y ys x (inl h) = subst (Contains (y ∷ ys)) (same_name y x h) (first y ys)
-contains_either y ys x (inr h) = later y ys x h
-
-pub has_in : (names : List Name) (x : Name) → has_name names x ≡ true → Contains names x
-has_in [] x e = cc
-has_in (y ∷ ys) x e = contains_either y ys x (second (λ (h : has_name ys x ≡ true). has_in ys x h) (or_either (nat_eq y.0 x.0) (has_name ys x) e))
-
-abbrev pub implies : Bool → Bool → Bool
-implies true b = b
-implies false b = true
-
-implied : (a b : Bool) → implies a b ≡ true → a ≡ true → b ≡ true
-implied true b e h = e
-implied false b e h = cc
-
-pub passes : {X : Type 0} (t : X → Bool) (xs : List X) (x : X) → list_all t xs ≡ true → Contains xs x → t x ≡ true
-passes t xs x e c = All-contains (λ y. t y ≡ true) xs x (AllPass-from_list_all t xs e) c
 
 -- ---- tests of the declarations at depth 1 and at depth 2
 
@@ -109,13 +42,13 @@ keeps names d = implies (has_name names d.name.name) (list_all (λ n. has_name n
 pub data OneOf (Cs As : List Name) : Path → Type 0 where
   one : (C A : Name) → has_name Cs C ≡ true → has_name As A ≡ true → OneOf Cs As (C ∷ A ∷ [])
 
-top_kept : (p : Program) (As : List Name) → tops (keeps As) p ≡ true → (A D : Name) → has_name As A ≡ true → Extends p (A ∷ []) D → has_name As D ≡ true
+pub top_kept : (p : Program) (As : List Name) → tops (keeps As) p ≡ true → (A D : Name) → has_name As A ≡ true → Extends p (A ∷ []) D → has_name As D ≡ true
 top_kept p As e A D a x =
     let k = at_top p (keeps As) e A x.decl x.stands in
     let h = implied (has_name As x.decl.name.name) (list_all (λ n. has_name As n.name) x.decl.extends) k (subst (λ (n : Name). has_name As n ≡ true) (sym x.stands.1) a) in
     subst (λ (n : Name). has_name As n ≡ true) x.name (passes (λ n. has_name As n.name) x.decl.extends x.named h x.extends)
 
-inner_kept : (p : Program) (Cs : List Name) → inners (λ A. keeps Cs) p ≡ true → (C A D : Name) → has_name Cs C ≡ true → Extends p (C ∷ A ∷ []) D → has_name Cs D ≡ true
+pub inner_kept : (p : Program) (Cs : List Name) → inners (λ A. keeps Cs) p ≡ true → (C A D : Name) → has_name Cs C ≡ true → Extends p (C ∷ A ∷ []) D → has_name Cs D ≡ true
 inner_kept p Cs e C A D c x =
     let k = at_inner p (λ A. keeps Cs) e C A x.decl x.stands in
     let h = implied (has_name Cs x.decl.name.name) (list_all (λ n. has_name Cs n.name) x.decl.extends) k (subst (λ (n : Name). has_name Cs n ≡ true) (sym x.stands.1) c) in
@@ -459,3 +392,30 @@ only y x (inr c) = absurd (in_none x c)
 
 pub has_only : (y x : Name) → has_name (y ∷ []) x ≡ true → y ≡ x
 has_only y x e = only y x (in_cons y [] x (has_in (y ∷ []) x e))
+
+-- ---- supers of a package, within a list that is closed
+
+data TopOf (As : List Name) : Path → Type 0 where
+  top_in : (A : Name) → has_name As A ≡ true → TopOf As (A ∷ [])
+
+top_of_step : (p : Program) (As : List Name) → tops (keeps As) p ≡ true → (R S : Path) → Direct p R S → TopOf As R → TopOf As S
+top_of_step p As t R S d (top_in A a) =
+    let x = (top_direct p A S).0 d in
+    subst (TopOf As) (sym x.3) (top_in x.0 (top_kept p As t A x.0 a x.1))
+
+top_of_name : {As : List Name} {S : Path} → TopOf As S → (B : Name) × (S ≡ B ∷ []) × (has_name As B ≡ true)
+top_of_name (top_in A a) = (A, refl, a)
+
+pub top_kept_sup : (p : Program) (As : List Name) → tops (keeps As) p ≡ true → (A : Name) → has_name As A ≡ true → (S : Path) → Sup p (A ∷ []) S
+    → (B : Name) × (S ≡ B ∷ []) × (has_name As B ≡ true)
+top_kept_sup p As t A a S s = top_of_name (sup_closed (TopOf As) (top_of_step p As t) s (top_in A a))
+
+pub not_package : (d : Decl) → is_package d ≡ true → d.kind ≡ kind.Class → ⊥
+not_package d e k = clash (package_from d.kind e) k where
+  clash : d.kind ≡ kind.Package → d.kind ≡ kind.Class → ⊥
+  clash h i = cc (h, i)
+
+pub not_class : (d : Decl) → is_class d ≡ true → d.kind ≡ kind.Package → ⊥
+not_class d e k = clash (class_from d.kind e) k where
+  clash : d.kind ≡ kind.Class → d.kind ≡ kind.Package → ⊥
+  clash h i = cc (h, i)

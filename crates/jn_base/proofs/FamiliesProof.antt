@@ -11,7 +11,8 @@ use Rattle.jn_base.specs.declared.tree.Method.{Method}
 use Rattle.jn_base.specs.declared.tree.Field.{Field}
 use Rattle.jn_base.specs.FamiliesExample.{families, all_four, Lit, Exp, Add, base, both, shower, doubler, eval, show, v, IsClassOf}
 use Rattle.jn_base.proofs.SuperLaws.{sup_joined, sup_inherited, member_heir}
-use Rattle.jn_base.proofs.ExampleTools.{tops, inners, keeps, OneOf, one, sups_kept, top_above, inner_member, inner_above, has_in, in_cons, in_none, EachOf, of_each, same, method_in, field_in, inner_method, inner_field, least_from, field_from, top_member}
+use Rattle.jn_base.proofs.ExampleTools.{tops, inners, keeps, OneOf, one, sups_kept, top_above, inner_member, inner_above, EachOf, of_each, same, method_in, field_in, inner_method, inner_field, least_from, field_from, top_member}
+use Rattle.jn_base.proofs.NameTests.{has_in, in_cons, in_none}
 
 tops_ok : tops (keeps all_four) families ≡ true
 tops_ok = refl

@@ -3,8 +3,11 @@ pub mod ConflictProof
 pub mod DuplicatesProof
 pub mod ExampleTools
 pub mod FamiliesProof
+pub mod NameTests
 pub mod Reaching
 pub mod SmallProofs
 pub mod SuperLaws
 pub mod TableLaws
 pub mod Unique
+pub mod VerdictProofs
+pub mod VerdictTools

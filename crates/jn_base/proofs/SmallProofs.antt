@@ -7,7 +7,8 @@ use Rattle.jn_base.specs.Supers.{Sup, itself, Member}
 use Rattle.jn_base.specs.Universe.{InUniverse}
 use Rattle.jn_base.specs.SmallExamples.{circular, A, B, AB, C, D, CycleExample, mixed, a, b, c, d, MixedExample, joined, X, U, V, JoinedExample}
 use Rattle.jn_base.proofs.SuperLaws.{sup_inherited, member_heir}
-use Rattle.jn_base.proofs.ExampleTools.{OneOf, one, sups_kept, top_above, inner_above, inner_edge, inner_member, top_member, inner_class, inner_package, inner_home, outer_home, none_inside, deep_declared, deep_none, tops, keeps, has_from, has_only, first}
+use Rattle.jn_base.proofs.ExampleTools.{OneOf, one, sups_kept, top_above, inner_above, inner_edge, inner_member, top_member, inner_class, inner_package, inner_home, outer_home, none_inside, deep_declared, deep_none, tops, keeps, has_only}
+use Rattle.jn_base.proofs.NameTests.{has_from, first}
 
 ab_a : Sup circular (AB ∷ []) (A ∷ [])
 ab_a = top_above circular AB A refl refl

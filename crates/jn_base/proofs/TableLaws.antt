@@ -23,7 +23,7 @@ use Rattle.jn_base.specs.LawsOfTable.{NamesItsPaths}
 use Rattle.jn_base.proofs.SuperLaws.{sup_joined}
 use Rattle.jn_base.proofs.Reaching.{declared_in_universe}
 use Rattle.jn_base.proofs.ClassOrders.{before_irreflexive, before_total, before_chain}
-use Rattle.jn_base.proofs.ExampleTools.{in_cons, in_none, first, later}
+use Rattle.jn_base.proofs.NameTests.{in_cons, in_none, first, later}
 use Rattle.jn_base.proofs.Unique.{one_decl}
 
 -- ---- homes
@@ -90,15 +90,15 @@ module _ (p : Program) where
     not_first (inl h) = absurd (before_irreflexive p x (subst (Before p x) (sym h ∙ e) (All-contains (Before p x) xs z a c)))
     not_first (inr k) = k
 
-  Sorted : List Path → Type 0
+  abbrev pub Sorted : List Path → Type 0
   Sorted xs = IsStrictlySortedBy (class_cmp p) xs
 
   sorted_head : (x : Path) (xs : List Path) → Sorted (x ∷ xs) → All (λ z. Before p x z) xs
-  unfolding Sorted IsStrictlySortedBy
+  unfolding IsStrictlySortedBy
   sorted_head x xs s = All-from_recursion (λ z. Before p x z) xs s.0
 
   sorted_tail : (x : Path) (xs : List Path) → Sorted (x ∷ xs) → Sorted xs
-  unfolding Sorted IsStrictlySortedBy
+  unfolding IsStrictlySortedBy
   sorted_tail x xs s = s.1
 
   -- an element of xs is none of ys' first, which is before x
@@ -124,7 +124,7 @@ module _ (p : Program) where
       let l = ih (x ∷ xs) s (all_later x xs y ys f (sorted_head x xs s) (sorted_head y ys t) k) in
       omega (arith, l)
 
-  no_longer : (ys xs : List Path) → Sorted xs → Sorted ys → ((z : Path) → Contains xs z → Contains ys z) → length xs ≤ length ys
+  pub no_longer : (ys xs : List Path) → Sorted xs → Sorted ys → ((z : Path) → Contains xs z → Contains ys z) → length xs ≤ length ys
   no_longer [] [] s t f = omega arith
   no_longer [] (x ∷ xs) s t f = absurd (in_none x (f x (first x xs)))
   no_longer (y ∷ ys) [] s t f = omega arith
@@ -136,13 +136,12 @@ module _ (p : Program) where
   all_then x (z ∷ xs) y a b = (a.0, all_then x xs y a.1 b)
 
   sorted_then : (xs : List Path) (y : Path) → Sorted xs → ((x : Path) → Contains xs x → Before p x y) → Sorted (xs ++ y ∷ [])
-  unfolding Sorted IsStrictlySortedBy
+  unfolding IsStrictlySortedBy
   sorted_then [] y s b = (tt, tt)
   sorted_then (x ∷ xs) y s b = (all_then x xs y s.0 (b x (first x xs)), sorted_then xs y s.1 (λ z c. b z (later x xs z c)))
 
   -- of two paths with n before them neither is before the other
   not_before : (n : ℕ) (R S : Path) → IsPathAfter p n R → IsPathAfter p n S → Before p R S → ⊥
-  unfolding Sorted
   not_before n R S r s b =
       let t = sorted_then r.earlier R r.in_order (λ Q c. ((r.exact Q).0 c).1) in
       let l = no_longer s.earlier (r.earlier ++ R ∷ []) t s.in_order within in

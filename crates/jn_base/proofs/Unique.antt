@@ -13,7 +13,7 @@ use Rattle.jn_base.specs.declared.tree.Decl.{Decl}
 use Rattle.jn_base.specs.Paths.{Path, nested, and_nested, methods, and_method, fields, and_field, StandsIn, StandsAt}
 use Rattle.jn_base.specs.Members.{MethodAt, FieldAt}
 use Rattle.jn_base.specs.Duplicates.{only_if, has_name, of_decls, of_fields, of_methods, Given, same_given, InMember, InDecl, in_members, in_decls, in_lists, in_member, in_decl, member_step, decl_step, duplicates}
-use Rattle.jn_base.proofs.ExampleTools.{in_cons, in_none, itself_named, same_name, second}
+use Rattle.jn_base.proofs.NameTests.{in_cons, in_none, itself_named, same_name, second}
 
 -- ---- the folds, opened
 

@@ -11,3 +11,4 @@ pub mod SmallExamples
 pub mod Supers
 pub mod TableRules
 pub mod Universe
+pub mod VerdictExamples

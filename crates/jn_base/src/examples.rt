@@ -1,6 +1,7 @@
 ghost use Rattle.jn_base.specs.DuplicatesExample.{DuplicatesExample};
 ghost use Rattle.jn_base.specs.FamiliesExample.{FamiliesExample};
 ghost use Rattle.jn_base.specs.SmallExamples.{ConflictExample, CycleExample, MixedExample, JoinedExample};
+ghost use Rattle.jn_base.specs.VerdictExamples.{VerdictExamples};
 
 /// The supers and members of the classes of a family that joins two heirs of one family.
 pub fn joined_families()
@@ -32,6 +33,11 @@ pub fn names_twice()
     ensures { DuplicatesExample }
 {}
 
+/// A class table that passes, and one each that is refused for a cycle, two kinds and an unknown name.
+pub fn table_verdicts()
+    ensures { VerdictExamples }
+{}
+
 #[cfg(test)]
 mod tests {
     use super::*;
@@ -44,5 +50,6 @@ mod tests {
         two_kinds();
         joined_members();
         names_twice();
+        table_verdicts();
     }
 }
