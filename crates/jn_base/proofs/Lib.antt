@@ -3,6 +3,7 @@ pub mod ConflictProof
 pub mod DuplicatesProof
 pub mod ExampleTools
 pub mod FamiliesProof
+pub mod Homes
 pub mod NameTests
 pub mod Reaching
 pub mod SmallProofs

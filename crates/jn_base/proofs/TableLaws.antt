@@ -17,8 +17,8 @@ use Rattle.jn_base.specs.Supers.{Sup, itself, above, Member, IsOwnSuper}
 use Rattle.jn_base.specs.Universe.{IsNamespace, InUniverse}
 use Rattle.jn_base.specs.ClassOrder.{class_cmp, Before, HasDistinctNames, HasItsNames, IsFirst}
 use Rattle.jn_base.specs.Members.{IsHome, Least}
-use Rattle.jn_base.specs.Duplicates.{duplicates}
-use Rattle.jn_base.specs.TableRules.{MOST_PATHS, IsPathAfter, IsCycle, IsMixed, ExtendsUnknown, HasUnknown, at_home, unknown_at, TableRefuses, too_many, cycle, two_kinds, unknown, TablePasses}
+use Rattle.jn_base.specs.Duplicates.{duplicates, IsFirstDuplicate}
+use Rattle.jn_base.specs.TableRules.{DeclarationsRefuse, twice, table, DeclarationsPass, MOST_PATHS, IsPathAfter, IsCycle, IsMixed, ExtendsUnknown, HasUnknown, at_home, unknown_at, TableRefuses, too_many, cycle, two_kinds, unknown, TablePasses}
 use Rattle.jn_base.specs.LawsOfTable.{NamesItsPaths}
 use Rattle.jn_base.proofs.SuperLaws.{sup_joined}
 use Rattle.jn_base.proofs.Reaching.{declared_in_universe}
@@ -213,3 +213,23 @@ refused_or_passed p r (too_many R at o h e) t = t.within R o
 refused_or_passed p r (cycle R at m o h e) t = t.no_cycle R o.holds
 refused_or_passed p r (two_kinds R at m c o h e) t = t.one_kind R o.holds
 refused_or_passed p r (unknown R x m c d o h e) t = t.all_known R o.holds
+
+-- ---- with the names that stand twice
+
+no_twice : (p : Program) (r : Refusal) → IsFirstDuplicate p r → duplicates p ≡ [] → ⊥
+no_twice p r d e = clash (sym d.is ∙ e) where
+  clash : r ∷ d.others ≡ [] → ⊥
+  clash h = cc h
+
+first_same : (r s : Refusal) (xs ys : List Refusal) → r ∷ xs ≡ s ∷ ys → r ≡ s
+first_same r s xs ys e = cc
+
+pub declarations_refused_or_passed : (p : Program) (r : Refusal) → DeclarationsRefuse p r → DeclarationsPass p → ⊥
+declarations_refused_or_passed p r (twice d) t = no_twice p r d t.once
+declarations_refused_or_passed p r (table e h) t = refused_or_passed p r h t.table
+
+pub one_declarations_refusal : (p : Program) → HasDistinctNames p → NamesItsPaths p → (r s : Refusal) → DeclarationsRefuse p r → DeclarationsRefuse p s → r ≡ s
+one_declarations_refusal p u n r s (twice d) (twice e) = first_same r s d.others e.others (sym d.is ∙ e.is)
+one_declarations_refusal p u n r s (twice d) (table e k) = absurd (no_twice p r d e)
+one_declarations_refusal p u n r s (table e h) (twice d) = absurd (no_twice p s d e)
+one_declarations_refusal p u n r s (table e h) (table f k) = one_refusal p u n e r s h k

@@ -99,10 +99,16 @@ first_cycle : (Q : Path) → TwoLevels (C ∷ D ∷ []) (A ∷ AB ∷ B ∷ []) 
 unfolding ab_top
 first_cycle Q (package_of K a) o b = no_top_cycle circular ab_top refl K o
 first_cycle Q (class_of N K c a) o b =
-    of_each (A ∷ AB ∷ B ∷ []) (λ L. IsOwnSuper circular (N ∷ L ∷ []) → Before circular (N ∷ L ∷ []) (C ∷ AB ∷ []) → ⊥)
-    (λ o b. no_class_cycle circular (C ∷ D ∷ []) (A ∷ []) c_first in_a_of N A c refl o, (
-        λ o b. not_before_ab N (has_in (C ∷ D ∷ []) N c) b, (
-          λ o b. not_before_b N (has_in (C ∷ D ∷ []) N c) b, tt)))
+    of_each (A ∷ AB ∷ B ∷ []) (λ L. IsOwnSuper circular (N ∷ L ∷ []) → Before circular (N ∷ L ∷ []) (C ∷ AB ∷ []) → ⊥) (
+      λ o b. no_class_cycle circular (C ∷ D ∷ []) (A ∷ []) c_first in_a_of N A c refl o,
+      (
+        λ o b. not_before_ab N (has_in (C ∷ D ∷ []) N c) b,
+        (
+          λ o b. not_before_b N (has_in (C ∷ D ∷ []) N c) b,
+          tt,
+        ),
+      ),
+    )
     K (has_in (A ∷ AB ∷ B ∷ []) K a) o b
 
 ab_a : Sup circular (AB ∷ []) (A ∷ [])
@@ -118,11 +124,14 @@ ab_d : Member circular (AB ∷ []) D
 ab_d = inner_member circular AB A D ab_a (simp outs-Inner)
 
 ab_cycle : IsCycle circular (C ∷ AB ∷ [])
-ab_cycle = (((tt, top_member circular AB refl), ab_c), record {
-  next = D ∷ AB ∷ [];
-  direct = inner_edge circular AB A C D ab_a (simp outs-Inner) ab_d;
-  back = inner_above circular AB B D C ab_b (simp outs-Inner) ab_c;
-})
+ab_cycle = (
+  ((tt, top_member circular AB refl), ab_c),
+  record {
+    next = D ∷ AB ∷ [];
+    direct = inner_edge circular AB A C D ab_a (simp outs-Inner) ab_d;
+    back = inner_above circular AB B D C ab_b (simp outs-Inner) ab_c;
+  },
+)
 
 pub circular_refused : TableRefuses circular (at_home rule.E08 (C ∷ AB ∷ []) (line 3))
 circular_refused =
@@ -156,9 +165,13 @@ mixed_acyclic Q (class_of N K c a) o = no_class_cycle mixed (C ∷ []) (A ∷ B 
 first_mixed : (Q : Path) → TwoLevels (C ∷ []) (A ∷ B ∷ []) Q → HasTwoKinds mixed Q → Before mixed Q (C ∷ B ∷ []) → ⊥
 first_mixed Q (package_of K a) h b = package_alone mixed K refl h
 first_mixed Q (class_of N K c a) h b =
-    of_each (A ∷ B ∷ []) (λ L. HasTwoKinds mixed (N ∷ L ∷ []) → Before mixed (N ∷ L ∷ []) (C ∷ B ∷ []) → ⊥)
-    (λ h b. class_alone mixed (C ∷ []) (A ∷ []) refl (simp outs-Inner) (simp outs-Inner) N A c refl h, (
-        λ h b. before_irreflexive mixed (C ∷ B ∷ []) (subst (λ (M : Name). Before mixed (M ∷ B ∷ []) (C ∷ B ∷ [])) (sym (has_only C N c)) b), tt))
+    of_each (A ∷ B ∷ []) (λ L. HasTwoKinds mixed (N ∷ L ∷ []) → Before mixed (N ∷ L ∷ []) (C ∷ B ∷ []) → ⊥) (
+      λ h b. class_alone mixed (C ∷ []) (A ∷ []) refl (simp outs-Inner) (simp outs-Inner) N A c refl h,
+      (
+        λ h b. before_irreflexive mixed (C ∷ B ∷ []) (subst (λ (M : Name). Before mixed (M ∷ B ∷ []) (C ∷ B ∷ [])) (sym (has_only C N c)) b),
+        tt,
+      ),
+    )
     K (has_in (A ∷ B ∷ []) K a) h b
 
 b_a : Sup mixed (B ∷ []) (A ∷ [])
@@ -168,9 +181,13 @@ a_c : Member mixed (A ∷ []) C
 a_c = inner_member mixed A A C itself (simp outs-Inner)
 
 b_c : IsMixed mixed (C ∷ B ∷ [])
-b_c = (((tt, top_member mixed B refl), member_heir b_a a_c), (
+b_c = (
+  ((tt, top_member mixed B refl), member_heir b_a a_c),
+  (
     inner_class mixed (C ∷ B ∷ []) A C (sup_inherited b_a a_c) (simp outs-Inner),
-    inner_package mixed (C ∷ B ∷ []) B C itself (simp outs-Inner)))
+    inner_package mixed (C ∷ B ∷ []) B C itself (simp outs-Inner),
+  ),
+)
 
 pub mixed_refused : TableRefuses mixed (at_home rule.E07 (C ∷ B ∷ []) (line 3))
 mixed_refused =

@@ -141,7 +141,7 @@ pub few_paths : (p : Program) (Cs As : List Name) → tops (top_of As) p ≡ tru
     → in_order p (paths_of Cs As) ≡ true → length (paths_of Cs As) < 4096 → NoneIs (IsOver p)
 few_paths p Cs As t i o l R r =
     let k = no_longer p (paths_of Cs As) r.earlier r.in_order (sorted_from p (paths_of Cs As) o)
-                (λ Q c. in_paths Cs As Q (universe_of p Cs As t i Q ((r.exact Q).0 c).0)) in
+    (λ Q c. in_paths Cs As Q (universe_of p Cs As t i Q ((r.exact Q).0 c).0)) in
     omega (arith, k, l, r.count)
 
 -- ---- no cycles: each direct super has a lower rank

@@ -1,5 +1,5 @@
 -- The names that stand twice where they may stand once.
-use Rattle.std.specs.Prelude.{List, [], ◌∷◌, ◌++◌, map, Bool, true, false, ◌&&◌, nat_eq, Option, Some, None}
+use Rattle.std.specs.Prelude.{◌≡◌, List, [], ◌∷◌, ◌++◌, map, Bool, true, false, ◌&&◌, nat_eq, Option, Some, None}
 use Rattle.std.specs.List.{list_any}
 use Rattle.jn_base.specs.declared.tree.Name.{Name}
 use Rattle.jn_base.specs.declared.tree.Named.{Named}
@@ -151,3 +151,8 @@ in_decls before (d ∷ ds) =
 -- body, list or method in which both stand, the name. The first one is answered.
 abbrev pub duplicates : Program → List Refusal
 duplicates p = in_decls [] (map in_decl p.decls)
+
+-- r is the first one
+pub record IsFirstDuplicate (p : Program) (r : Refusal) : Type 0 where
+  pub others : List Refusal
+  pub is : duplicates p ≡ r ∷ others

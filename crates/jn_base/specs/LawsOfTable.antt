@@ -14,7 +14,7 @@ use Rattle.jn_base.specs.Universe.{InUniverse}
 use Rattle.jn_base.specs.ClassOrder.{HasDistinctNames, HasItsNames}
 use Rattle.jn_base.specs.Members.{IsHome, MethodAt, FieldAt, Least, IsField}
 use Rattle.jn_base.specs.Duplicates.{duplicates}
-use Rattle.jn_base.specs.TableRules.{ExtendsUnknown, TableRefuses, TablePasses}
+use Rattle.jn_base.specs.TableRules.{ExtendsUnknown, DeclarationsRefuse, DeclarationsPass}
 
 -- where nothing is found twice, a path has one declaration and one home, and a body one method and one field of a name
 pub record OneEach (p : Program) : Type 0 where
@@ -43,10 +43,18 @@ NamesItsPaths p = (R : Path) → Declared p R → HasItsNames p R
 abbrev pub UniverseNamed : Type 0
 UniverseNamed = (p : Program) → NamesItsPaths p → (R : Path) → InUniverse p R → HasItsNames p R
 
--- a class table isn't both refused and passed, and has one refusal at most
+-- the declarations aren't both refused and passed, and have one refusal at most
 pub record OneVerdict (p : Program) : Type 0 where
-  pub not_both : (r : Refusal) → TableRefuses p r → TablePasses p → ⊥
-  pub one : HasDistinctNames p → NamesItsPaths p → duplicates p ≡ [] → (r s : Refusal) → TableRefuses p r → TableRefuses p s → r ≡ s
+  pub not_both : (r : Refusal) → DeclarationsRefuse p r → DeclarationsPass p → ⊥
+  pub one : HasDistinctNames p → NamesItsPaths p → (r s : Refusal) → DeclarationsRefuse p r → DeclarationsRefuse p s → r ≡ s
 
-abbrev pub TableVerdictIsOne : Type 0
-TableVerdictIsOne = (p : Program) → OneVerdict p
+abbrev pub DeclarationsVerdictIsOne : Type 0
+DeclarationsVerdictIsOne = (p : Program) → OneVerdict p
+
+-- each path of the universe has a home
+pub record HasHome (p : Program) (R : Path) : Type 0 where
+  pub at : Place
+  pub home : IsHome p R at
+
+abbrev pub HomesExist : Type 0
+HomesExist = (p : Program) (R : Path) → InUniverse p R → HasHome p R

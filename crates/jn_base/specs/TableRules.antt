@@ -1,5 +1,5 @@
 -- What is refused of the class table.
-use Rattle.std.specs.Prelude.{◌≡◌, ℕ, List, ◌∷◌, ◌++◌, length, drop, Contains, All, Some, None, ◌↔◌}
+use Rattle.std.specs.Prelude.{◌≡◌, ℕ, List, [], ◌∷◌, ◌++◌, length, drop, Contains, All, Some, None, ◌↔◌}
 use Rattle.std.specs.List.Sorted.{IsStrictlySortedBy}
 use Rattle.jn_base.specs.declared.tree.Named.{Named}
 use Rattle.jn_base.specs.declared.tree.Place.{Place}
@@ -12,6 +12,7 @@ use Rattle.jn_base.specs.Paths.{Path, shown, StandsAt}
 use Rattle.jn_base.specs.Supers.{Member, IsOwnSuper}
 use Rattle.jn_base.specs.Universe.{InUniverse}
 use Rattle.jn_base.specs.ClassOrder.{class_cmp, Before, IsFirst}
+use Rattle.jn_base.specs.Duplicates.{duplicates, IsFirstDuplicate}
 use Rattle.jn_base.specs.Members.{IsHome, HasTwoKinds}
 
 -- the greatest number of paths in a universe
@@ -80,3 +81,12 @@ pub record TablePasses (p : Program) : Type 0 where
   pub no_cycle : NoneIs (IsCycle p)
   pub one_kind : NoneIs (IsMixed p)
   pub all_known : NoneIs (HasUnknown p)
+
+-- What is refused of a program's declarations: a name that stands twice, and then the class table.
+pub data DeclarationsRefuse (p : Program) (r : Refusal) : Type 0 where
+  twice : IsFirstDuplicate p r → DeclarationsRefuse p r
+  table : duplicates p ≡ [] → TableRefuses p r → DeclarationsRefuse p r
+
+pub record DeclarationsPass (p : Program) : Type 0 where
+  pub once : duplicates p ≡ []
+  pub table : TablePasses p

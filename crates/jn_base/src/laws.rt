@@ -1,4 +1,4 @@
-ghost use Rattle.jn_base.specs.LawsOfTable.{NothingTwice, MembersAreOne, UniverseNamed, TableVerdictIsOne};
+ghost use Rattle.jn_base.specs.LawsOfTable.{NothingTwice, MembersAreOne, UniverseNamed, DeclarationsVerdictIsOne, HomesExist};
 ghost use Rattle.jn_base.specs.LawsOfSupers.{DirectSupers, TopLevel, Levels, Heirs, SupersChain, MembersInherited, SupersOfMembers, UniverseClosed, ReachClosed, StrictOrder};
 
 /// The direct supers of a member, said by members.
@@ -66,9 +66,14 @@ pub fn universe_named()
     ensures { UniverseNamed }
 {}
 
-/// A class table has one refusal at most, and none where it passes.
-pub fn table_verdict_is_one()
-    ensures { TableVerdictIsOne }
+/// The declarations have one refusal at most, and none where they pass.
+pub fn declarations_verdict_is_one()
+    ensures { DeclarationsVerdictIsOne }
+{}
+
+/// Each path of the universe has a home.
+pub fn homes_exist()
+    ensures { HomesExist }
 {}
 
 #[cfg(test)]
@@ -90,6 +95,7 @@ mod tests {
         nothing_twice();
         members_are_one();
         universe_named();
-        table_verdict_is_one();
+        declarations_verdict_is_one();
+        homes_exist();
     }
 }
