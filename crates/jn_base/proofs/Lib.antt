@@ -4,8 +4,10 @@ pub mod DuplicatesProof
 pub mod ExampleTools
 pub mod FamiliesProof
 pub mod Homes
+pub mod LocalsTwice
 pub mod NameTests
 pub mod Reaching
+pub mod Seconds
 pub mod SmallProofs
 pub mod SuperLaws
 pub mod TableLaws

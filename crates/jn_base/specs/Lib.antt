@@ -10,5 +10,6 @@ pub mod Paths
 pub mod SmallExamples
 pub mod Supers
 pub mod TableRules
+pub mod Twice
 pub mod Universe
 pub mod VerdictExamples
