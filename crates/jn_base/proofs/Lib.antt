@@ -3,6 +3,8 @@ pub mod ConflictProof
 pub mod DuplicatesProof
 pub mod ExampleTools
 pub mod FamiliesProof
+pub mod FoundTwice
+pub mod GivenTwice
 pub mod Homes
 pub mod LocalsTwice
 pub mod NameTests
@@ -11,6 +13,7 @@ pub mod Seconds
 pub mod SmallProofs
 pub mod SuperLaws
 pub mod TableLaws
+pub mod TreeTwice
 pub mod Unique
 pub mod VerdictProofs
 pub mod VerdictTools

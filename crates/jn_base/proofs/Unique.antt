@@ -39,12 +39,12 @@ not_both : (b : Bool) → b ≡ true → b ≡ false → ⊥
 not_both true e h = cc h
 not_both false e h = cc e
 
-some_same : {X : Type 0} (x y : X) → ◌≡◌ {A = Option X} (Some x) (Some y) → x ≡ y
+pub some_same : {X : Type 0} (x y : X) → ◌≡◌ {A = Option X} (Some x) (Some y) → x ≡ y
 some_same x y e = cc
 
 -- ---- what a member gives, and what is inside it
 
-gives : Member-F Member Decl → Given
+unfoldable pub gives : Member-F Member Decl → Given
 gives (Member-F.Inner d) = record { space = of_decls; name = d.name }
 gives (Member-F.Slot f) = record { space = of_fields; name = f.name }
 gives (Member-F.Body m) = record { space = of_methods; name = m.name }
@@ -55,15 +55,15 @@ given_opened (Member-F.Inner d) = ap (λ (x : InDecl). record { space = of_decls
 given_opened (Member-F.Slot f) = refl
 given_opened (Member-F.Body m) = refl
 
-given_is : (m : Member) → (in_member m).given ≡ gives (out-Member m)
+pub given_is : (m : Member) → (in_member m).given ≡ gives (out-Member m)
 given_is m = ap (λ (x : InMember). x.given) (member_opened m) ∙ given_opened (out-Member m)
 
-inside_is : (m : Member) (d : Decl) (R : Path) → out-Member m ≡ Member-F.Inner d → (in_member m).inside R ≡ (in_decl d).inside R
+pub inside_is : (m : Member) (d : Decl) (R : Path) → out-Member m ≡ Member-F.Inner d → (in_member m).inside R ≡ (in_decl d).inside R
 inside_is m d R e =
     ap (λ (x : InMember). x.inside R) (member_opened m)
     ∙ ap (λ (o : Member-F Member Decl). (member_step (map-Member _ _ _ _ in_member in_decl o)).inside R) e
 
-givens : List Member → List Given
+unfoldable pub givens : List Member → List Given
 givens [] = []
 givens (m ∷ ms) = gives (out-Member m) ∷ givens ms
 
@@ -252,7 +252,7 @@ record TopFound (before : List Name) (d : Decl) (ds : List Decl) : Type 0 where
   inside : (in_decl d).inside [] ≡ []
   rest : in_decls (d.name.name ∷ before) (map in_decl ds) ≡ []
 
-name_is : (d : Decl) → (in_decl d).name ≡ d.name
+pub name_is : (d : Decl) → (in_decl d).name ≡ d.name
 name_is d = ap (λ (x : InDecl). x.name) (decl_opened d)
 
 top_found : (before : List Name) (d : Decl) (ds : List Decl) → in_decls before (map in_decl (d ∷ ds)) ≡ [] → TopFound before d ds

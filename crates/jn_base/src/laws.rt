@@ -1,3 +1,4 @@
+ghost use Rattle.jn_base.specs.Twice.{DuplicatesAreTwice};
 ghost use Rattle.jn_base.specs.LawsOfTable.{NothingTwice, MembersAreOne, UniverseNamed, DeclarationsVerdictIsOne, HomesExist};
 ghost use Rattle.jn_base.specs.LawsOfSupers.{DirectSupers, TopLevel, Levels, Heirs, SupersChain, MembersInherited, SupersOfMembers, UniverseClosed, ReachClosed, StrictOrder};
 
@@ -76,6 +77,11 @@ pub fn homes_exist()
     ensures { HomesExist }
 {}
 
+/// The duplicates that are found are the names that stand twice, and no others.
+pub fn duplicates_are_twice()
+    ensures { DuplicatesAreTwice }
+{}
+
 #[cfg(test)]
 mod tests {
     use super::*;
@@ -97,5 +103,6 @@ mod tests {
         universe_named();
         declarations_verdict_is_one();
         homes_exist();
+        duplicates_are_twice();
     }
 }
