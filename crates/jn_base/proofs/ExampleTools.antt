@@ -1,8 +1,6 @@
 -- Facts of small programs, by tests that compute.
-use Rattle.std.proofs.Common.{◌≡◌, ◌<◌, ℕ, List, [], ◌∷◌, length, zero, suc, refl, sym, ap, subst, Bool, true, false, ◌||◌, ◌&&◌, nat_eq, ◌⊎◌, inl, inr, arith, Contains, not, drop}
+use Rattle.std.proofs.Common.{◌≡◌, ◌<◌, ℕ, List, [], ◌∷◌, length, zero, suc, refl, sym, subst, Bool, true, false, ◌||◌, ◌&&◌, nat_eq, ◌⊎◌, inl, inr, arith, Contains, not, drop}
 use Rattle.std.specs.List.{list_all, list_any}
-use Rattle.std.proofs.lemmas.List.Sums.{AllPass-from_list_all}
-use Rattle.std.proofs.lemmas.List.Elements.{All-contains}
 use Rattle.jn_base.specs.declared.tree.Name.{Name}
 use Rattle.jn_base.specs.declared.tree.Program.{Program}
 use Rattle.jn_base.specs.declared.tree.Decl.{Decl}
@@ -15,7 +13,7 @@ use Rattle.jn_base.specs.declared.tree.Kind.TheVariants as kind
 use Rattle.jn_base.specs.ExampleTrees.{line}
 use Rattle.jn_base.specs.Members.{IsHome, HasKind, MethodAt, FieldAt, Least, IsField}
 use Rattle.jn_base.specs.Duplicates.{has_name}
-use Rattle.jn_base.proofs.NameTests.{in_cons, in_none, first, later, and_both, or_either, same_name, itself_named, or_left, or_right, second, has_from, has_in, implies, implied, passes}
+use Rattle.jn_base.proofs.NameTests.{in_cons, in_none, first, later, and_both, or_either, same_name, itself_named, or_left, or_right, second, has_in, implies, implied, passes}
 use Rattle.jn_base.proofs.SuperLaws.{top_direct, sup_level}
 
 -- ---- tests of the declarations at depth 1 and at depth 2

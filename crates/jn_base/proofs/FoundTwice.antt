@@ -1,25 +1,15 @@
 -- The duplicates of a program are what stands twice.
-use Rattle.std.proofs.Common.{◌≡◌, ℕ, List, [], ◌∷◌, ◌++◌, refl, sym, ap, ◌∙◌, subst, Bool, true, false, ◌⊎◌, inl, inr, ◌↔◌, Contains, map, Some, None}
+use Rattle.std.proofs.Common.{◌≡◌, List, [], ◌∷◌, ◌++◌, sym, ap, ◌∙◌, subst, true, ◌⊎◌, inl, inr, Contains, map}
 use Rattle.std.specs.List.{list_any}
 use Rattle.std.proofs.lemmas.List.Elements.{Contains-append_left, Contains-append_right, Contains-append_cases}
-use Rattle.jn_base.specs.declared.tree.Name.{Name}
-use Rattle.jn_base.specs.declared.tree.Named.{Named}
-use Rattle.jn_base.specs.declared.tree.Program.{Program}
-use Rattle.jn_base.specs.declared.tree.Method.{Method}
-use Rattle.jn_base.specs.declared.tree.Field.{Field}
-use Rattle.jn_base.specs.declared.tree.Member.{Member, out-Member, roll-Member, out-roll-Member}
-use Rattle.jn_base.specs.declared.tree.Member.TheOpen.{Member-F, Decl-F}
-use Rattle.jn_base.specs.declared.tree.Member.TheFolds.{map-Member, map-Decl, ind-Decl}
-use Rattle.jn_base.specs.declared.tree.Decl.{Decl, roll-Decl}
+use Rattle.jn_base.specs.declared.tree.Member.{Member, out-Member}
 use Rattle.jn_base.specs.declared.refusal.Refusal.{Refusal}
-use Rattle.jn_base.specs.Paths.{Path, nested, and_nested, methods, and_method, StandsIn, StandsAt}
-use Rattle.jn_base.specs.Duplicates.{only_if, has_name, seconds, of_decls, of_fields, of_methods, Given, same_given, InMember, InDecl, in_members, in_decls, in_lists, in_member, in_decl, in_method, member_step, decl_step, refusal, duplicate, duplicates}
-use Rattle.jn_base.specs.Twice.{IsSecond, decl_name, BodyTwice, extended, shared, adapted, declaration, field, method, inside, Twice, at_top, in_body}
+use Rattle.jn_base.specs.Paths.{Path}
+use Rattle.jn_base.specs.Duplicates.{only_if, Given, same_given, in_members, in_member, duplicate}
 use Rattle.jn_base.proofs.NameTests.{in_cons, in_none, first, later}
-use Rattle.jn_base.proofs.Seconds.{SecondIn, hit, next, only_has, only_from, seconds_to, seconds_from, second_is, second_from}
-use Rattle.jn_base.proofs.LocalsTwice.{found_method, method_found}
-use Rattle.jn_base.proofs.GivenTwice.{GivenTwice, given_hit, given_next, twice_to, twice_from, decl_names, field_names, method_names}
-use Rattle.jn_base.proofs.Unique.{decl_opened, member_opened, gives, givens, given_is, inside_is, name_is}
+use Rattle.jn_base.proofs.Seconds.{only_has, only_from}
+use Rattle.jn_base.proofs.GivenTwice.{GivenTwice, given_hit, given_next}
+use Rattle.jn_base.proofs.Unique.{gives, givens, given_is}
 
 -- ---- lists
 
@@ -60,7 +50,7 @@ found_next {ms = ms} m (by_member k c h) = by_member k (later m ms k c) h
 found_by : (R : Path) (before : List Given) (m : Member) (ms : List Member) (r : Refusal)
     → (Contains (in_members R (gives (out-Member m) ∷ before) (map in_member ms)) r → FoundIn R (gives (out-Member m) ∷ before) ms r)
     → Contains (only_if (list_any (same_given (in_member m).given) before) (duplicate R (in_member m).given.name ∷ [])) r
-        ⊎ (Contains ((in_member m).inside R) r ⊎ Contains (in_members R ((in_member m).given ∷ before) (map in_member ms)) r)
+    ⊎ (Contains ((in_member m).inside R) r ⊎ Contains (in_members R ((in_member m).given ∷ before) (map in_member ms)) r)
     → FoundIn R before (m ∷ ms) r
 unfolding givens
 found_by R before m ms r ih (inl c) =
@@ -82,7 +72,7 @@ members_found R before [] r c = absurd (in_none r c)
 members_found R before (m ∷ ms) r c =
     found_by R before m ms r (λ k. members_found R (gives (out-Member m) ∷ before) ms r k)
     (three (only_if (list_any (same_given (in_member m).given) before) (duplicate R (in_member m).given.name ∷ [])) ((in_member m).inside R)
-        (in_members R ((in_member m).given ∷ before) (map in_member ms)) r c)
+    (in_members R ((in_member m).given ∷ before) (map in_member ms)) r c)
 
 -- and the other way
 module _ (R : Path) (before : List Given) (m : Member) (ms : List Member) (r : Refusal) where
@@ -104,7 +94,7 @@ module _ (R : Path) (before : List Given) (m : Member) (ms : List Member) (r : R
   from_rest c =
       Contains-append_right own ((in_member m).inside R ++ in_members R ((in_member m).given ∷ before) (map in_member ms)) r
       (Contains-append_right ((in_member m).inside R) (in_members R ((in_member m).given ∷ before) (map in_member ms)) r
-          (subst (λ (g : Given). Contains (in_members R (g ∷ before) (map in_member ms)) r) (sym (given_is m)) c))
+      (subst (λ (g : Given). Contains (in_members R (g ∷ before) (map in_member ms)) r) (sym (given_is m)) c))
 
 own_from : (R : Path) (before : List Given) (m : Member) (ms : List Member) → list_any (same_given (in_member m).given) before ≡ true
     → Contains (own R before m ms (duplicate R (in_member m).given.name)) (duplicate R (in_member m).given.name)

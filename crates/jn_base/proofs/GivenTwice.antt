@@ -1,5 +1,5 @@
 -- What a body gives twice is, name space by name space, what stands twice among its names.
-use Rattle.std.proofs.Common.{◌≡◌, ℕ, List, [], ◌∷◌, ◌++◌, refl, sym, ap, ◌∙◌, subst, Bool, true, false, ◌||◌, ◌&&◌, nat_eq, ◌⊎◌, inl, inr, Contains, map, arith}
+use Rattle.std.proofs.Common.{◌≡◌, ℕ, List, [], ◌∷◌, refl, sym, ap, ◌∙◌, subst, Bool, true, false, ◌||◌, ◌&&◌, nat_eq, map, arith}
 use Rattle.std.specs.List.{list_any}
 use Rattle.jn_base.specs.declared.tree.Name.{Name}
 use Rattle.jn_base.specs.declared.tree.Named.{Named}

@@ -2,12 +2,10 @@
 use Rattle.std.proofs.Common.{◌≡◌, ◌<◌, ℕ, List, [], ◌∷◌, ◌++◌, zero, suc, drop, refl, sym, subst, Bool, true, false, nat_eq, ◌⊎◌, inl, inr, arith, Contains}
 use Rattle.std.proofs.lemmas.List.Elements.{Contains-append_left, Contains-append_right, Contains-append_cases}
 use Rattle.jn_base.specs.declared.tree.Name.{Name}
-use Rattle.jn_base.specs.declared.tree.Place.{Place}
 use Rattle.jn_base.specs.declared.tree.Program.{Program}
 use Rattle.jn_base.specs.declared.tree.Decl.{Decl}
-use Rattle.jn_base.specs.Paths.{Path, nested, StandsIn, StandsAt, Declared}
-use Rattle.jn_base.specs.Universe.{IsNamespace, InUniverse}
-use Rattle.jn_base.specs.Members.{IsHome}
+use Rattle.jn_base.specs.Paths.{Path, nested, StandsIn, Declared}
+use Rattle.jn_base.specs.Universe.{InUniverse}
 use Rattle.jn_base.specs.LawsOfTable.{HasHome}
 use Rattle.jn_base.proofs.NameTests.{in_cons, in_none, first, later, same_name, itself_named}
 use Rattle.jn_base.proofs.SuperLaws.{sup_root}

@@ -1,5 +1,5 @@
 -- The locals found in a method are those with a name in scope.
-use Rattle.std.proofs.Common.{◌≡◌, List, [], ◌∷◌, ◌++◌, refl, sym, ap, ◌∙◌, subst, Bool, true, false, ◌⊎◌, inl, inr, ◌↔◌, Contains, map}
+use Rattle.std.proofs.Common.{◌≡◌, List, [], ◌∷◌, ◌++◌, refl, sym, ap, ◌∙◌, subst, Bool, ◌⊎◌, inl, inr, Contains, map}
 use Rattle.std.proofs.lemmas.List.Elements.{Contains-append_left, Contains-append_right, Contains-append_cases}
 use Rattle.jn_base.specs.declared.tree.Name.{Name}
 use Rattle.jn_base.specs.declared.tree.Named.{Named}
@@ -10,7 +10,7 @@ use Rattle.jn_base.specs.declared.tree.Method.{Method}
 use Rattle.jn_base.specs.declared.tree.Stmt.{Stmt, out-Stmt, roll-Stmt, out-roll-Stmt}
 use Rattle.jn_base.specs.declared.tree.Stmt.TheOpen.{Stmt-F}
 use Rattle.jn_base.specs.declared.tree.Stmt.TheFolds.{fold_out-Stmt, map-Stmt, ind-Stmt}
-use Rattle.jn_base.specs.Duplicates.{only_if, has_name, seconds, InStmt, in_block, stmt_step, in_stmt, param_name, param_scope, in_method}
+use Rattle.jn_base.specs.Duplicates.{has_name, seconds, InStmt, in_block, stmt_step, in_stmt, param_name, param_scope, in_method}
 use Rattle.jn_base.specs.Twice.{LocalTwice, declared, behind_local, behind_other, within_block, within_then, within_else, within_while, MethodTwice, parameter, local}
 use Rattle.jn_base.proofs.NameTests.{in_none, has_from, has_in}
 use Rattle.jn_base.proofs.Seconds.{only_has, only_from, seconds_to, seconds_from, second_is, second_from}

@@ -1,12 +1,11 @@
 -- The second names of a list are those behind an equal one.
-use Rattle.std.proofs.Common.{◌≡◌, ℕ, List, [], ◌∷◌, ◌++◌, refl, sym, ap, ◌∙◌, subst, Bool, true, false, ◌||◌, ◌&&◌, nat_eq, ◌⊎◌, inl, inr, ◌↔◌, Contains, map}
-use Rattle.std.specs.List.{list_any}
+use Rattle.std.proofs.Common.{◌≡◌, List, [], ◌∷◌, ◌++◌, refl, sym, ap, ◌∙◌, subst, Bool, true, false, nat_eq, ◌⊎◌, inl, inr, Contains}
 use Rattle.std.proofs.lemmas.List.Elements.{Contains-append_left, Contains-append_right, Contains-append_cases}
 use Rattle.jn_base.specs.declared.tree.Name.{Name}
 use Rattle.jn_base.specs.declared.tree.Named.{Named}
-use Rattle.jn_base.specs.Duplicates.{only_if, has_name, seconds, Space, of_decls, of_fields, of_methods, same_space, Given, same_given}
+use Rattle.jn_base.specs.Duplicates.{only_if, has_name, seconds}
 use Rattle.jn_base.specs.Twice.{IsSecond}
-use Rattle.jn_base.proofs.NameTests.{in_cons, in_none, first, later, second, or_either, or_left, or_right, has_from, has_in, and_both, same_name, itself_named}
+use Rattle.jn_base.proofs.NameTests.{in_cons, in_none, first, later, second, or_either, or_left, or_right, same_name, itself_named}
 
 -- behind an equal one in the list, or in `seen`
 pub data SecondIn : List Name → List Named → Named → Type 0 where
@@ -60,6 +59,7 @@ next_split {seen} m {ns} {n} s = record {
       → (has_name seen n.name ≡ true) ⊎ ((k : Named) × Contains (m ∷ s.before) k × (k.name ≡ n.name))
   from_seen (inl e) = inr (m, first m s.before, same_name m.name n.name e)
   from_seen (inr h) = inl h
+
   by_name : (has_name (m.name ∷ seen) n.name ≡ true) ⊎ ((k : Named) × Contains s.before k × (k.name ≡ n.name))
       → (has_name seen n.name ≡ true) ⊎ ((k : Named) × Contains (m ∷ s.before) k × (k.name ≡ n.name))
   by_name (inl h) = from_seen (or_either (nat_eq m.name.0 n.name.0) (has_name seen n.name) h)

@@ -1,5 +1,5 @@
 -- The duplicates of a program are what stands twice: bodies, paths, and the tree.
-use Rattle.std.proofs.Common.{◌≡◌, ℕ, List, [], ◌∷◌, ◌++◌, refl, sym, ap, ◌∙◌, subst, Bool, true, false, ◌⊎◌, inl, inr, ◌↔◌, Contains, map, Some, None}
+use Rattle.std.proofs.Common.{◌≡◌, List, [], ◌∷◌, ◌++◌, refl, sym, ap, ◌∙◌, subst, true, ◌⊎◌, inl, inr, Contains, map, None}
 use Rattle.std.proofs.lemmas.List.Elements.{Contains-append_left, Contains-append_right, Contains-append_cases}
 use Rattle.jn_base.specs.declared.tree.Name.{Name}
 use Rattle.jn_base.specs.declared.tree.Named.{Named}
@@ -7,18 +7,18 @@ use Rattle.jn_base.specs.declared.tree.Program.{Program}
 use Rattle.jn_base.specs.declared.tree.Method.{Method}
 use Rattle.jn_base.specs.declared.tree.Field.{Field}
 use Rattle.jn_base.specs.declared.tree.Member.{Member, out-Member, roll-Member, out-roll-Member}
-use Rattle.jn_base.specs.declared.tree.Member.TheOpen.{Member-F, Decl-F}
+use Rattle.jn_base.specs.declared.tree.Member.TheOpen.{Member-F}
 use Rattle.jn_base.specs.declared.tree.Member.TheFolds.{map-Member, map-Decl, ind-Decl}
 use Rattle.jn_base.specs.declared.tree.Decl.{Decl, roll-Decl}
 use Rattle.jn_base.specs.declared.refusal.Refusal.{Refusal}
 use Rattle.jn_base.specs.Paths.{Path, nested, and_nested, methods, and_method, StandsIn, StandsAt}
-use Rattle.jn_base.specs.Duplicates.{only_if, has_name, seconds, Space, of_decls, of_fields, of_methods, Given, InMember, InDecl, in_members, in_decls, in_lists, in_member, in_decl, in_method, member_step, decl_step, refusal, duplicate, duplicates}
+use Rattle.jn_base.specs.Duplicates.{only_if, has_name, seconds, Space, of_decls, of_fields, of_methods, Given, InMember, InDecl, in_members, in_decls, in_lists, in_member, in_decl, in_method, member_step, refusal, duplicate, duplicates}
 use Rattle.jn_base.specs.Twice.{IsSecond, decl_name, BodyTwice, extended, shared, adapted, declaration, field, method, inside, Twice, at_top, in_body}
 use Rattle.jn_base.proofs.NameTests.{in_cons, in_none, first, later}
 use Rattle.jn_base.proofs.Seconds.{SecondIn, hit, next, only_has, only_from, seconds_to, seconds_from, second_is, second_from}
 use Rattle.jn_base.proofs.LocalsTwice.{found_method, method_found}
 use Rattle.jn_base.proofs.GivenTwice.{GivenTwice, named_in, twice_to, twice_from, decl_names, field_names, method_names}
-use Rattle.jn_base.proofs.FoundTwice.{mapped, Mapped, unmapped, FoundIn, by_given, by_member, members_found, given_found, member_found, three}
+use Rattle.jn_base.proofs.FoundTwice.{mapped, unmapped, FoundIn, by_given, by_member, members_found, given_found, member_found, three}
 use Rattle.jn_base.proofs.Unique.{decl_opened, member_opened, givens, inside_is, name_is}
 
 -- ---- the members of a body
@@ -124,7 +124,7 @@ module _ (d : Decl) (P : Path) where
   of_lists n c =
       subst (λ (l : List Refusal). Contains l (duplicate (d.name.name ∷ P) n)) (sym (decl_inside d P))
       (Contains-append_left (in_lists (d.name.name ∷ P) d.extends d.shares d.adapts) (in_members (d.name.name ∷ P) [] (map in_member d.members)) (duplicate (d.name.name ∷ P) n)
-          (in_list (d.name.name ∷ P) (seconds [] d.extends) (seconds [] d.shares) (seconds [] d.adapts) n c))
+      (in_list (d.name.name ∷ P) (seconds [] d.extends) (seconds [] d.shares) (seconds [] d.adapts) n c))
 
   of_members : (r : Refusal) → Contains (in_members (d.name.name ∷ P) [] (map in_member d.members)) r → Contains ((in_decl d).inside P) r
   of_members r c =
@@ -150,7 +150,7 @@ module _ (d : Decl) (P : Path) where
       let h = mapped (duplicate (d.name.name ∷ P)) (in_method m) n (method_found m n t) in
       of_members (duplicate (d.name.name ∷ P) n)
       (member_found (d.name.name ∷ P) [] d.members s.member (duplicate (d.name.name ∷ P) n) s.among
-          (subst (λ (l : List Refusal). Contains l (duplicate (d.name.name ∷ P) n)) (sym (body_is s.member m (d.name.name ∷ P) s.is)) h))
+      (subst (λ (l : List Refusal). Contains l (duplicate (d.name.name ∷ P) n)) (sym (body_is s.member m (d.name.name ∷ P) s.is)) h))
 
   -- of what is found in a nested declaration
   nested_found : (e : Decl) (r : Refusal) → Contains (nested d.members) e → Contains ((in_decl e).inside (d.name.name ∷ P)) r → Contains ((in_decl d).inside P) r
@@ -158,7 +158,7 @@ module _ (d : Decl) (P : Path) where
       let s = nested_member d.members e c in
       of_members r
       (member_found (d.name.name ∷ P) [] d.members s.member r s.among
-          (subst (λ (l : List Refusal). Contains l r) (sym (inside_is s.member e (d.name.name ∷ P) s.is)) h))
+      (subst (λ (l : List Refusal). Contains l r) (sym (inside_is s.member e (d.name.name ∷ P) s.is)) h))
 
 body_found_at : (d : Decl) (P : Path) (n : Named) → BodyTwice d n → Contains ((in_decl d).inside P) (duplicate (d.name.name ∷ P) n)
 unfolding R
@@ -173,7 +173,7 @@ top_inside before (f ∷ ds) d r c h = by_place (in_cons f ds d c) (λ k. top_in
   by_place (inl e) k =
       Contains-append_right (only_if (has_name before (in_decl f).name.name) (refusal None (in_decl f).name ∷ [])) ((in_decl f).inside [] ++ in_decls ((in_decl f).name.name ∷ before) (map in_decl ds)) r
       (Contains-append_left ((in_decl f).inside []) (in_decls ((in_decl f).name.name ∷ before) (map in_decl ds)) r
-          (subst (λ (g : Decl). Contains ((in_decl g).inside []) r) (sym e) h))
+      (subst (λ (g : Decl). Contains ((in_decl g).inside []) r) (sym e) h))
   by_place (inr i) k =
       Contains-append_right (only_if (has_name before (in_decl f).name.name) (refusal None (in_decl f).name ∷ [])) ((in_decl f).inside [] ++ in_decls ((in_decl f).name.name ∷ before) (map in_decl ds)) r
       (Contains-append_right ((in_decl f).inside []) (in_decls ((in_decl f).name.name ∷ before) (map in_decl ds)) r (k i))
@@ -194,8 +194,8 @@ top_found before (d ∷ ds) ns n (hit {ns = rest} e) q =
     let own = name_is d ∙ is in
     subst (λ (x : Named). Contains (in_decls before (map in_decl (d ∷ ds))) (refusal None x)) own
     (Contains-append_left (only_if (has_name before (in_decl d).name.name) (refusal None (in_decl d).name ∷ []))
-        ((in_decl d).inside [] ++ in_decls ((in_decl d).name.name ∷ before) (map in_decl ds)) (refusal None (in_decl d).name)
-        (only_from (has_name before (in_decl d).name.name) (refusal None (in_decl d).name) (subst (λ (x : Named). has_name before x.name ≡ true) (sym own) e)))
+    ((in_decl d).inside [] ++ in_decls ((in_decl d).name.name ∷ before) (map in_decl ds)) (refusal None (in_decl d).name)
+    (only_from (has_name before (in_decl d).name.name) (refusal None (in_decl d).name) (subst (λ (x : Named). has_name before x.name ≡ true) (sym own) e)))
 top_found before (d ∷ ds) ns n (next {m = m} {ns = rest} t) q =
     let is : d.name ≡ m = cc q in
     let rest_is : map decl_name ds ≡ rest = cc q in
@@ -203,8 +203,8 @@ top_found before (d ∷ ds) ns n (next {m = m} {ns = rest} t) q =
     Contains-append_right (only_if (has_name before (in_decl d).name.name) (refusal None (in_decl d).name ∷ []))
     ((in_decl d).inside [] ++ in_decls ((in_decl d).name.name ∷ before) (map in_decl ds)) (refusal None n)
     (Contains-append_right ((in_decl d).inside []) (in_decls ((in_decl d).name.name ∷ before) (map in_decl ds)) (refusal None n)
-        (subst (λ (x : Named). Contains (in_decls (x.name ∷ before) (map in_decl ds)) (refusal None n)) (sym own)
-            (top_found (m.name ∷ before) ds rest n t rest_is)))
+    (subst (λ (x : Named). Contains (in_decls (x.name ∷ before) (map in_decl ds)) (refusal None n)) (sym own)
+    (top_found (m.name ∷ before) ds rest n t rest_is)))
 
 -- ---- all that stands twice is found
 
@@ -228,7 +228,7 @@ top_next {ds = ds} d (top_within f c h) = top_within f (later d ds f c) h
 top_by : (before : List Name) (d : Decl) (ds : List Decl) (r : Refusal)
     → (Contains (in_decls (d.name.name ∷ before) (map in_decl ds)) r → TopIn (d.name.name ∷ before) ds r)
     → Contains (only_if (has_name before (in_decl d).name.name) (refusal None (in_decl d).name ∷ [])) r
-        ⊎ (Contains ((in_decl d).inside []) r ⊎ Contains (in_decls ((in_decl d).name.name ∷ before) (map in_decl ds)) r)
+    ⊎ (Contains ((in_decl d).inside []) r ⊎ Contains (in_decls ((in_decl d).name.name ∷ before) (map in_decl ds)) r)
     → TopIn before (d ∷ ds) r
 top_by before d ds r ih (inl c) =
     let o = only_has (has_name before (in_decl d).name.name) (refusal None (in_decl d).name) r c in
@@ -242,7 +242,7 @@ top_in before [] r c = absurd (in_none r c)
 top_in before (d ∷ ds) r c =
     top_by before d ds r (λ k. top_in (d.name.name ∷ before) ds r k)
     (three (only_if (has_name before (in_decl d).name.name) (refusal None (in_decl d).name ∷ [])) ((in_decl d).inside [])
-        (in_decls ((in_decl d).name.name ∷ before) (map in_decl ds)) r c)
+    (in_decls ((in_decl d).name.name ∷ before) (map in_decl ds)) r c)
 
 -- the name spaces of a body
 space_twice : (d : Decl) (s : Space) (n : Named) → IsSecond (named_in s (givens d.members)) n → BodyTwice d n
@@ -293,11 +293,11 @@ module _ (p : Program) where
   lists_told P d s r c =
       let u = unmapped (duplicate (d.name.name ∷ P)) (seconds [] d.extends ++ (seconds [] d.shares ++ seconds [] d.adapts)) r c in
       by_list u.x u.is (three (seconds [] d.extends) (seconds [] d.shares) (seconds [] d.adapts) u.x u.among) where
-    by_list : (n : Named) → r ≡ duplicate (d.name.name ∷ P) n
-        → Contains (seconds [] d.extends) n ⊎ (Contains (seconds [] d.shares) n ⊎ Contains (seconds [] d.adapts) n) → Twice p r
-    by_list n e (inl h) = in_body (d.name.name ∷ P) d n (s, refl) (extended (second_is (seconds_to [] d.extends n h))) e
-    by_list n e (inr (inl h)) = in_body (d.name.name ∷ P) d n (s, refl) (shared (second_is (seconds_to [] d.shares n h))) e
-    by_list n e (inr (inr h)) = in_body (d.name.name ∷ P) d n (s, refl) (adapted (second_is (seconds_to [] d.adapts n h))) e
+        by_list : (n : Named) → r ≡ duplicate (d.name.name ∷ P) n
+            → Contains (seconds [] d.extends) n ⊎ (Contains (seconds [] d.shares) n ⊎ Contains (seconds [] d.adapts) n) → Twice p r
+        by_list n e (inl h) = in_body (d.name.name ∷ P) d n (s, refl) (extended (second_is (seconds_to [] d.extends n h))) e
+        by_list n e (inr (inl h)) = in_body (d.name.name ∷ P) d n (s, refl) (shared (second_is (seconds_to [] d.shares n h))) e
+        by_list n e (inr (inr h)) = in_body (d.name.name ∷ P) d n (s, refl) (adapted (second_is (seconds_to [] d.adapts n h))) e
 
   members_told : (P : Path) (d : Decl) → StandsIn p P d → ((m : Member) → Contains d.members m → MemberTold m) → (r : Refusal)
       → FoundIn (d.name.name ∷ P) [] d.members r → Twice p r
@@ -316,14 +316,14 @@ module _ (p : Program) where
   decl_told d k P s r c =
       decl_by P d s k r
       (Contains-append_cases (in_lists (d.name.name ∷ P) d.extends d.shares d.adapts) (in_members (d.name.name ∷ P) [] (map in_member d.members)) r
-          (subst (λ (l : List Refusal). Contains l r) (decl_inside d P) c))
+      (subst (λ (l : List Refusal). Contains l r) (decl_inside d P) c))
 
   all_told : (d : Decl) → DeclTold d
   unfolding bare
   all_told = ind-Decl MemberTold DeclTold
       (λ x y is. subst (λ z. MemberTold (roll-Member z)) is (member_told y))
       (λ x y is. subst (λ z. DeclTold (roll-Decl z)) is
-          (decl_told (roll-Decl (map-Decl _ _ _ _ (λ e. e.0) (λ e. e.0) y)) (λ m c. such_member y.members m c)))
+      (decl_told (roll-Decl (map-Decl _ _ _ _ (λ e. e.0) (λ e. e.0) y)) (λ m c. such_member y.members m c)))
 
   found_by_top : (r : Refusal) → TopIn [] p.decls r → Twice p r
   unfolding DeclTold

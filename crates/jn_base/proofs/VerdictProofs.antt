@@ -1,27 +1,26 @@
 -- The examples of a passed class table, a cycle, two kinds, and an unknown name.
-use Rattle.std.proofs.Common.{◌≡◌, ℕ, List, [], ◌∷◌, refl, sym, subst, Bool, true, false, ◌⊎◌, inl, inr, nat_eq, ◌||◌, ◌&&◌, if◌then◌else◌, arith, Contains}
+use Rattle.std.proofs.Common.{◌≡◌, ℕ, [], ◌∷◌, refl, sym, subst, true, if◌then◌else◌, arith, Contains}
 use Rattle.std.proofs.lemmas.List.Elements.{All-nil}
 use Rattle.jn_base.specs.declared.tree.Name.{Name}
 use Rattle.jn_base.specs.declared.tree.Kind.TheVariants as kind
 use Rattle.jn_base.specs.declared.tree.Decl.{Decl}
-use Rattle.jn_base.specs.declared.tree.Program.{Program}
 use Rattle.jn_base.specs.declared.tree.Member.TheVariants.{outs-Inner}
-use Rattle.jn_base.specs.Paths.{Path, Declared}
+use Rattle.jn_base.specs.Paths.{Path}
 use Rattle.jn_base.specs.Supers.{Sup, itself, Member, IsOwnSuper}
 use Rattle.jn_base.specs.Universe.{InUniverse}
-use Rattle.jn_base.specs.ClassOrder.{Before, IsFirst}
+use Rattle.jn_base.specs.ClassOrder.{Before}
 use Rattle.jn_base.specs.Members.{HasTwoKinds}
 use Rattle.jn_base.specs.Duplicates.{has_name}
 use Rattle.jn_base.specs.TableRules.{IsOver, IsCycle, IsMixed, HasUnknown, ExtendsUnknown, NoneIs, TableRefuses, TablePasses, cycle, two_kinds, unknown, at_home, unknown_at}
-use Rattle.jn_base.specs.ExampleTrees.{name, word, line, declaration, class_in}
-use Rattle.jn_base.specs.VerdictExamples.{A, B, AB, C, D, apart, circular, mixed, missing, VerdictExamples}
+use Rattle.jn_base.specs.ExampleTrees.{word, line, declaration, class_in}
+use Rattle.jn_base.specs.VerdictExamples.{A, B, AB, C, D, apart, circular, mixed, missing}
 use Rattle.jn_base.proofs.SuperLaws.{sup_inherited, member_heir}
 use Rattle.jn_base.specs.declared.refusal.Rule.TheVariants as rule
 use Rattle.jn_base.proofs.Reaching.{declared_in_universe}
 use Rattle.jn_base.proofs.ClassOrders.{before_irreflexive}
-use Rattle.jn_base.proofs.ExampleTools.{same, EachOf, of_each, has_only, top_above, top_member, inner_member, inner_above, inner_edge, inner_class, inner_package, inner_home, outer_home, none_inside, tops, inners, keeps}
+use Rattle.jn_base.proofs.ExampleTools.{same, of_each, has_only, top_above, top_member, inner_member, inner_above, inner_edge, inner_class, inner_package, inner_home, outer_home, none_inside}
 use Rattle.jn_base.proofs.NameTests.{has_in}
-use Rattle.jn_base.proofs.VerdictTools.{top_of, plain_of, TwoLevels, package_of, class_of, universe_of, few_paths, no_top_cycle, IsRanked, no_class_cycle, package_alone, class_alone, all_known, top_known, class_named}
+use Rattle.jn_base.proofs.VerdictTools.{TwoLevels, package_of, class_of, universe_of, few_paths, no_top_cycle, IsRanked, no_class_cycle, package_alone, class_alone, all_known, top_known, class_named}
 
 none_extends : Name → ℕ
 none_extends n = 0

@@ -1,10 +1,9 @@
 -- The verdicts of small programs of packages and their classes, by tests that compute.
-use Rattle.std.proofs.Common.{◌≡◌, ◌<◌, ◌≤◌, ℕ, List, [], ◌∷◌, ◌++◌, map, length, drop, zero, suc, refl, sym, ap, ◌∙◌, subst, Bool, true, false, ◌||◌, ◌&&◌, not, nat_eq, nat_lt, ◌⊎◌, inl, inr, arith, Contains, length-append}
-use Rattle.std.specs.Prelude.{All}
+use Rattle.std.proofs.Common.{◌≡◌, ◌<◌, ◌≤◌, ℕ, List, [], ◌∷◌, ◌++◌, map, length, suc, refl, sym, subst, Bool, true, false, ◌&&◌, nat_lt, ◌⊎◌, inl, inr, arith, Contains}
 use Rattle.std.specs.declared.cmp.Ordering.{Ordering}
 use Rattle.std.specs.declared.cmp.Ordering.TheVariants.{Less, Equal, Greater}
 use Rattle.std.specs.Ordering.{is_lt}
-use Rattle.std.specs.List.{list_all, list_any, AllByRecursion}
+use Rattle.std.specs.List.{list_all, AllByRecursion}
 use Rattle.std.specs.List.Sorted.{IsStrictlySortedBy}
 use Rattle.std.proofs.lemmas.List.Elements.{Contains-append_left, Contains-append_right}
 use Rattle.jn_base.specs.declared.tree.Name.{Name}
@@ -12,18 +11,17 @@ use Rattle.jn_base.specs.declared.tree.Named.{Named}
 use Rattle.jn_base.specs.declared.tree.Kind.TheVariants as kind
 use Rattle.jn_base.specs.declared.tree.Program.{Program}
 use Rattle.jn_base.specs.declared.tree.Decl.{Decl}
-use Rattle.jn_base.specs.declared.tree.Member.{Member as TreeMember}
-use Rattle.jn_base.specs.Paths.{Path, nested, StandsIn, StandsAt, Declared, Extends}
-use Rattle.jn_base.specs.Supers.{Direct, inherited, written, Sup, itself, above, Member, IsOwnSuper}
-use Rattle.jn_base.specs.Universe.{IsNamespace, InUniverse}
-use Rattle.jn_base.specs.ClassOrder.{class_cmp, Before}
+use Rattle.jn_base.specs.Paths.{Path, nested, StandsIn, StandsAt, Extends}
+use Rattle.jn_base.specs.Supers.{Direct, inherited, written, Sup, itself, Member, IsOwnSuper}
+use Rattle.jn_base.specs.Universe.{InUniverse}
+use Rattle.jn_base.specs.ClassOrder.{class_cmp}
 use Rattle.jn_base.specs.Members.{HasKind, HasTwoKinds}
 use Rattle.jn_base.specs.Duplicates.{has_name}
-use Rattle.jn_base.specs.TableRules.{MOST_PATHS, IsOver, NoneIs, ExtendsUnknown, HasUnknown}
+use Rattle.jn_base.specs.TableRules.{IsOver, NoneIs, HasUnknown}
 use Rattle.jn_base.proofs.SuperLaws.{top_direct, sup_level, sup_root}
 use Rattle.jn_base.proofs.TableLaws.{no_longer}
 use Rattle.jn_base.proofs.ExampleTools.{tops, inners, at_top, at_inner, keeps, OneOf, one, sups_kept, is_class, top_sup, top_kept, top_kept_sup, inner_kept, inner_has, inner_member, anything, is_package, not_package, not_class, sup_closed}
-use Rattle.jn_base.proofs.NameTests.{implies, implied, passes, has_in, has_from, in_cons, in_none, first, later, and_both}
+use Rattle.jn_base.proofs.NameTests.{implies, implied, passes, has_in, in_cons, in_none, first, later, and_both}
 
 -- ---- the universe
 

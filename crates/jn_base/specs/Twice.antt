@@ -1,5 +1,5 @@
 -- What stands twice, place by place.
-use Rattle.std.specs.Prelude.{◌≡◌, List, [], ◌∷◌, ◌++◌, map, Contains, Some, None, Bool, ◌↔◌}
+use Rattle.std.specs.Prelude.{◌≡◌, List, ◌∷◌, ◌++◌, map, Contains, None, Bool, ◌↔◌}
 use Rattle.jn_base.specs.declared.tree.Name.{Name}
 use Rattle.jn_base.specs.declared.tree.Named.{Named}
 use Rattle.jn_base.specs.declared.tree.Place.{Place}
