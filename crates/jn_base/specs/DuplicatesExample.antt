@@ -54,7 +54,7 @@ body_of n params body = member.Body (record { result = None; name = word n; para
 abbrev pub apart : Program
 apart = program (class_of 1 Main [] (field_on 2 a ∷ method a ∷ field_on 3 b ∷ []) ∷ [])
 
--- class Main { int a; int a; void main() { } }
+-- class Main { int a; int a; void f() { } }
 abbrev pub two_fields : Program
 two_fields = program (class_of 1 Main [] (field_on 2 a ∷ field_on 3 a ∷ method f ∷ []) ∷ [])
 

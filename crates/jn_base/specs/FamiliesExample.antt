@@ -53,12 +53,15 @@ v = name 10
 abbrev pub l : Name
 l = name 11
 
+abbrev pub r : Name
+r = name 12
+
 abbrev pub families : Program
 families = program (
     package_at 1 base [] (
     class_in Exp [] (method eval ∷ [])
     ∷ class_in Lit (Exp ∷ []) (field v ∷ method Lit ∷ method eval ∷ [])
-    ∷ class_in Add (Exp ∷ []) (field l ∷ method Add ∷ method eval ∷ [])
+    ∷ class_in Add (Exp ∷ []) (field l ∷ field r ∷ method Add ∷ method eval ∷ [])
     ∷ class_in Make [] [] ∷ [])
     ∷ package_at 2 shower (base ∷ []) (
     class_in Exp [] (method show ∷ [])

@@ -31,6 +31,9 @@ E = name 4
 abbrev pub n : Name
 n = name 5
 
+-- package a { class E { int n() { .. } } }
+-- package b extends a { class E { int n() { .. } } }
+-- package c extends a { class E { int n() { .. } } }
 abbrev pub three : List Decl → List Decl
 three rest =
     package_at 1 a [] (class_in E [] (method n ∷ []) ∷ [])
