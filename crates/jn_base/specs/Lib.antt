@@ -1,0 +1,15 @@
+pub mod ClassOrder
+pub mod Duplicates
+pub mod DuplicatesExample
+pub mod ExampleTrees
+pub mod FamiliesExample
+pub mod LawsOfSupers
+pub mod LawsOfTable
+pub mod Members
+pub mod Paths
+pub mod SmallExamples
+pub mod Supers
+pub mod TableRules
+pub mod Twice
+pub mod Universe
+pub mod VerdictExamples
