@@ -6,4 +6,5 @@
 
 pub mod path;
 pub mod refusal;
+pub mod token;
 pub mod tree;
