@@ -1,2 +1,9 @@
 pub mod Digits
 pub mod Widths
+pub mod Marks
+pub mod Stands
+pub mod Found
+pub mod TextFound
+pub mod CommentFound
+pub mod MarkFound
+pub mod FrontFound
