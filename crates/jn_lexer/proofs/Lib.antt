@@ -7,3 +7,10 @@ pub mod TextFound
 pub mod CommentFound
 pub mod MarkFound
 pub mod FrontFound
+pub mod Tests
+pub mod Again
+pub mod FrontAgain
+pub mod Once
+pub mod Order
+pub mod Loop
+pub mod Answer
