@@ -50,6 +50,7 @@ impl<T: Drop> From<AllocFailed<T>> for LexFault {
     ghost use Rattle.jn_base.specs.declared.token.LexFault.TheVariants.{Memory};
 
     ghost from_gives = { λ _ e. e ≡ Memory };
+
     fn from(_error: AllocFailed<T>) -> LexFault {
         LexFault::Memory
     }

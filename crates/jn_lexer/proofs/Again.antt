@@ -1,11 +1,10 @@
 -- What the definition of the tokens has at the front is what reading finds there: texts and comments.
-use Rattle.std.proofs.Common.{◌≡◌, ℕ, zero, suc, ◌+◌, ◌<◌, ◌≤◌, Bool, true, false, not, cond, List, [], ◌∷◌, ◌++◌, length, take, refl, sym, ◌∙◌, ap, subst, arith, ◌||◌, ◌&&◌, ◌==◌, if◌then◌else◌, add-zero}
+use Rattle.std.proofs.Common.{◌≡◌, ℕ, suc, ◌+◌, Bool, true, false, not, List, [], ◌∷◌, ◌++◌, length, refl, sym, ◌∙◌, ap, subst, arith, ◌||◌, ◌&&◌, ◌==◌, if◌then◌else◌, add-zero}
 use Rattle.std.specs.List.{prefix_len, AllPass}
 use Rattle.std.proofs.lemmas.Bool.{eqb-true}
 use Rattle.jn_base.specs.declared.token.TokenKind.TheVariants.{Text}
-use Rattle.jn_base.specs.Tokens.{line_feed, quote, star, slash, backslash, BeginsWithNo, ends_line, is_plain, is_escape, IsInText, no_more, plain, escape, HasNoEnd}
+use Rattle.jn_base.specs.Tokens.{quote, star, slash, backslash, BeginsWithNo, ends_line, is_plain, is_escape, IsInText, no_more, plain, escape, HasNoEnd}
 use Rattle.jn_lexer.specs.declared.front.Flaw.TheVariants as flaw
-use Rattle.jn_lexer.specs.declared.front.Piece.{Piece}
 use Rattle.jn_lexer.specs.declared.front.Piece.TheVariants.{Gap, Token, Fault}
 use Rattle.jn_lexer.specs.Front.{text_front, long_comment_front}
 use Rattle.jn_lexer.proofs.Tests.{if_true, if_false, line_end_no_quote}

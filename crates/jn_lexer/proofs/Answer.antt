@@ -1,7 +1,7 @@
 -- What the tokens of the characters say of the bytes.
-use Rattle.std.proofs.Common.{◌≡◌, ℕ, ◌+◌, List, length, refl, sym, ◌∙◌, ap, subst, Option, Some, None, Result, Ok, Err}
+use Rattle.std.proofs.Common.{◌≡◌, ℕ, List, length, sym, ◌∙◌, ap, subst, Option, Some, None, Result, Ok, Err}
 use Rattle.std.specs.Prelude.{IfOk, IfErr}
-use Rattle.std.specs.Str.{IsUtf8, chars, encode_utf8_all, all_scalars}
+use Rattle.std.specs.Str.{IsUtf8, chars}
 use Rattle.std.proofs.lemmas.Str.{encodes-chars, scalars-chars, chars-encodes}
 use Rattle.std.proofs.Math.Nat.{zero-add}
 use Rattle.jn_base.specs.declared.token.Token.{Token}

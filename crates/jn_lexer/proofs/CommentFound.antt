@@ -1,12 +1,12 @@
 -- Comments, found from left to right.
-use Rattle.std.proofs.Common.{◌≡◌, ℕ, zero, suc, ◌+◌, ◌<◌, ◌≤◌, Bool, true, false, not, List, [], ◌∷◌, ◌++◌, length, take, drop, refl, sym, ◌∙◌, ap, subst, arith, ◌||◌, ◌&&◌, ◌==◌, if◌then◌else◌, length-append, append_assoc}
+use Rattle.std.proofs.Common.{◌≡◌, ℕ, suc, ◌+◌, Bool, true, false, not, List, [], ◌∷◌, ◌++◌, length, refl, sym, ap, subst, arith, ◌||◌, ◌&&◌, ◌==◌, if◌then◌else◌, length-append, append_assoc}
 use Rattle.std.proofs.lemmas.Bool.{eqb-true}
 use Rattle.std.proofs.lemmas.List.Sums.{prefix_len-le-length}
 use Rattle.std.specs.List.{prefix_len}
-use Rattle.jn_base.specs.Tokens.{line_feed, star, slash, BeginsWithNo, begins_comment, HasNoEnd, IsComment, to_line_end, to_end, open_comment}
+use Rattle.jn_base.specs.Tokens.{line_feed, star, slash, BeginsWithNo, begins_comment, HasNoEnd, to_line_end, to_end, open_comment}
 use Rattle.jn_lexer.specs.declared.front.Flaw.TheVariants as flaw
 use Rattle.jn_lexer.specs.declared.front.Piece.{Piece}
-use Rattle.jn_lexer.specs.declared.front.Piece.TheVariants.{Gap, Token, Fault}
+use Rattle.jn_lexer.specs.declared.front.Piece.TheVariants.{Gap, Fault}
 use Rattle.jn_lexer.specs.Front.{long_comment_front, comment_front}
 use Rattle.jn_lexer.proofs.Digits.{run_passes}
 use Rattle.jn_lexer.proofs.Marks.{and_left, and_right}
@@ -61,7 +61,7 @@ line_stands cs =
     let two : prefix_len (λ d. not (d == line_feed)) cs + 2 ≡ suc (suc (prefix_len (λ d. not (d == line_feed)) cs)) = omega arith in
     subst (λ n. Stands (slash ∷ slash ∷ cs) (Gap n)) (sym two)
     (comment_at (slash ∷ slash ∷ cs) (suc (suc (prefix_len (λ d. not (d == line_feed)) cs))) (omega (arith, prefix_len-le-length (λ d. not (d == line_feed)) cs))
-        (to_line_end (run_passes (λ d. not (d == line_feed)) cs _ refl) (run_stops (λ d. not (d == line_feed)) cs)))
+    (to_line_end (run_passes (λ d. not (d == line_feed)) cs _ refl) (run_stops (λ d. not (d == line_feed)) cs)))
 
 or_right : (a b : Bool) → a ≡ false → (a || b) ≡ true → b ≡ true
 or_right true b e h = absurd (cc)
@@ -72,5 +72,5 @@ unfolding comment_front
 comment_stands c [] b = absurd (cc)
 comment_stands c (d ∷ cs) b = subst (λ x. Stands (x ∷ d ∷ cs) (comment_front (d ∷ cs))) (sym (eqb-true c slash (and_left _ _ b)))
     (by_test (Stands (slash ∷ d ∷ cs)) (d == slash) _ _
-        (λ e. subst (λ x. Stands (slash ∷ x ∷ cs) (Gap (prefix_len (λ y. not (y == line_feed)) cs + 2))) (sym (eqb-true d slash e)) (line_stands cs))
-        (λ e. subst (λ x. Stands (slash ∷ x ∷ cs) (long_comment_front false 2 cs)) (sym (eqb-true d star (or_right _ _ e (and_right (c == slash) _ b)))) (begun cs _ (long_is false 2 cs))))
+    (λ e. subst (λ x. Stands (slash ∷ x ∷ cs) (Gap (prefix_len (λ y. not (y == line_feed)) cs + 2))) (sym (eqb-true d slash e)) (line_stands cs))
+    (λ e. subst (λ x. Stands (slash ∷ x ∷ cs) (long_comment_front false 2 cs)) (sym (eqb-true d star (or_right _ _ e (and_right (c == slash) _ b)))) (begun cs _ (long_is false 2 cs))))

@@ -1,20 +1,17 @@
 -- What reading from left to right finds at the front is what the definition of the tokens has there.
-use Rattle.std.proofs.Common.{◌≡◌, ℕ, zero, suc, ◌+◌, ◌<◌, ◌≤◌, Bool, true, false, not, cond, List, [], ◌∷◌, ◌++◌, length, take, drop, refl, sym, ◌∙◌, ap, subst, arith, ◌&&◌, ◌||◌, ◌==◌, if◌then◌else◌, add-one, inl, inr}
-use Rattle.std.proofs.lemmas.Bool.{eqb-true}
+use Rattle.std.proofs.Common.{◌≡◌, ℕ, suc, ◌+◌, Bool, true, false, cond, List, [], ◌∷◌, take, drop, refl, sym, ◌∙◌, ap, subst, arith, if◌then◌else◌, add-one}
 use Rattle.std.specs.Char.{is_ascii_digit}
 use Rattle.std.specs.List.{prefix_len, AllPass}
 use Rattle.std.proofs.lemmas.List.Sums.{prefix_len-le-length}
-use Rattle.jn_base.specs.declared.token.TokenKind.TheVariants.{Name, Keyword, Number, Text, Mark}
-use Rattle.jn_base.specs.Tokens.{line_feed, quote, star, slash, backslash, width, BeginsWithNo, is_blank, begins_name, continues_name, is_keyword, is_good_number, ends_line, is_plain, is_escape, IsInText, no_more, plain, escape, is_mark, begins_comment, HasNoEnd, IsComment, to_line_end, to_end, IsToken, name, keyword, number, text, mark, IsFault, bad_number, open_comment, open_text, bad_escape, bad_char}
+use Rattle.jn_base.specs.declared.token.TokenKind.TheVariants.{Name, Keyword, Number}
+use Rattle.jn_base.specs.Tokens.{BeginsWithNo, begins_name, continues_name, is_keyword, is_good_number, name, keyword, number, IsFault, bad_number}
 use Rattle.jn_base.specs.declared.token.LexFault.TheVariants as lex
 use Rattle.std.proofs.lemmas.List.{take-append-drop}
 use Rattle.jn_lexer.specs.declared.front.Flaw.TheVariants as flaw
-use Rattle.jn_lexer.specs.declared.front.Piece.{Piece}
-use Rattle.jn_lexer.specs.declared.front.Piece.TheVariants.{Gap, Token, Fault}
-use Rattle.jn_lexer.specs.Front.{word_front, number_front, text_front, long_comment_front, comment_front, single_front, mark_front, front}
+use Rattle.jn_lexer.specs.declared.front.Piece.TheVariants.{Token, Fault}
+use Rattle.jn_lexer.specs.Front.{word_front, number_front}
 use Rattle.jn_lexer.proofs.Digits.{run_passes}
-use Rattle.jn_lexer.proofs.Marks.{has_shape_of_mark, mark_shape}
-use Rattle.jn_lexer.proofs.Stands.{Stands, blank, comment, token, fault, by_test, token_at, comment_at, fault_here}
+use Rattle.jn_lexer.proofs.Stands.{Stands, token_at, fault_here}
 
 -- behind a run stands no character that passes its test
 pub run_stops : (test : ℕ → Bool) (cs : List ℕ) → BeginsWithNo test (drop (prefix_len test cs) cs)

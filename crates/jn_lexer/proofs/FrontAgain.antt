@@ -1,5 +1,5 @@
 -- What the definition of the tokens has at the front is what reading finds there.
-use Rattle.std.proofs.Common.{◌≡◌, ℕ, zero, suc, ◌+◌, ◌<◌, ◌≤◌, Bool, true, false, not, cond, List, [], ◌∷◌, ◌++◌, length, take, drop, refl, sym, ◌∙◌, ap, subst, arith, ◌||◌, ◌&&◌, ◌==◌, if◌then◌else◌, add-zero, add-one, append_assoc, length-append}
+use Rattle.std.proofs.Common.{◌≡◌, ℕ, suc, ◌+◌, ◌<◌, ◌≤◌, Bool, true, false, not, List, [], ◌∷◌, ◌++◌, length, take, refl, sym, ◌∙◌, ap, arith, ◌==◌, if◌then◌else◌, add-zero, append_assoc, length-append}
 use Rattle.std.specs.Prelude.{nat_lt}
 use Rattle.std.specs.Char.{is_ascii_digit, is_ascii_alphabetic}
 use Rattle.std.specs.List.{prefix_len, AllPass}
@@ -9,13 +9,12 @@ use Rattle.std.proofs.Math.Seq.{take-append_seam}
 use Rattle.jn_base.specs.declared.token.TokenKind.{TokenKind}
 use Rattle.jn_base.specs.declared.token.TokenKind.TheVariants.{Name, Keyword, Number, Text, Mark}
 use Rattle.jn_base.specs.declared.token.LexFault.{LexFault}
-use Rattle.jn_base.specs.Tokens.{line_feed, quote, star, slash, backslash, underscore, width, BeginsWithNo, is_blank, begins_name, continues_name, is_keyword, is_good_number, IsInText, is_mark, begins_comment, HasNoEnd, IsComment, to_line_end, to_end, IsToken, name, keyword, number, text, mark, IsFault, bad_number, open_comment, open_text, bad_escape, bad_char}
+use Rattle.jn_base.specs.Tokens.{line_feed, quote, star, slash, backslash, underscore, width, BeginsWithNo, is_blank, begins_name, continues_name, is_keyword, is_good_number, is_mark, begins_comment, HasNoEnd, IsComment, to_line_end, to_end, IsToken, name, keyword, number, text, mark, IsFault, bad_number, open_comment, open_text, bad_escape, bad_char}
 use Rattle.jn_lexer.specs.declared.front.Flaw.{Flaw}
 use Rattle.jn_lexer.specs.declared.front.Flaw.TheVariants as flaw
-use Rattle.jn_lexer.specs.declared.front.Piece.{Piece}
 use Rattle.jn_lexer.specs.declared.front.Piece.TheVariants.{Gap, Token, Fault}
 use Rattle.jn_lexer.specs.Front.{fault_at, word_front, number_front, text_front, long_comment_front, comment_front, single_front, mark_front, front}
-use Rattle.jn_lexer.proofs.Marks.{may_begin_mark, has_shape_of_mark, mark_shape, and_left, and_right}
+use Rattle.jn_lexer.proofs.Marks.{may_begin_mark, mark_shape, and_left, and_right}
 use Rattle.jn_lexer.proofs.MarkFound.{IsOther}
 use Rattle.jn_lexer.proofs.Tests.{if_true, if_false, no_name_at, name_no_blank, digit_no_name, digit_no_blank}
 use Rattle.jn_lexer.proofs.Again.{run_is, closed_again, open_again, bad_again, ended_again, endless_again}

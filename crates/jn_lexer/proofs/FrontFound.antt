@@ -1,5 +1,5 @@
 -- What reading from left to right finds at the front is what the definition of the tokens has there.
-use Rattle.std.proofs.Common.{◌≡◌, ℕ, false, List, [], ◌∷◌, sym, subst, ◌==◌}
+use Rattle.std.proofs.Common.{ℕ, false, List, ◌∷◌, sym, subst, ◌==◌}
 use Rattle.std.proofs.lemmas.Bool.{eqb-true}
 use Rattle.std.specs.Char.{is_ascii_digit}
 use Rattle.jn_base.specs.Tokens.{quote, is_blank, begins_name, begins_comment}

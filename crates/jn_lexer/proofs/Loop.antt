@@ -1,5 +1,5 @@
 -- What the loop over the pieces of a source keeps.
-use Rattle.std.proofs.Common.{◌≡◌, ℕ, zero, suc, ◌+◌, ◌-◌, ◌<◌, ◌≤◌, Bool, true, false, ◌==◌, List, [], ◌∷◌, ◌++◌, length, take, drop, refl, sym, ◌∙◌, ap, subst, arith, length-append, length-drop, append_assoc, Option, Some, None}
+use Rattle.std.proofs.Common.{◌≡◌, ℕ, zero, suc, ◌+◌, ◌<◌, ◌≤◌, Bool, true, false, ◌==◌, List, [], ◌∷◌, ◌++◌, length, take, drop, refl, sym, ◌∙◌, ap, subst, arith, length-drop, append_assoc, Option, Some, None}
 use Rattle.std.proofs.lemmas.Bool.{eqb-true}
 use Rattle.std.proofs.lemmas.List.{append-nil, take-append-drop}
 use Rattle.std.proofs.Math.Seq.{take-append_seam, drop-append_seam}
@@ -11,7 +11,7 @@ use Rattle.jn_lexer.specs.declared.front.Flaw.{Flaw}
 use Rattle.jn_lexer.specs.declared.front.Flaw.TheVariants as flaw
 use Rattle.jn_lexer.specs.declared.front.Piece.{Piece}
 use Rattle.jn_lexer.specs.declared.front.Piece.TheVariants.{Gap, Token, Fault}
-use Rattle.jn_lexer.specs.Front.{fault_at, len_of, front}
+use Rattle.jn_lexer.specs.Front.{fault_at, front}
 use Rattle.jn_lexer.specs.Lexing.{IsFaultIn}
 use Rattle.jn_lexer.proofs.Stands.{Stands}
 use Rattle.jn_lexer.proofs.Stands as stands
@@ -37,7 +37,7 @@ stands_says at (stands.comment {w = w} {rest = rest} {n = n} d e) =
 stands_says at (stands.token {k = k} {w = w} {rest = rest} {n = n} d e) =
     subst (λ m. (ts : List Lexed) (f : Option LexFault) → Lexes (at + width (take m (w ++ rest))) (drop m (w ++ rest)) ts f → Lexes at (w ++ rest) (lexed k at (at + width (take m (w ++ rest))) ∷ ts) f) (sym e)
     (λ ts f l. subst (λ (v : List ℕ). Lexes at (w ++ rest) (lexed k at (at + width v) ∷ ts) f) (sym (take-append_seam w rest))
-        (token d (subst (λ (v : List ℕ). Lexes (at + width v) rest ts f) (take-append_seam w rest) (subst (λ (v : List ℕ). Lexes (at + width (take (length w) (w ++ rest))) v ts f) (drop-append_seam w rest) l))))
+    (token d (subst (λ (v : List ℕ). Lexes (at + width v) rest ts f) (take-append_seam w rest) (subst (λ (v : List ℕ). Lexes (at + width (take (length w) (w ++ rest))) v ts f) (drop-append_seam w rest) l))))
 stands_says at (stands.fault d h) = fault (d at)
 
 front_says : (at : ℕ) (cs : List ℕ) → 0 < length cs → Says at cs (front cs)

@@ -1,12 +1,10 @@
 -- Marks and other characters, found from left to right.
-use Rattle.std.proofs.Common.{◌≡◌, ℕ, zero, suc, ◌+◌, ◌<◌, ◌≤◌, Bool, true, false, List, [], ◌∷◌, ◌++◌, length, refl, sym, ◌∙◌, ap, subst, arith, ◌==◌, if◌then◌else◌}
+use Rattle.std.proofs.Common.{◌≡◌, ℕ, ◌≤◌, true, false, List, [], ◌∷◌, ◌++◌, length, refl, ap, subst, arith, ◌==◌}
 use Rattle.std.specs.Char.{is_ascii_digit}
-use Rattle.jn_base.specs.declared.token.TokenKind.TheVariants.{Mark}
-use Rattle.jn_base.specs.Tokens.{quote, is_blank, begins_name, is_mark, begins_comment, IsToken, mark, bad_char}
+use Rattle.jn_base.specs.Tokens.{quote, is_blank, begins_name, is_mark, begins_comment, mark, bad_char}
 use Rattle.jn_lexer.specs.declared.front.Flaw.TheVariants as flaw
-use Rattle.jn_lexer.specs.declared.front.Piece.TheVariants.{Token, Fault}
 use Rattle.jn_lexer.specs.Front.{single_front, mark_front}
-use Rattle.jn_lexer.proofs.Marks.{has_shape_of_mark, mark_shape}
+use Rattle.jn_lexer.proofs.Marks.{mark_shape}
 use Rattle.jn_lexer.proofs.Stands.{Stands, token, fault_here, by_test}
 
 -- no mark has more than two characters

@@ -1,13 +1,11 @@
 -- What the marks have in common.
-use Rattle.std.proofs.Common.{◌≡◌, ℕ, zero, suc, ◌+◌, ◌<◌, ◌≤◌, Bool, true, false, not, cond, List, [], ◌∷◌, ◌++◌, length, refl, sym, ◌∙◌, ap, subst, arith, ◌&&◌, ◌||◌, ◌==◌, eqb}
+use Rattle.std.proofs.Common.{◌≡◌, ℕ, Bool, true, false, not, List, [], ◌∷◌, refl, ◌∙◌, ap, ◌&&◌, ◌||◌, ◌==◌}
 use Rattle.std.specs.Prelude.{nat_lt}
 use Rattle.std.specs.Char.{is_ascii_digit, is_ascii_alphabetic}
 use Rattle.std.specs.List.{list_any, list_all}
 use Rattle.std.specs.Str.{bytes_eq}
 use Rattle.std.proofs.lemmas.Slice.Eq.{bytes_eq-Decides}
-use Rattle.unicode_ident.specs.Ident.{is_xid_start}
-use Rattle.unicode_ident.proofs.IdentLemmas.{is_xid_start-ascii}
-use Rattle.jn_base.specs.Tokens.{is_mark, marks, is_blank, begins_name, quote, underscore}
+use Rattle.jn_base.specs.Tokens.{is_mark, marks, is_blank, quote, underscore}
 
 -- a character with which a mark may begin: no white space, letter, digit, quote or `_`
 abbrev pub may_begin_mark : ℕ → Bool

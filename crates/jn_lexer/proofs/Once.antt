@@ -4,7 +4,7 @@ use Rattle.std.proofs.Math.Seq.{take-append_seam, drop-append_seam}
 use Rattle.jn_base.specs.declared.token.TokenKind.{TokenKind}
 use Rattle.jn_base.specs.declared.token.Token.{Token as Lexed}
 use Rattle.jn_base.specs.declared.token.LexFault.{LexFault}
-use Rattle.jn_base.specs.Tokens.{slash, star, quote, width, IsComment, to_line_end, to_end, IsToken, name, keyword, number, text, mark, IsFault, bad_number, open_comment, open_text, bad_escape, bad_char, is_mark, Lexes, at_end, fault, blank, comment, token}
+use Rattle.jn_base.specs.Tokens.{width, IsComment, to_line_end, to_end, IsToken, name, keyword, number, text, mark, IsFault, bad_number, open_comment, open_text, bad_escape, bad_char, is_mark, Lexes, at_end, fault, blank, comment, token}
 use Rattle.jn_lexer.specs.declared.front.Piece.{Piece}
 use Rattle.jn_lexer.specs.declared.front.Piece.TheVariants.{Gap, Token, Fault}
 use Rattle.jn_lexer.specs.Front.{fault_at, len_of, front}

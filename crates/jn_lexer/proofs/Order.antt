@@ -1,13 +1,12 @@
 -- What the tokens of a source are beside: in order.
-use Rattle.std.proofs.Common.{◌≡◌, ℕ, zero, suc, ◌+◌, ◌<◌, ◌≤◌, true, false, List, [], ◌∷◌, ◌++◌, length, take, drop, refl, sym, ◌∙◌, ap, subst, arith, length-append, Option, Some, None}
-use Rattle.std.specs.Char.{len_utf8}
+use Rattle.std.proofs.Common.{◌≡◌, ℕ, ◌+◌, ◌<◌, ◌≤◌, List, [], ◌∷◌, ◌++◌, length, subst, arith, Option}
 use Rattle.std.proofs.lemmas.Str.{length-le-encodes}
 use Rattle.jn_base.specs.declared.token.Token.{Token as Lexed}
 use Rattle.jn_base.specs.declared.token.LexFault.{LexFault}
 use Rattle.jn_base.specs.Tokens.{width, Lexes, at_end, fault, blank, comment, token}
 use Rattle.jn_lexer.specs.Lexing.{AreInOrder}
 use Rattle.jn_lexer.proofs.Once.{token_some}
-use Rattle.jn_lexer.proofs.Widths.{width-cons, width-append}
+use Rattle.jn_lexer.proofs.Widths.{width-append}
 
 -- they may begin earlier
 earlier : (from from' to : ℕ) (ts : List Lexed) → from' ≤ from → AreInOrder from ts to → AreInOrder from' ts to

@@ -1,5 +1,5 @@
 -- What the definition of the tokens has at the front of characters.
-use Rattle.std.proofs.Common.{◌≡◌, ℕ, zero, suc, ◌+◌, ◌<◌, ◌≤◌, Bool, true, false, List, [], ◌∷◌, ◌++◌, length, take, drop, refl, sym, ◌∙◌, ap, subst, arith, if◌then◌else◌, add-zero}
+use Rattle.std.proofs.Common.{◌≡◌, ℕ, ◌+◌, ◌≤◌, Bool, true, false, List, ◌∷◌, ◌++◌, length, take, drop, refl, sym, subst, arith, if◌then◌else◌, add-zero}
 use Rattle.std.proofs.lemmas.List.{take-append-drop, length-take-le}
 use Rattle.jn_base.specs.declared.token.TokenKind.{TokenKind}
 use Rattle.jn_base.specs.Tokens.{width, is_blank, IsComment, IsToken, IsFault}

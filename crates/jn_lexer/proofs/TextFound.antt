@@ -1,5 +1,5 @@
 -- Texts, found from left to right.
-use Rattle.std.proofs.Common.{◌≡◌, ℕ, zero, suc, ◌+◌, ◌<◌, ◌≤◌, Bool, true, false, not, List, [], ◌∷◌, ◌++◌, length, take, refl, sym, ◌∙◌, ap, subst, arith, ◌||◌, ◌==◌, if◌then◌else◌, length-append, append_assoc}
+use Rattle.std.proofs.Common.{◌≡◌, ℕ, suc, ◌+◌, Bool, true, false, not, List, [], ◌∷◌, ◌++◌, length, take, refl, sym, ◌∙◌, ap, subst, arith, ◌||◌, ◌==◌, if◌then◌else◌, length-append, append_assoc}
 use Rattle.std.proofs.lemmas.Bool.{eqb-true}
 use Rattle.std.proofs.Math.Seq.{take-append_seam}
 use Rattle.jn_base.specs.declared.token.TokenKind.TheVariants.{Text}
@@ -7,7 +7,7 @@ use Rattle.jn_base.specs.declared.token.LexFault.TheVariants as lex
 use Rattle.jn_base.specs.Tokens.{quote, backslash, width, BeginsWithNo, ends_line, is_plain, is_escape, IsInText, no_more, plain, escape, text, IsFault, open_text, bad_escape}
 use Rattle.jn_lexer.specs.declared.front.Flaw.TheVariants as flaw
 use Rattle.jn_lexer.specs.declared.front.Piece.{Piece}
-use Rattle.jn_lexer.specs.declared.front.Piece.TheVariants.{Gap, Token, Fault}
+use Rattle.jn_lexer.specs.declared.front.Piece.TheVariants.{Token, Fault}
 use Rattle.jn_lexer.specs.Front.{text_front}
 use Rattle.jn_lexer.proofs.Stands.{Stands, token, fault, fault_here, by_test}
 
@@ -41,8 +41,8 @@ text_is false n (c ∷ cs) = by_test (IsText n (c ∷ cs)) (c == quote) _ _
     (λ q. subst (λ x. IsText n (x ∷ cs) (Token Text (n + 1))) (sym (eqb-true c quote q)) (closed cs no_more (omega arith)))
     (λ q. by_test (IsText n (c ∷ cs)) (ends_line c) _ _ (λ l. open_there (c ∷ cs) no_more (ap (λ (t : Bool). not t) l))
     (λ l. by_test (IsText n (c ∷ cs)) (c == backslash) _ _
-        (λ b. subst (λ x. IsText n (x ∷ cs) (text_front true n cs)) (sym (eqb-true c backslash b)) (text_is true n cs))
-        (λ b. plain_on (none_of (c == quote) (c == backslash) (ends_line c) q b l) (text_is false (n + 1) cs))))
+    (λ b. subst (λ x. IsText n (x ∷ cs) (text_front true n cs)) (sym (eqb-true c backslash b)) (text_is true n cs))
+    (λ b. plain_on (none_of (c == quote) (c == backslash) (ends_line c) q b l) (text_is false (n + 1) cs))))
 text_is true n (c ∷ cs) = by_test (IsText n (backslash ∷ c ∷ cs)) (is_escape c) _ _ (λ e. escape_on e (text_is false (n + 2) cs))
     (λ e. bad (c ∷ cs) no_more e (omega arith))
 

@@ -3,7 +3,6 @@
 use Rattle.std.specs.Prelude.{ℕ, ◌+◌, ◌==◌, ◌&&◌, Bool, true, false, not, List, [], ◌∷◌, take, if◌then◌else◌}
 use Rattle.std.specs.Char.{is_ascii_digit}
 use Rattle.std.specs.List.{prefix_len}
-use Rattle.jn_base.specs.declared.token.TokenKind.{TokenKind}
 use Rattle.jn_base.specs.declared.token.TokenKind.TheVariants.{Name, Keyword, Number, Text, Mark}
 use Rattle.jn_base.specs.declared.token.LexFault.{LexFault}
 use Rattle.jn_base.specs.declared.token.LexFault.TheVariants as fault

@@ -3,7 +3,7 @@ use Rattle.std.specs.Prelude.{◌≡◌, ◌≤◌, ◌<◌, ℕ, List, [], ◌�
 use Rattle.jn_base.specs.declared.token.Token.{Token}
 use Rattle.jn_base.specs.declared.token.LexFault.{LexFault}
 use Rattle.jn_base.specs.Tokens.{Lexes, TokensOf}
-use Rattle.jn_base.specs.declared.token.LexFault.TheVariants.{BadChar, BadNumber, OpenComment, OpenText, Memory}
+use Rattle.jn_base.specs.declared.token.LexFault.TheVariants.{Memory}
 
 -- the fault is this one
 abbrev pub IsFaultOrNone : Option LexFault → LexFault → Type 0

@@ -6,7 +6,9 @@ ghost use Rattle.std.specs.List.{prefix_len, AllPass};
 ghost use Rattle.jn_base.specs.Tokens.{is_blank, continues_name, is_keyword, is_good_number, is_mark, is_escape, begins_comment};
 ghost use Rattle.jn_lexer.specs.Front.{fault_at, len_of, word_front, number_front, text_front, long_comment_front, comment_front, single_front, mark_front, front};
 
-use crate::words::{begins_name, digits_len, is_good_number, is_keyword, is_mark, is_pair_mark, line_len, name_len};
+use crate::words::{
+    begins_name, digits_len, is_good_number, is_keyword, is_mark, is_pair_mark, line_len, name_len,
+};
 use jn_base::token::{LexFault, TokenKind};
 
 /// The faults, without a place.
@@ -61,7 +63,11 @@ fn word(cs: &[char], len: usize) -> Piece
     requires { len ≤ length cs.now }
     ensures { result ≡ word_front len cs.now }
 {
-    let kind = if is_keyword(&cs[..len]) { TokenKind::Keyword } else { TokenKind::Name };
+    let kind = if is_keyword(&cs[..len]) {
+        TokenKind::Keyword
+    } else {
+        TokenKind::Name
+    };
     Piece::Token(kind, len)
 }
 
@@ -71,7 +77,11 @@ fn number(cs: &[char], len: usize) -> Piece
     requires digits { AllPass is_ascii_digit (take len cs.now) }
     ensures { result ≡ number_front len cs.now }
 {
-    if is_good_number(&cs[..len]) { Piece::Token(TokenKind::Number, len) } else { Piece::Fault(Flaw::BadNumber, 0) }
+    if is_good_number(&cs[..len]) {
+        Piece::Token(TokenKind::Number, len)
+    } else {
+        Piece::Fault(Flaw::BadNumber, 0)
+    }
 }
 
 /// A text, of whose characters these stand behind the first quote.
@@ -99,7 +109,11 @@ fn text(cs: &[char]) -> Piece
         }
         rest = after;
     }
-    if escaped { Piece::Fault(Flaw::BadChar, len) } else { Piece::Fault(Flaw::OpenText, 0) }
+    if escaped {
+        Piece::Fault(Flaw::BadChar, len)
+    } else {
+        Piece::Fault(Flaw::OpenText, 0)
+    }
 }
 
 fn is_blank(c: char) -> bool
@@ -149,7 +163,11 @@ fn comment(cs: &[char]) -> Piece
 fn single(c: char) -> Piece
     ensures { result ≡ single_front c }
 {
-    if is_mark(c) { Piece::Token(TokenKind::Mark, 1) } else { Piece::Fault(Flaw::BadChar, 0) }
+    if is_mark(c) {
+        Piece::Token(TokenKind::Mark, 1)
+    } else {
+        Piece::Fault(Flaw::BadChar, 0)
+    }
 }
 
 #[tactic(auto, unfolding(crate::specs::Front::mark_front))]
@@ -159,7 +177,11 @@ fn mark(cs: &[char]) -> Piece
     match cs {
         [] => Piece::Fault(Flaw::BadChar, 0),
         [c] => single(*c),
-        [c, d, ..] => if is_pair_mark(*c, *d) { Piece::Token(TokenKind::Mark, 2) } else { single(*c) },
+        [c, d, ..] => if is_pair_mark(*c, *d) {
+            Piece::Token(TokenKind::Mark, 2)
+        } else {
+            single(*c)
+        },
     }
 }
 

@@ -12,6 +12,8 @@ ghost use Rattle.jn_base.specs.declared.token.LexFault.{LexFault as Faulty};
 ghost use Rattle.jn_lexer.specs.Lexing.{IsAnswer, IsFaultIn, IsFaultOf, AreInOrder};
 
 mod front;
+#[cfg(test)]
+mod tests;
 mod words;
 
 use crate::front::{Piece, front};
@@ -66,7 +68,11 @@ fn pieces(alloc: Global, cs: &[char]) -> Result<Vec<Token>, LexFault>
         let end = at + width(passed);
         match piece {
             Piece::Gap(_) => {}
-            Piece::Token(kind, _) => found.push(Token { kind, start: at, end })?,
+            Piece::Token(kind, _) => found.push(Token {
+                kind,
+                start: at,
+                end,
+            })?,
             Piece::Fault(flaw, _) => return Err(flaw.at(end)),
         }
         at = end;

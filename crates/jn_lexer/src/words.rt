@@ -49,8 +49,9 @@ pub fn line_len(cs: &[char]) -> usize
 }
 
 const KEYWORDS: [&str; 23] = [
-    "adapts", "boolean", "class", "else", "extends", "false", "final", "if", "int", "is", "new", "null", "package", "print",
-    "return", "shares", "sharing", "super", "this", "true", "view", "void", "while",
+    "adapts", "boolean", "class", "else", "extends", "false", "final", "if", "int", "is", "new",
+    "null", "package", "print", "return", "shares", "sharing", "super", "this", "true", "view",
+    "void", "while",
 ];
 
 /// Whether the characters are these of ASCII.
@@ -118,7 +119,25 @@ pub fn is_mark(c: char) -> bool
 {
     matches!(
         c,
-        '{' | '}' | '(' | ')' | '[' | ']' | '.' | ',' | ';' | '=' | '!' | '<' | '>' | '+' | '-' | '*' | '/' | '%' | '&' | '\\'
+        '{' | '}'
+            | '('
+            | ')'
+            | '['
+            | ']'
+            | '.'
+            | ','
+            | ';'
+            | '='
+            | '!'
+            | '<'
+            | '>'
+            | '+'
+            | '-'
+            | '*'
+            | '/'
+            | '%'
+            | '&'
+            | '\\'
     )
 }
 
@@ -127,7 +146,10 @@ pub fn is_mark(c: char) -> bool
 pub fn is_pair_mark(c: char, d: char) -> bool
     ensures { result ≡ is_mark (c ∷ d ∷ []) }
 {
-    matches!((c, d), ('=' | '!' | '<' | '>', '=') | ('&', '&') | ('|', '|') | ('-', '>'))
+    matches!(
+        (c, d),
+        ('=' | '!' | '<' | '>', '=') | ('&', '&') | ('|', '|') | ('-', '>')
+    )
 }
 
 /// How many bytes the characters take.

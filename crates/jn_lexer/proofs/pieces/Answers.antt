@@ -1,9 +1,8 @@
-use Rattle.std.proofs.Common.{◌≡◌, ◌≤◌, ◌<◌, ◌+◌, List, length, take, is_ok, refl, sym, ◌∙◌, ap, subst, arith}
+use Rattle.std.proofs.Common.{◌≡◌, ◌≤◌, ◌+◌, List, is_ok, refl, sym, ◌∙◌, ap, subst, arith}
 use Rattle.std.proofs.ResultArms.{chosen}
 use Rattle.jn_base.specs.Tokens.{width}
 use Rattle.jn_base.specs.declared.token.Token.{Token as Lexed}
-use Rattle.jn_lexer.specs.Lexing.{IsFaultIn}
-use Rattle.jn_lexer.specs.Front.{len_of, fault_at, front}
+use Rattle.jn_lexer.specs.Front.{len_of, front}
 use Rattle.jn_lexer.proofs.Once.{front_within}
 use Rattle.jn_lexer.proofs.Loop.{passes, IsSoFar, nonempty, is_empty_at, so_far_gap, so_far_token, so_far_fault, so_far_ends, less_at_gap, less_at_token, place_within, fault_in}
 use Rattle.jn_lexer.proofs.pieces.Goals as goal

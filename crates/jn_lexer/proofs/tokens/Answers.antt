@@ -1,6 +1,5 @@
 use Rattle.std.proofs.Common.{◌≡◌, ◌∙◌, length, arith}
 use Rattle.jn_base.specs.Tokens.{width}
-use Rattle.jn_base.specs.declared.token.Token.{Token as Lexed}
 use Rattle.jn_lexer.proofs.Answer.{found_of, fault_of, only_of, order_of, width_of}
 use Rattle.jn_lexer.proofs.tokens.Goals as goal
 

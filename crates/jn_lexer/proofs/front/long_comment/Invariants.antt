@@ -1,4 +1,4 @@
-use Rattle.std.proofs.Common.{◌≡◌, ◌≤◌, ◌+◌, length, false, List}
+use Rattle.std.proofs.Common.{◌≡◌, ◌≤◌, ◌+◌, length, false}
 use Rattle.jn_lexer.specs.Front.{long_comment_front}
 use Rattle.jn_lexer.proofs.front.long_comment.Given as goal
 

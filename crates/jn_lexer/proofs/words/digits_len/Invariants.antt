@@ -1,7 +1,6 @@
-use Rattle.std.proofs.Common.{length, ◌-◌, ◌+◌, ◌≡◌, ◌≤◌, ◌==◌, not, drop}
+use Rattle.std.proofs.Common.{length, ◌-◌, ◌+◌, ◌≡◌, ◌≤◌, drop}
 use Rattle.std.specs.Char.{is_ascii_digit}
 use Rattle.std.specs.List.{prefix_len}
-use Rattle.jn_base.specs.Tokens.{continues_name, line_feed}
 use Rattle.jn_lexer.proofs.words.digits_len.Given as goal
 
 -- the characters so far pass
