@@ -8,3 +8,4 @@ pub mod path;
 pub mod refusal;
 pub mod token;
 pub mod tree;
+pub mod word;
