@@ -7,7 +7,7 @@ use Rattle.jn_base.specs.Tokens.{quote, star, slash, backslash, BeginsWithNo, en
 use Rattle.jn_lexer.specs.declared.front.Flaw.TheVariants as flaw
 use Rattle.jn_lexer.specs.declared.front.Piece.TheVariants.{Gap, Token, Fault}
 use Rattle.jn_lexer.specs.Front.{text_front, long_comment_front}
-use Rattle.jn_lexer.proofs.Tests.{if_true, if_false, line_end_no_quote}
+use Rattle.jn_lexer.proofs.CharTests.{if_true, if_false, line_end_no_quote}
 
 -- a run is as long as the characters that pass
 pub run_is : (test : ℕ → Bool) (w rest : List ℕ) → AllPass test w → BeginsWithNo test rest → prefix_len test (w ++ rest) ≡ length w

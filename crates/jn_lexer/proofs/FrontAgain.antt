@@ -16,7 +16,7 @@ use Rattle.jn_lexer.specs.declared.front.Piece.TheVariants.{Gap, Token, Fault}
 use Rattle.jn_lexer.specs.Front.{fault_at, word_front, number_front, text_front, long_comment_front, comment_front, single_front, mark_front, front}
 use Rattle.jn_lexer.proofs.Marks.{may_begin_mark, mark_shape, and_left, and_right}
 use Rattle.jn_lexer.proofs.MarkFound.{IsOther}
-use Rattle.jn_lexer.proofs.Tests.{if_true, if_false, no_name_at, name_no_blank, digit_no_name, digit_no_blank}
+use Rattle.jn_lexer.proofs.CharTests.{if_true, if_false, no_name_at, name_no_blank, digit_no_name, digit_no_blank}
 use Rattle.jn_lexer.proofs.Again.{run_is, closed_again, open_again, bad_again, ended_again, endless_again}
 
 -- which way the first character goes

@@ -7,7 +7,7 @@ pub mod TextFound
 pub mod CommentFound
 pub mod MarkFound
 pub mod FrontFound
-pub mod Tests
+pub mod CharTests
 pub mod Again
 pub mod FrontAgain
 pub mod Once
