@@ -44,7 +44,7 @@ mutual
     super_call : {d : ℕ} {p q : Place} (b s o n u c : Place) {x : Name} {v w : List Part} {t : Term} {es : List Expr}
         → IsTerm (suc d) q v t → IsArgs (suc d) w es
         → IsForm d p (key Super p ∷ opening d OpenBracket b ∷ (v ++ mark CloseBracket s ∷ mark Dot o ∷ name x n ∷ opening d OpenParen u ∷ (w ++ mark CloseParen c ∷ [])))
-          (expr p (node.Super t (named x n) es))
+        (expr p (node.Super t (named x n) es))
 
   -- Prim = Number | "true" | "false" | "null" | "this" | Name | "(" Expr ")" | a form with "new" or "super".
   -- Parentheses leave no node.

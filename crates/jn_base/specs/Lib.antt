@@ -1,6 +1,9 @@
+pub mod GrammarDecl
 pub mod GrammarExpr
+pub mod GrammarStmt
 pub mod GrammarTypes
 pub mod Parts
 pub mod Places
+pub mod Spelling
 pub mod Tokens
 pub mod Words

@@ -1,5 +1,5 @@
 -- The words of a source: its tokens as the grammar sees them, with the end of the file or the first fault behind.
-use Rattle.std.specs.Prelude.{◌≡◌, ℕ, ◌+◌, ◌-◌, ◌<◌, pos, true, List, [], ◌∷◌, ◌++◌, Option, Some, None, length, take, drop, map, codes, slice_get}
+use Rattle.std.specs.Prelude.{◌≡◌, ℕ, ◌+◌, ◌-◌, ◌<◌, pos, true, List, [], ◌∷◌, ◌++◌, Option, Some, None, length, take, drop, codes, slice_get}
 use Rattle.std.specs.List.{filter_map}
 use Rattle.jn_base.specs.declared.token.Token.{Token}
 use Rattle.jn_base.specs.declared.token.TokenKind.{TokenKind}
