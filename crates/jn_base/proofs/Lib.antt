@@ -1,0 +1,4 @@
+pub mod ExampleExprs
+pub mod ExampleStmts
+pub mod ExampleWords
+pub mod ExampleProgram
