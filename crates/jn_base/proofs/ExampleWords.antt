@@ -1,14 +1,13 @@
 -- Words for the examples: names by their numbers, and places by their columns in line 1.
-use Rattle.std.specs.Prelude.{ℕ, pos, ℤ, List, []}
+use Rattle.std.specs.Prelude.{ℕ, pos, List, []}
 use Rattle.jn_base.specs.declared.tree.Name.{Name}
 use Rattle.jn_base.specs.declared.tree.Place.{Place}
 use Rattle.jn_base.specs.declared.tree.Expr.{Expr}
 use Rattle.jn_base.specs.declared.tree.Node.TheVariants as node
 use Rattle.jn_base.specs.Parts.{Part, name, number, expr}
-use Rattle.jn_base.specs.GrammarTypes.{IsDotted, one_name, IsNames, loose, IsTerm, plain}
-use Rattle.jn_base.specs.GrammarExpr.{IsPrim, variable, constant, IsSuffixes, no_suffix, IsPost, post, IsUnary, unsigned, IsProduct, product, no_factor, IsSum, sum, no_summand, IsComparison, one_sum, IsEquality, one_side, IsConjunction, conjunction, no_conjunct, IsExpr, disjunction, no_disjunct}
+use Rattle.jn_base.specs.GrammarTypes.{one_name, loose, IsTerm, plain}
+use Rattle.jn_base.specs.GrammarExpr.{IsPrim, variable, constant, no_suffix, post, IsUnary, unsigned, IsProduct, product, no_factor, IsSum, sum, no_summand, one_sum, IsEquality, one_side, IsConjunction, conjunction, no_conjunct, IsExpr, disjunction, no_disjunct}
 use Rattle.jn_base.specs.Parts.{term}
-use Rattle.jn_base.specs.declared.tree.Term.{Term}
 use Rattle.jn_base.specs.declared.tree.Head.TheVariants as head
 use Rattle.std.specs.Prelude.{◌∷◌, ◌++◌}
 
