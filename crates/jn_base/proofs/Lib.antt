@@ -17,3 +17,9 @@ pub mod TreeTwice
 pub mod Unique
 pub mod VerdictProofs
 pub mod VerdictTools
+pub mod ExampleExprs
+pub mod ExampleStmts
+pub mod ExampleWords
+pub mod ExampleProgram
+pub mod ExampleFaults
+pub mod ExampleSource

@@ -13,3 +13,12 @@ pub mod TableRules
 pub mod Twice
 pub mod Universe
 pub mod VerdictExamples
+pub mod GrammarDecl
+pub mod GrammarExpr
+pub mod GrammarStmt
+pub mod GrammarTypes
+pub mod Parts
+pub mod Places
+pub mod Spelling
+pub mod Tokens
+pub mod Words

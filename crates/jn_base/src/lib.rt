@@ -13,4 +13,6 @@ pub mod examples;
 pub mod laws;
 pub mod path;
 pub mod refusal;
+pub mod token;
 pub mod tree;
+pub mod word;

@@ -1,0 +1,16 @@
+pub mod Digits
+pub mod Widths
+pub mod Marks
+pub mod Stands
+pub mod Found
+pub mod TextFound
+pub mod CommentFound
+pub mod MarkFound
+pub mod FrontFound
+pub mod CharTests
+pub mod Again
+pub mod FrontAgain
+pub mod Once
+pub mod Order
+pub mod Loop
+pub mod Answer
