@@ -1,0 +1,41 @@
+//! The parser of Jand's plain form: one class `Main` whose one method `main` prints the values of
+//! expressions of numbers with `+`, `-` and `*`.
+//!
+//! What the bytes of a source spell is the relation `SourceSpells` of specs/Spelling.antt. `parse`
+//! answers the tree exactly where the bytes spell one.
+#![tactic(auto)]
+
+mod fault;
+mod token;
+
+ghost use Rattle.std.specs.Prelude.{◌≡◌, ◌≤◌, ◌↔◌, length, List, ℕ, IfOk};
+ghost use Rattle.jn_base.specs.declared.tree.Program.{Program};
+ghost use Rattle.jn_parser.specs.Spelling.{SourceSpells};
+ghost use Rattle.jn_parser.specs.Answer.{IfRefused, IsSyntaxRefusal, IsUnlessMemory};
+ghost use Rattle.jn_parser.specs.Plain.{IsPlain};
+
+pub use fault::ParseFault;
+use jn_base::tree::Program;
+use std::alloc::Global;
+
+/// Bytes spell one program at most.
+pub fn one_program()
+    ensures { (p q : Program) (bytes : List ℕ) → SourceSpells p bytes → SourceSpells q bytes → p ≡ q }
+{}
+
+/// The tree that the bytes spell.
+///
+/// A source that spells none is refused by E01 at 1:1, whatever is wrong with it.
+pub fn parse(alloc: Global, bytes: &[u8]) -> Result<Program, ParseFault>
+    requires { length bytes.now ≤ 1048576 }
+    // The tree that is given is spelled by the bytes.
+    ensures found { IfOk result (λ p. SourceSpells p bytes.now) }
+    // What the bytes spell is given, unless memory runs out; so they spell one program at most.
+    ensures only { (p : Program) → SourceSpells p bytes.now → IsUnlessMemory result p }
+    // It has the plain form.
+    ensures plain { IfOk result IsPlain }
+    // What is refused spells no program, and is refused by E01 at 1:1 alone.
+    ensures refused { IfRefused result (λ r. IsSyntaxRefusal r × ((p : Program) → SourceSpells p bytes.now → ⊥)) }
+{
+    Err(ParseFault::Memory)
+}
