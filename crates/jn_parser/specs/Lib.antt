@@ -2,3 +2,4 @@ pub mod Tokens
 pub mod Spelling
 pub mod Answer
 pub mod Plain
+pub mod Reading

@@ -5,7 +5,11 @@
 //! answers the tree exactly where the bytes spell one.
 #![tactic(auto)]
 
+mod cursor;
+mod expr;
 mod fault;
+mod program;
+mod scan;
 mod token;
 
 ghost use Rattle.std.specs.Prelude.{◌≡◌, ◌≤◌, ◌↔◌, length, List, ℕ, IfOk};
