@@ -11,6 +11,13 @@ use Rattle.jn_parser.proofs.Tools.{if_true, if_false}
 abbrev pub Rowing : {A : Type 0} → (List Token → Bool) → (List Token → Answer A) → List A → List Token → Answer (List A) → Type 0
 Rowing more item found rest answer = (clock : ℕ) × (length rest ≤ clock) × (with_front found (many more item clock rest) ≡ answer)
 
+pub row_starts : {A : Type 0} (more : List Token → Bool) (item : List Token → Answer A) (ts : List Token) → Rowing more item [] ts (many more item (length ts) ts)
+row_starts {A} more item ts = (length ts, omega arith, by_answer (many more item (length ts) ts))
+  where
+    by_answer : (r : Answer (List A)) → with_front [] r ≡ r
+    by_answer (Some x) = refl
+    by_answer None = refl
+
 pub row_goes : {A : Type 0} (more : List Token → Bool) (item : List Token → Answer A) (found : List A) (rest : List Token) (answer : Answer (List A)) (x : A) (after : List Token)
     → more rest ≡ true → item rest ≡ Some (x, after) → length after < length rest → Rowing more item found rest answer → Rowing more item (found ++ x ∷ []) after answer
 unfolding many

@@ -10,7 +10,7 @@ use Rattle.jn_parser.specs.declared.token.Kind.{Kind}
 use Rattle.jn_parser.specs.declared.token.Kind.TheVariants as kind
 use Rattle.jn_parser.specs.declared.token.Token.{Token}
 use Rattle.jn_parser.specs.Spelling.{symbol, number, operand}
-use Rattle.jn_parser.specs.Reading.{Answer, ◌>>=◌, behind, place, code, same_symbol, is_symbol, begins, expect, number_by, number_in}
+use Rattle.jn_parser.specs.Reading.{Answer, ◌>>=◌, behind, place, code, same_symbol, is_symbol, begins, begins_term, expect, number_by, number_in}
 
 -- where the test went
 pub if_true : {A : Type 0} (c : Bool) (x y : A) → c ≡ true → (if c then x else y) ≡ x
@@ -70,6 +70,10 @@ begins_is s (t ∷ ts) h = ap (λ (k : Kind). let u : Token = record { kind = k;
 pub begins_some : (s : Symbol) (ts : List Token) → begins s ts ≡ true → 0 < length ts
 begins_some s [] h = cc
 begins_some s (t ∷ ts) h = omega arith
+
+pub term_some : (ts : List Token) → begins_term ts ≡ true → 0 < length ts
+term_some [] h = cc
+term_some (t ∷ ts) h = omega arith
 
 -- What an answer says of the grammar: the words that it took are an X with its tree.
 pub record Took {A : Type 0} (Is : List Token → A → Type 0) (ts : List Token) (x : A × List Token) : Type 0 where
