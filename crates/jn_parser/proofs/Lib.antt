@@ -5,4 +5,5 @@ pub mod Sound
 pub mod Again
 pub mod Runs
 pub mod Scans
+pub mod ScanLoop
 pub mod Theorem

@@ -1,11 +1,11 @@
 -- The bytes that pass a test, and the places behind bytes of one line.
-use Rattle.std.proofs.Common.{◌≡◌, ℕ, zero, suc, ◌≤◌, ◌<◌, ◌+◌, Bool, true, false, ◌||◌, List, [], ◌∷◌, ◌++◌, length, take, drop, refl, sym, ◌∙◌, ap, subst, arith, if◌then◌else◌}
-use Rattle.std.specs.Prelude.{◌==◌, IsTrue}
+use Rattle.std.proofs.Common.{◌≡◌, ℕ, zero, suc, ◌≤◌, ◌<◌, ◌+◌, ◌-◌, ◌*◌, ◌/◌, Bool, true, false, ◌||◌, List, [], ◌∷◌, ◌++◌, length, take, drop, drop-cons, get_or, Option, Some, None, refl, sym, ◌∙◌, ap, subst, arith, if◌then◌else◌}
+use Rattle.std.specs.Prelude.{◌==◌, IsTrue, nat_lt}
 use Rattle.std.specs.List.{AllByRecursion}
-use Rattle.std.proofs.lemmas.Bool.{eqb-true}
+use Rattle.std.proofs.lemmas.Bool.{eqb-true, le-ltb}
 use Rattle.jn_base.specs.declared.tree.Place.{Place}
-use Rattle.jn_parser.specs.Tokens.{next_place, place_behind}
-use Rattle.jn_parser.specs.Reading.{run_len, place_along}
+use Rattle.jn_parser.specs.Tokens.{next_place, place_behind, value_behind}
+use Rattle.jn_parser.specs.Reading.{run_len, place_along, small_value}
 use Rattle.jn_parser.proofs.Tools.{if_true, if_false, sound_if}
 
 -- the first byte doesn't pass
@@ -51,3 +51,17 @@ place_along_line p f (b ∷ w) a at =
     ap (λ (q : Place). place_behind q w) (if_false (b == 10) _ _ (apart p b 10 f a.0))
     ∙ place_along_line p f w a.1 (place_along at 1)
     ∙ ap (λ n. let q : Place = record { line = at.line; column = n } in q) e
+
+-- Further digits make a number no less.
+value_grows : (n : ℕ) (bs : List ℕ) → n ≤ value_behind n bs
+value_grows n [] = omega arith
+value_grows n (b ∷ bs) = let more = value_grows (10 * n + (b - 48)) bs in omega arith
+
+-- Digits whose front is too great already are no number.
+pub too_great : (digits : List ℕ) (i value digit : ℕ) → i < length digits → value_behind value (drop i digits) ≡ value_behind 0 digits
+    → digit ≡ get_or digits i 0 - 48 → (9223372036854775807 - digit) / 10 < value → small_value digits ≡ None
+too_great digits i value digit within so_far is over =
+    let opened : value_behind value (drop i digits) ≡ value_behind (10 * value + (get_or digits i 0 - 48)) (drop (suc i) digits) = ap (λ ds. value_behind value ds) (drop-cons digits i 0 within) in
+    let grows = value_grows (10 * value + (get_or digits i 0 - 48)) (drop (suc i) digits) in
+    let great : 9223372036854775808 ≤ value_behind 0 digits = omega arith in
+    if_false (nat_lt (value_behind 0 digits) 9223372036854775808) (Some (value_behind 0 digits)) None (le-ltb (value_behind 0 digits) 9223372036854775808 great)

@@ -180,6 +180,15 @@ token_front (b ∷ bs) =
     sound_if (Fronts (b ∷ bs)) (is_ascii_digit b) _ _ (λ e. number_front b bs e)
     (λ _. sound_if (Fronts (b ∷ bs)) (begins_name b) _ _ (λ e. word_front b bs e) (λ _. mark_front b bs))
 
+front_of : (bs : List ℕ) (x : Kind × ℕ) → token_at bs ≡ Some x → IsFront bs x
+front_of bs x e = subst (Fronts bs) e (token_front bs)
+
+pub front_some : (bs : List ℕ) (x : Kind × ℕ) → token_at bs ≡ Some x → 1 ≤ x.1
+front_some bs x e = (front_of bs x e).some
+
+pub front_within : (bs : List ℕ) (x : Kind × ℕ) → token_at bs ≡ Some x → x.1 ≤ length bs
+front_within bs x e = (front_of bs x e).within
+
 -- What is scanned are the tokens.
 abbrev pub AreScanned : Place → List ℕ → Option (List Token) → Type 0
 AreScanned at bs None = Unit {0}
@@ -196,7 +205,7 @@ scan_sound (suc clock) at (b ∷ bs) =
     (λ _. holds_then (Fronts (b ∷ bs)) (AreScanned at (b ∷ bs)) (token_at (b ∷ bs)) _ tt (token_front (b ∷ bs))
     (λ x f. holds_then (AreScanned (place_along at x.1) (drop x.1 (b ∷ bs))) (AreScanned at (b ∷ bs)) (scan clock (place_along at x.1) (drop x.1 (b ∷ bs))) _ tt (scan_sound clock (place_along at x.1) (drop x.1 (b ∷ bs)))
     (λ ts d. subst (λ i. Lexes at i (token x.0 at ∷ ts)) (take-append-drop x.1 (b ∷ bs))
-        (then_token (take x.1 (b ∷ bs)) (drop x.1 (b ∷ bs)) f.is f.ends (subst (λ q. Lexes q (drop x.1 (b ∷ bs)) ts) (sym (f.along at)) d)))))
+    (then_token (take x.1 (b ∷ bs)) (drop x.1 (b ∷ bs)) f.is f.ends (subst (λ q. Lexes q (drop x.1 (b ∷ bs)) ts) (sym (f.along at)) d)))))
   where
     by_space : IsTrue (is_space b) → (r : Option (List Token)) → AreScanned (next_place at b) bs r → AreScanned at (b ∷ bs) r
     by_space e None d = tt
@@ -313,7 +322,7 @@ scan_token clock at k (b ∷ w) rest ts t e h room =
     if_false (is_space b) _ _ (token_begins t)
     ∙ then_some _ (token_again k (b ∷ w) rest t e)
     (then_some _ (ap (λ (i : List ℕ). scan clock (place_along at (length (b ∷ w))) i) (drop-append_seam (b ∷ w) rest)
-        ∙ ap (λ (q : Place). scan clock q rest) (sym (token_along k (b ∷ w) rest t e at)) ∙ h fits) refl)
+    ∙ ap (λ (q : Place). scan clock q rest) (sym (token_along k (b ∷ w) rest t e at)) ∙ h fits) refl)
 
 no_room : (w rest : List ℕ) → Begins w → length (w ++ rest) ≤ 0 → ⊥
 no_room [] rest b h = b

@@ -168,7 +168,7 @@ program_sound ts = sound_then IsClassHead (λ r. Whole ts r) ts (class_in ts) _ 
     joined ts c m body wc wm wb (class_head a {b} cc') (method_head d {e} f g h) is x y z o =
         subst (λ (i : List Token). IsProgram i (main_program b e body.0))
         (sym (x ∙ ap (λ (v : List Token). symbol Class a ∷ symbol MainClass b ∷ symbol OpenBrace cc' ∷ v) (y ∙ ap (λ (v : List Token). symbol Void d ∷ symbol MainMethod e ∷ symbol Open f ∷ symbol Close g ∷ symbol OpenBrace h ∷ v)
-            (z ∙ ap (λ (v : List Token). wb ++ v) o))))
+        (z ∙ ap (λ (v : List Token). wb ++ v) o))))
         (program a cc' d f g h (place body.1) (place (behind body.1)) is)
 
 -- each item of a row takes a token

@@ -91,6 +91,10 @@ token_at (b ∷ bs) =
     else if begins_name b then word_at (b ∷ bs) (run_len continues_name (b ∷ bs))
     else mark_at b
 
+abbrev pub first_of : List ℕ → Option ℕ
+first_of [] = None
+first_of (b ∷ bs) = Some b
+
 -- the place n bytes further on in the line
 abbrev pub place_along : Place → ℕ → Place
 place_along at n = record { line = at.line; column = at.column + n }

@@ -1,9 +1,9 @@
 //! The tokens of a source.
 
-ghost use Rattle.std.specs.Prelude.{◌≡◌, ◌≤◌, ◌<◌, length, pos, IfSome, option_map};
+ghost use Rattle.std.specs.Prelude.{◌≡◌, ◌+◌, ◌≤◌, ◌<◌, length, drop, pos, IfSome, option_map};
 ghost use Rattle.std.specs.Char.{is_ascii_digit};
 ghost use Rattle.jn_parser.specs.Tokens.{is_space, begins_name, continues_name, next_place, beginning};
-ghost use Rattle.jn_parser.specs.Reading.{Gives, run_len, word_of, mark_of, leads_zero, small_value, number_of, token_at, scan};
+ghost use Rattle.jn_parser.specs.Reading.{Gives, run_len, word_of, mark_of, leads_zero, small_value, number_of, first_of, token_at, place_along, scan};
 
 use crate::fault::Stop;
 use crate::token::{Kind, Symbol, Token};
@@ -152,4 +152,76 @@ fn token_at(bytes: &[u8]) -> Option<(Kind, usize)>
         let mark = mark_of(*first)?;
         Some((Kind::Symbol(mark), 1))
     }
+}
+
+/// The place behind a byte.
+fn next_place(at: Place, b: u8) -> Place
+    requires line { at.line < 4294967295 }
+    requires column { at.column < 4294967295 }
+    ensures { result ≡ next_place at b }
+{
+    if b == b'\n' {
+        Place {
+            line: at.line + 1,
+            column: 1,
+        }
+    } else {
+        Place {
+            line: at.line,
+            column: at.column + 1,
+        }
+    }
+}
+
+/// The place behind a token with this many bytes.
+fn along(at: Place, len: usize) -> Place
+    requires { at.column + len < 4294967296 }
+    ensures { result ≡ place_along at len }
+{
+    Place {
+        line: at.line,
+        column: at.column + len as u32,
+    }
+}
+
+fn first_of(bytes: &[u8]) -> Option<u8>
+    ensures { result ≡ first_of bytes.now }
+{
+    match bytes {
+        [] => None,
+        [first, ..] => Some(*first),
+    }
+}
+
+/// The bytes behind the first `n`.
+fn after(bytes: &[u8], n: usize) -> &[u8]
+    requires { n ≤ length bytes.now }
+    ensures { result.now ≡ drop n bytes.now }
+{
+    let (_, rest) = bytes.split_at(n);
+    rest
+}
+
+/// The tokens of the bytes.
+pub fn tokens(alloc: Global, bytes: &[u8]) -> Result<Vec<Token>, Stop>
+    requires { length bytes.now ≤ 1048576 }
+    ensures { Gives (λ v. v.items) result (scan (length bytes.now) beginning bytes.now) }
+{
+    let mut found = Vec::new(alloc);
+    let mut at = Place { line: 1, column: 1 };
+    let mut rest = bytes;
+    'row: while let Some(first) = first_of(rest) {
+        if is_space(first) {
+            at = next_place(at, first);
+            rest = after(rest, 1);
+            continue;
+        }
+        let Some((kind, len)) = token_at(rest) else {
+            return Err(Stop::Syntax);
+        };
+        found.push(Token { kind, at })?;
+        at = along(at, len);
+        rest = after(rest, len);
+    }
+    Ok(found)
 }
