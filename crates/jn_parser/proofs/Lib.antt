@@ -7,3 +7,4 @@ pub mod Runs
 pub mod Scans
 pub mod ScanLoop
 pub mod Theorem
+pub mod Plainness

@@ -1,5 +1,5 @@
 -- Reading is the grammar.
-use Rattle.std.proofs.Common.{◌≡◌, ◌≤◌, ℕ, List, length, Option, Some, None, refl, sym, ◌∙◌, arith}
+use Rattle.std.proofs.Common.{◌≡◌, ◌≤◌, ℕ, List, length, Option, Some, None, refl, sym, ◌∙◌, subst, arith}
 use Rattle.jn_base.specs.declared.tree.Program.{Program}
 use Rattle.jn_parser.specs.declared.token.Token.{Token}
 use Rattle.jn_parser.specs.Tokens.{beginning, Lexes}
@@ -37,3 +37,19 @@ one_tree p q bytes a b = some_is (sym (reading_again p bytes a) ∙ reading_agai
   where
     some_is : ◌≡◌ {A = Option Program} (Some p) (Some q) → p ≡ q
     some_is e = cc
+
+-- The same by what was read.
+pub read_is : (bytes : List ℕ) (p : Program) → reading bytes ≡ Some p → SourceSpells p bytes
+read_is bytes p e = subst (Reads bytes) e (reading_sound bytes)
+
+pub read_is_all : (bytes : List ℕ) (p q : Program) → reading bytes ≡ Some p → SourceSpells q bytes → p ≡ q
+read_is_all bytes p q e s = some_is (sym e ∙ reading_again q bytes s)
+  where
+    some_is : ◌≡◌ {A = Option Program} (Some p) (Some q) → p ≡ q
+    some_is e = cc
+
+pub read_is_none : (bytes : List ℕ) → reading bytes ≡ None → (p : Program) → SourceSpells p bytes → ⊥
+read_is_none bytes e p s = never (sym e ∙ reading_again p bytes s)
+  where
+    never : ◌≡◌ {A = Option Program} None (Some p) → ⊥
+    never e = cc

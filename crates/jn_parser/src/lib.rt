@@ -17,9 +17,14 @@ ghost use Rattle.jn_base.specs.declared.tree.Program.{Program};
 ghost use Rattle.jn_parser.specs.Spelling.{SourceSpells};
 ghost use Rattle.jn_parser.specs.Answer.{IfRefused, IsSyntaxRefusal, IsUnlessMemory};
 ghost use Rattle.jn_parser.specs.Plain.{IsPlain};
+ghost use Rattle.jn_parser.specs.Reading.{Gives, reading};
 
 pub use fault::ParseFault;
-use jn_base::tree::Program;
+use fault::Stop;
+use jn_base::refusal::{Refusal, Rule};
+use jn_base::tree::{Place, Program};
+use program::program;
+use scan::tokens;
 use std::alloc::Global;
 
 /// Bytes spell one program at most.
@@ -41,5 +46,32 @@ pub fn parse(alloc: Global, bytes: &[u8]) -> Result<Program, ParseFault>
     // What is refused spells no program, and is refused by E01 at 1:1 alone.
     ensures refused { IfRefused result (λ r. IsSyntaxRefusal r × ((p : Program) → SourceSpells p bytes.now → ⊥)) }
 {
-    Err(ParseFault::Memory)
+    match read(alloc, bytes) {
+        Ok(p) => Ok(p),
+        Err(Stop::Syntax) => Err(ParseFault::Refused(refusal())),
+        Err(Stop::Memory) => Err(ParseFault::Memory),
+    }
+}
+
+/// What reading from left to right gives.
+#[tactic(auto, unfolding(crate::specs::Reading::reading))]
+fn read(alloc: Global, bytes: &[u8]) -> Result<Program, Stop>
+    requires { length bytes.now ≤ 1048576 }
+    ensures { Gives (λ p. p) result (reading bytes.now) }
+{
+    let ts = tokens(alloc, bytes)?;
+    program(alloc, ts.as_slice())
+}
+
+/// The refusal of a source that spells no program.
+fn refusal() -> Refusal
+    ensures { IsSyntaxRefusal result }
+{
+    Refusal {
+        rule: Rule::E01,
+        at: Place { line: 1, column: 1 },
+        class: None,
+        member: None,
+        limit: None,
+    }
 }

@@ -34,9 +34,10 @@ row-preserved c =
     let first : first_of c.row.rest.now ≡ Some c.in-Some.first = sym c.first_of.ensures ∙ c.in-Some.is in
     let space : is_space c.in-Some.first ≡ false = sym c.is_space.ensures ∙ c.if-is_space.false in
     let t : token_at c.row.rest.now ≡ Some (c.in-Some-token_at.kind, c.in-Some-token_at.len) = sym c.token_at.ensures.value ∙ c.in-Some-token_at.is in
-    rw (c.after-rest-in-Some.ensures, c.along-at.ensures, c.in_ok-push.ensures.items)
-    (scan_item c.row.found.items c.row.at c.in-Some.first c.row.rest.now _ c.in-Some-token_at.kind c.in-Some-token_at.len first space t c.row.invariant.0,
-      counts_along c.row.at c.in-Some-token_at.len c.row.rest.now (front_within c.row.rest.now _ t) c.row.invariant.1)
+    rw (c.after-rest-in-Some.ensures, c.along-at.ensures, c.in_ok-push.ensures.items) (
+      scan_item c.row.found.items c.row.at c.in-Some.first c.row.rest.now _ c.in-Some-token_at.kind c.in-Some-token_at.len first space t c.row.invariant.0,
+      counts_along c.row.at c.in-Some-token_at.len c.row.rest.now (front_within c.row.rest.now _ t) c.row.invariant.1,
+    )
 
 pub returns : goal.returns
 returns c = scan_ends c.row.found.items c.row.at c.row.rest.now _ (sym c.first_of.ensures ∙ c.in_default.is) c.row.invariant.0
