@@ -1,16 +1,15 @@
 -- What is in the grammar is read.
-use Rattle.std.proofs.Common.{◌≡◌, ℕ, suc, ◌≤◌, ◌<◌, ◌+◌, Bool, true, false, List, [], ◌∷◌, ◌++◌, length, Option, Some, None, refl, sym, ◌∙◌, ap, subst, append_assoc, arith, if◌then◌else◌}
-use Rattle.jn_base.specs.declared.tree.Place.{Place}
+use Rattle.std.proofs.Common.{◌≡◌, ◌≤◌, true, false, List, [], ◌∷◌, ◌++◌, length, Some, refl, ◌∙◌, ap, subst, append_assoc, arith}
 use Rattle.jn_base.specs.declared.tree.Expr.{Expr}
 use Rattle.jn_base.specs.declared.tree.Link.{Link}
 use Rattle.jn_base.specs.declared.tree.Stmt.{Stmt}
 use Rattle.jn_base.specs.declared.tree.Stmt.TheVariants as stmt
 use Rattle.jn_base.specs.declared.tree.Program.{Program}
-use Rattle.jn_parser.specs.declared.token.Symbol.TheVariants.{Class, MainClass, Void, MainMethod, Print, OpenBrace, CloseBrace, Open, Close, Semicolon, Plus, Minus, Star}
+use Rattle.jn_parser.specs.declared.token.Symbol.TheVariants.{Print, CloseBrace, Open, Close, Semicolon, Star}
 use Rattle.jn_parser.specs.declared.token.Token.{Token}
-use Rattle.jn_parser.specs.Spelling.{symbol, number, IsFactors, no_factor, then_factor, IsProduct, product, IsTerms, no_term, then_plus, then_minus, IsSum, sum, IsPrints, no_print, then_print, IsProgram, program}
-use Rattle.jn_parser.specs.Reading.{◌>>=◌, begins, factor_in, product_in, begins_term, term_in, sum_in, print_in, class_in, method_in, closes, program_in, many}
-use Rattle.jn_parser.proofs.Tools.{then_some, if_true}
+use Rattle.jn_parser.specs.Spelling.{symbol, IsFactors, no_factor, then_factor, IsProduct, product, IsTerms, no_term, then_plus, then_minus, IsSum, sum, IsPrints, no_print, then_print, IsProgram, program}
+use Rattle.jn_parser.specs.Reading.{begins, factor_in, product_in, begins_term, term_in, sum_in, print_in, class_in, method_in, closes, program_in}
+use Rattle.jn_parser.proofs.Tools.{then_some}
 use Rattle.jn_parser.proofs.Row.{Row, none, next, many_again}
 use Rattle.jn_parser.proofs.Sound.{IsFactor, factor, IsTerm, plus, minus, IsPrint, print}
 

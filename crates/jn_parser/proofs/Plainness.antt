@@ -1,5 +1,5 @@
 -- What is spelled has the plain form.
-use Rattle.std.proofs.Common.{◌≡◌, ℕ, Bool, true, false, ◌&&◌, List, [], ◌∷◌, map, None, refl, sym, ◌∙◌, ap, subst}
+use Rattle.std.proofs.Common.{◌≡◌, ℕ, Bool, true, ◌&&◌, List, [], ◌∷◌, map, refl, sym, ◌∙◌, ap, subst}
 use Rattle.std.specs.Prelude.{ℤ}
 use Rattle.std.specs.List.{list_all}
 use Rattle.jn_base.specs.declared.tree.Place.{Place}
@@ -7,12 +7,11 @@ use Rattle.jn_base.specs.declared.tree.Op.{Op}
 use Rattle.jn_base.specs.declared.tree.Op.TheVariants as op
 use Rattle.jn_base.specs.declared.tree.Level.{Level}
 use Rattle.jn_base.specs.declared.tree.Level.TheVariants as level
-use Rattle.jn_base.specs.declared.tree.Node.TheVariants as node
 use Rattle.jn_base.specs.declared.tree.Node.TheVariants.{outs-Int, outs-Chain}
 use Rattle.jn_base.specs.declared.tree.Node.TheFolds.{fold_out-Expr, fold_out-Node, fold_out-Link}
 use Rattle.jn_base.specs.declared.tree.Expr.{Expr}
 use Rattle.jn_base.specs.declared.tree.Link.{Link, fold-Link}
-use Rattle.jn_base.specs.declared.tree.Stmt.{Stmt, out-Stmt}
+use Rattle.jn_base.specs.declared.tree.Stmt.{Stmt}
 use Rattle.jn_base.specs.declared.tree.Stmt.TheVariants as stmt
 use Rattle.jn_base.specs.declared.tree.Stmt.TheVariants.{outs-Print}
 use Rattle.jn_base.specs.declared.tree.Member.TheVariants.{outs-Body}

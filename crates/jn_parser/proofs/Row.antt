@@ -1,8 +1,8 @@
 -- Items in a row.
-use Rattle.std.proofs.Common.{◌≡◌, ℕ, zero, suc, ◌≤◌, ◌<◌, ◌+◌, Bool, true, false, List, [], ◌∷◌, ◌++◌, length, Option, Some, None, refl, sym, ◌∙◌, ap, subst, append_assoc, length-append, arith, if◌then◌else◌}
+use Rattle.std.proofs.Common.{◌≡◌, ℕ, zero, suc, ◌≤◌, Bool, true, false, List, [], ◌∷◌, ◌++◌, length, Some, refl, sym, ◌∙◌, ap, subst, append_assoc, length-append, arith}
 use Rattle.jn_parser.specs.declared.token.Token.{Token}
 use Rattle.jn_parser.specs.Reading.{Answer, ◌>>=◌, many}
-use Rattle.jn_parser.proofs.Tools.{Took, Sound, sound_then, sound_if, glue, if_true, if_false}
+use Rattle.jn_parser.proofs.Tools.{Sound, sound_then, sound_if, glue, if_true, if_false}
 
 pub data Row {A : Type 0} (Is : List Token → A → Type 0) : List Token → List A → Type 0 where
   none : Row Is [] []

@@ -1,10 +1,10 @@
 -- The bytes that pass a test, and the places behind bytes of one line.
-use Rattle.std.proofs.Common.{◌≡◌, ℕ, zero, suc, ◌≤◌, ◌<◌, ◌+◌, ◌-◌, ◌*◌, ◌/◌, Bool, true, false, ◌||◌, List, [], ◌∷◌, ◌++◌, length, take, drop, drop-cons, get_or, Option, Some, None, refl, sym, ◌∙◌, ap, subst, arith, if◌then◌else◌}
+use Rattle.std.proofs.Common.{◌≡◌, ℕ, suc, ◌≤◌, ◌<◌, ◌+◌, ◌-◌, ◌*◌, ◌/◌, Bool, true, false, List, [], ◌∷◌, ◌++◌, length, take, drop, drop-cons, get_or, Some, None, refl, sym, ◌∙◌, ap, arith}
 use Rattle.std.specs.Prelude.{◌==◌, IsTrue, nat_lt}
 use Rattle.std.specs.List.{AllByRecursion}
 use Rattle.std.proofs.lemmas.Bool.{eqb-true, le-ltb}
 use Rattle.jn_base.specs.declared.tree.Place.{Place}
-use Rattle.jn_parser.specs.Tokens.{next_place, place_behind, value_behind}
+use Rattle.jn_parser.specs.Tokens.{place_behind, value_behind}
 use Rattle.jn_parser.specs.Reading.{run_len, place_along, small_value}
 use Rattle.jn_parser.proofs.Tools.{if_true, if_false, sound_if}
 

@@ -1,14 +1,14 @@
 -- The loop over the bytes.
-use Rattle.std.proofs.Common.{◌≡◌, ℕ, zero, suc, ◌≤◌, ◌<◌, ◌+◌, Bool, true, false, List, [], ◌∷◌, ◌++◌, length, drop, Option, Some, None, refl, sym, ◌∙◌, ap, subst, append_assoc, length-drop, arith, if◌then◌else◌}
+use Rattle.std.proofs.Common.{◌≡◌, ℕ, zero, suc, ◌≤◌, ◌<◌, ◌+◌, true, false, List, [], ◌∷◌, ◌++◌, length, drop, Option, Some, None, refl, sym, ◌∙◌, ap, subst, append_assoc, length-drop, arith}
 use Rattle.std.specs.Prelude.{◌==◌}
 use Rattle.std.proofs.lemmas.List.{append-nil}
 use Rattle.jn_base.specs.declared.tree.Place.{Place}
 use Rattle.jn_parser.specs.declared.token.Kind.{Kind}
 use Rattle.jn_parser.specs.declared.token.Token.{Token}
-use Rattle.jn_parser.specs.Tokens.{is_space, next_place, beginning, token}
+use Rattle.jn_parser.specs.Tokens.{is_space, next_place, token}
 use Rattle.jn_parser.specs.Reading.{◌>>=◌, first_of, token_at, place_along, scan}
 use Rattle.jn_parser.proofs.Tools.{if_true, if_false, sound_if}
-use Rattle.jn_parser.proofs.Scans.{front_some, front_within}
+use Rattle.jn_parser.proofs.Scans.{front_some}
 
 -- with these in front
 abbrev pub with_tokens : List Token → Option (List Token) → Option (List Token)

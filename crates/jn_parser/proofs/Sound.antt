@@ -1,11 +1,10 @@
 -- What is read is in the grammar.
-use Rattle.std.proofs.Common.{◌≡◌, ℕ, suc, ◌≤◌, ◌<◌, ◌+◌, Bool, true, false, ◌&&◌, ◌||◌, List, [], ◌∷◌, ◌++◌, length, Option, Some, None, refl, sym, ◌∙◌, ap, subst, append_assoc, length-append, arith, if◌then◌else◌}
+use Rattle.std.proofs.Common.{◌≡◌, ◌≤◌, ◌<◌, Bool, true, false, ◌&&◌, ◌||◌, List, [], ◌∷◌, ◌++◌, length, Option, Some, None, refl, sym, ◌∙◌, ap, subst, append_assoc, arith}
 use Rattle.std.specs.Prelude.{ℤ}
 use Rattle.std.proofs.lemmas.Bool.{and_parts}
 use Rattle.jn_base.specs.declared.tree.Place.{Place}
 use Rattle.jn_base.specs.declared.tree.Op.{Op}
 use Rattle.jn_base.specs.declared.tree.Op.TheVariants as op
-use Rattle.jn_base.specs.declared.tree.Level.TheVariants as level
 use Rattle.jn_base.specs.declared.tree.Expr.{Expr}
 use Rattle.jn_base.specs.declared.tree.Link.{Link}
 use Rattle.jn_base.specs.declared.tree.Stmt.{Stmt}
@@ -13,8 +12,8 @@ use Rattle.jn_base.specs.declared.tree.Stmt.TheVariants as stmt
 use Rattle.jn_base.specs.declared.tree.Program.{Program}
 use Rattle.jn_parser.specs.declared.token.Symbol.TheVariants.{Class, MainClass, Void, MainMethod, Print, OpenBrace, CloseBrace, Open, Close, Semicolon, Plus, Minus, Star}
 use Rattle.jn_parser.specs.declared.token.Token.{Token}
-use Rattle.jn_parser.specs.Spelling.{symbol, number, operand, link, chained, IsFactors, no_factor, then_factor, IsProduct, product, IsTerms, no_term, then_plus, then_minus, IsSum, sum, IsPrints, no_print, then_print, IsProgram, program, main_program}
-use Rattle.jn_parser.specs.Reading.{Answer, ◌>>=◌, behind, place, begins, expect, number_in, factor_in, factors_in, product_in, begins_term, term_op, term_in, terms_in, sum_in, print_in, prints_in, class_in, method_in, is_empty, closes, program_in, many}
+use Rattle.jn_parser.specs.Spelling.{symbol, number, operand, link, IsFactors, no_factor, then_factor, IsProduct, product, IsTerms, no_term, then_plus, then_minus, IsSum, sum, IsPrints, no_print, then_print, IsProgram, program, main_program}
+use Rattle.jn_parser.specs.Reading.{behind, place, begins, factor_in, factors_in, product_in, begins_term, term_op, term_in, terms_in, sum_in, print_in, prints_in, class_in, method_in, is_empty, closes, program_in}
 use Rattle.jn_parser.proofs.Tools.{Took, Sound, sound_then, sound_if, sound_expect, sound_number, begins_is, if_true, if_false, glue, strictly}
 use Rattle.jn_parser.proofs.Row.{Row, none, next, many_sound}
 

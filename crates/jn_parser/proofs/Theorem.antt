@@ -1,5 +1,5 @@
 -- Reading is the grammar.
-use Rattle.std.proofs.Common.{◌≡◌, ◌≤◌, ℕ, List, length, Option, Some, None, refl, sym, ◌∙◌, subst, arith}
+use Rattle.std.proofs.Common.{◌≡◌, ◌≤◌, ℕ, List, length, Option, Some, None, sym, ◌∙◌, subst, arith}
 use Rattle.jn_base.specs.declared.tree.Program.{Program}
 use Rattle.jn_parser.specs.declared.token.Token.{Token}
 use Rattle.jn_parser.specs.Tokens.{beginning, Lexes}

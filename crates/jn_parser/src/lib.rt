@@ -75,3 +75,6 @@ fn refusal() -> Refusal
         limit: None,
     }
 }
+
+#[cfg(test)]
+mod tests;

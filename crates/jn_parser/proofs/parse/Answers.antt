@@ -1,4 +1,3 @@
-use Rattle.std.proofs.Common.{◌≡◌}
 use Rattle.jn_parser.proofs.Theorem.{read_is, read_is_all, read_is_none}
 use Rattle.jn_parser.proofs.Plainness.{is_plain}
 use Rattle.jn_parser.proofs.parse.Goals as goal

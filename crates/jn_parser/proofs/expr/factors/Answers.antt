@@ -1,7 +1,7 @@
-use Rattle.std.proofs.Common.{◌≡◌, ◌<◌, true, length, sym, ◌∙◌}
+use Rattle.std.proofs.Common.{◌≡◌, true, sym, ◌∙◌}
 use Rattle.std.proofs.lemmas.Result.{err_from_is_err_and}
 use Rattle.jn_parser.specs.declared.token.Symbol.TheVariants.{Star}
-use Rattle.jn_parser.specs.Reading.{begins, factor_in, many}
+use Rattle.jn_parser.specs.Reading.{begins, factor_in}
 use Rattle.jn_parser.proofs.Tools.{begins_some}
 use Rattle.jn_parser.proofs.Sound.{factor_less}
 use Rattle.jn_parser.proofs.Loops.{row_starts, row_goes, row_ends, row_error}

@@ -1,6 +1,6 @@
-use Rattle.std.proofs.Common.{◌≡◌, ◌<◌, true, length, sym, ◌∙◌}
+use Rattle.std.proofs.Common.{◌≡◌, true, sym, ◌∙◌}
 use Rattle.std.proofs.lemmas.Result.{err_from_is_err_and}
-use Rattle.jn_parser.specs.Reading.{begins_term, term_in, many}
+use Rattle.jn_parser.specs.Reading.{begins_term, term_in}
 use Rattle.jn_parser.proofs.Tools.{term_some}
 use Rattle.jn_parser.proofs.Sound.{term_less}
 use Rattle.jn_parser.proofs.Loops.{row_starts, row_goes, row_ends, row_error}

@@ -1,8 +1,8 @@
-use Rattle.std.proofs.Common.{◌≡◌, ◌≤◌, ◌+◌, Bool, true, false, Some, None, length, drop, sym, ◌∙◌, ap, arith}
-use Rattle.jn_parser.specs.Tokens.{is_space, beginning}
-use Rattle.jn_parser.specs.Reading.{first_of, token_at, scan}
+use Rattle.std.proofs.Common.{◌≡◌, true, false, Some, sym, ◌∙◌, arith}
+use Rattle.jn_parser.specs.Tokens.{is_space}
+use Rattle.jn_parser.specs.Reading.{first_of, token_at}
 use Rattle.jn_parser.proofs.Scans.{front_some, front_within}
-use Rattle.jn_parser.proofs.ScanLoop.{scan_starts, scan_space, scan_item, scan_fails, scan_ends, counts_next, counts_along, first_some, less_after}
+use Rattle.jn_parser.proofs.ScanLoop.{scan_space, scan_item, scan_fails, scan_ends, counts_next, counts_along, first_some, less_after}
 use Rattle.jn_parser.proofs.scan.tokens.Goals as goal
 
 pub row-preserved-then-is_space : goal.row-preserved-then-is_space
