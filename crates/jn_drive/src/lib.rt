@@ -1,0 +1,5 @@
+//! The top call: what `jandc` does with its words, its files and its outputs.
+#![tactic(auto)]
+
+mod code;
+mod machine;
