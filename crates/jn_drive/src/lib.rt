@@ -2,4 +2,9 @@
 #![tactic(auto)]
 
 mod code;
+mod halt;
 mod machine;
+mod status;
+mod words;
+
+pub use status::Status;
