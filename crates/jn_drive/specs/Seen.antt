@@ -67,3 +67,8 @@ pub record IsCut (reply : Reply) (out out' err err' : SinkSeen) (s : Status) : T
 
 abbrev pub IsDelivered : Reply → (out out' err err' : SinkSeen) → Status → Type 0
 IsDelivered reply out out' err err' s = IsGiven reply out out' err err' s ⊎ IsCut reply out out' err err' s
+
+-- All the bytes were put, and the status is the one handed in; or the output failed.
+pub data IsPut (wanted : Status) (bytes : List ℕ) (before after : SinkSeen) (s : Status) : Type 0 where
+  whole : s ≡ wanted → TookAll before after bytes → IsPut wanted bytes before after s
+  cut : s ≡ statuses.WriteFault → Rose before.faults after.faults → TookSome before after bytes → IsPut wanted bytes before after s

@@ -4,6 +4,7 @@
 mod code;
 mod halt;
 mod machine;
+mod put;
 mod status;
 mod words;
 
