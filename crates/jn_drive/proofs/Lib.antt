@@ -1,3 +1,3 @@
-pub mod Giving
 pub mod Linking
 pub mod Pieces
+pub mod Reading

@@ -5,6 +5,7 @@ mod code;
 mod halt;
 mod machine;
 mod put;
+mod read;
 mod status;
 mod words;
 
