@@ -1,3 +1,4 @@
+pub mod Judging
 pub mod Linking
 pub mod Pieces
 pub mod Reading

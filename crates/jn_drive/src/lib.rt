@@ -6,6 +6,7 @@ mod halt;
 mod machine;
 mod put;
 mod read;
+mod run;
 mod status;
 mod words;
 
