@@ -2,3 +2,4 @@ pub mod Judging
 pub mod Linking
 pub mod Pieces
 pub mod Reading
+pub mod Running

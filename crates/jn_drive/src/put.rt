@@ -2,6 +2,7 @@ ghost use Rattle.std.specs.Prelude.{◌≡◌};
 ghost use Rattle.jn_io.specs.Causes.{HasCause};
 ghost use Rattle.jn_io.specs.Told.{Takes};
 ghost use Rattle.jn_drive.specs.Answer.{reply_of};
+ghost use Rattle.jn_drive.specs.Reply.{usage_reply};
 ghost use Rattle.jn_drive.specs.Seen.{IsPut, IsDelivered};
 
 use crate::halt::{Halt, line_of, status_of};
@@ -56,4 +57,18 @@ pub fn deliver<O: Sink, E: Sink>(
         Ok(output) => put_all(out, output.as_slice(), Status::Done),
         Err(halt) => put_all(err, line_of(halt), status_of(halt)),
     }
+}
+
+/// Puts the usage line on `err`.
+pub fn misuse<E: Sink>(err: &mut E) -> Status
+    ensures { IsPut Status.Usage usage_reply.line
+        (record { taken = E.taken err.old; faults = E.faults err.old })
+        (record { taken = E.taken err.new; faults = E.faults err.new })
+        result }
+{
+    put_all(
+        err,
+        b"usage: jandc JOB FILE [OUT] [--arena N] [--depth N] [--steps N]\n",
+        Status::Usage,
+    )
 }

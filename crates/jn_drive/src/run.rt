@@ -53,3 +53,28 @@ fn output(alloc: Global, program: &Program) -> Result<Items<u8>, AllocError>
     let bytes = run_code(alloc, code.as_slice())?;
     Ok(Items::from_vec(bytes))
 }
+
+/// `run FILE`: runs the program that the file's bytes spell. Its output is made first, and then put.
+pub fn run<S: Store, O: Sink, E: Sink>(
+    alloc: Global,
+    file: &str,
+    store: &mut S,
+    out: &mut O,
+    err: &mut E,
+) -> Status
+    ensures { Runs file.now
+        (record {
+            store = record { files = S.files store.old; read_faults = S.read_faults store.old; save_faults = S.save_faults store.old };
+            out = record { taken = O.taken out.old; faults = O.faults out.old };
+            err = record { taken = E.taken err.old; faults = E.faults err.old }
+        })
+        (record {
+            store = record { files = S.files store.new; read_faults = S.read_faults store.new; save_faults = S.save_faults store.new };
+            out = record { taken = O.taken out.new; faults = O.faults out.new };
+            err = record { taken = E.taken err.new; faults = E.faults err.new }
+        })
+        result }
+{
+    let answer = answer(alloc, file, store);
+    deliver(answer, out, err)
+}
