@@ -76,7 +76,12 @@ one_of before after a b s (inr e) g = inr (given_as before after a memory_reply 
 
 -- No output fails where no count rises.
 not_cut : {P : Type 0} (before after : Seen) (r : Reply) (s : Status) → Cuts r before after s → IsQuiet before after → P
-not_cut before after r s cut quiet = elim cut.cause [ inl rose ↦ absurd (quiet.out rose) | inr rose ↦ absurd (quiet.err rose) ]
+not_cut before after r s (IsCut.at_output is rose some none) quiet = absurd (quiet.out rose)
+not_cut before after r s (IsCut.at_line is all rose some) quiet = absurd (quiet.err rose)
+
+cut_is : (before after : Seen) (r : Reply) (s : Status) → Cuts r before after s → s ≡ statuses.WriteFault
+cut_is before after r s (IsCut.at_output is rose some none) = is
+cut_is before after r s (IsCut.at_line is all rose some) = is
 
 quietly : (before after : Seen) (a b : Reply) (s : Status) → IsDelivered a before.out after.out before.err after.err s → IsQuiet before after → (a ≡ b) ⊎ (a ≡ memory_reply) → GivesUnlessMemory b before after s
 quietly before after a b s (inl g) quiet e = one_of before after a b s e g
@@ -100,7 +105,7 @@ Ans file before after a = Answers before.store.files file before.store.read_faul
 -- Each status, with what it says.
 ended_done : (file : List ℕ) (before after : Seen) (a : Answer) (s : Status) → Ans file before after a → Del a before after s → s ≡ statuses.Done
     → (p : Program) × Replies file before after (output_reply (output_of p)) × Gives (output_reply (output_of p)) before after s
-ended_done file before after a s ans (inr cut) e = let is = cut.status in absurd (cc)
+ended_done file before after a s ans (inr cut) e = let is = cut_is before after (reply_of a) s cut in absurd (cc)
 ended_done file before after (Ok output) s ans (inl g) e =
     (ans.1.2.1.0, record { bytes = ans.1.0; source = ans.1.1; reads = ans.0; is = RunReply.program ans.1.2.1.0 ans.1.2.0 ans.1.2.1.1.spells refl },
       given_as before after (output_reply output) (output_reply (output_of ans.1.2.1.0)) s (ap output_reply ans.1.2.1.2) g)
@@ -111,7 +116,7 @@ ended_done file before after (Err halt.Memory) s ans (inl g) e = let is = g.stat
 
 ended_refused : (file : List ℕ) (before after : Seen) (a : Answer) (s : Status) → Ans file before after a → Del a before after s → s ≡ statuses.Refused
     → (reply : Reply) × (reply.status ≡ statuses.Refused) × Replies file before after reply × Gives reply before after s
-ended_refused file before after a s ans (inr cut) e = let is = cut.status in absurd (cc)
+ended_refused file before after a s ans (inr cut) e = let is = cut_is before after (reply_of a) s cut in absurd (cc)
 ended_refused file before after (Ok output) s ans (inl g) e = let is = g.status in absurd (cc)
 ended_refused file before after (Err halt.TooLong) s ans (inl g) e = (too_long_reply, refl, record { bytes = ans.1.0; source = ans.1.1; reads = ans.0; is = RunReply.too_long ans.1.2 refl }, g)
 ended_refused file before after (Err halt.Syntax) s ans (inl g) e = (syntax_reply, refl, record { bytes = ans.1.0; source = ans.1.1; reads = ans.0; is = RunReply.no_program ans.1.2.0 ans.1.2.1 refl }, g)
@@ -119,7 +124,7 @@ ended_refused file before after (Err halt.Unread) s ans (inl g) e = let is = g.s
 ended_refused file before after (Err halt.Memory) s ans (inl g) e = let is = g.status in absurd (cc)
 
 ended_unread : (file : List ℕ) (before after : Seen) (a : Answer) (s : Status) → Ans file before after a → Del a before after s → s ≡ statuses.ReadFault → IsUnread file before after × Gives unread_reply before after s
-ended_unread file before after a s ans (inr cut) e = let is = cut.status in absurd (cc)
+ended_unread file before after a s ans (inr cut) e = let is = cut_is before after (reply_of a) s cut in absurd (cc)
 ended_unread file before after (Ok output) s ans (inl g) e = let is = g.status in absurd (cc)
 ended_unread file before after (Err halt.TooLong) s ans (inl g) e = let is = g.status in absurd (cc)
 ended_unread file before after (Err halt.Syntax) s ans (inl g) e = let is = g.status in absurd (cc)
@@ -135,7 +140,7 @@ ended_cut file before after (Err halt.Unread) s ans (inl g) e = let is = g.statu
 ended_cut file before after (Err halt.Memory) s ans (inl g) e = let is = g.status in absurd (cc)
 
 ended_memory : (file : List ℕ) (before after : Seen) (a : Answer) (s : Status) → Ans file before after a → Del a before after s → s ≡ statuses.Memory → Gives memory_reply before after s × (after.store.read_faults ≡ before.store.read_faults)
-ended_memory file before after a s ans (inr cut) e = let is = cut.status in absurd (cc)
+ended_memory file before after a s ans (inr cut) e = let is = cut_is before after (reply_of a) s cut in absurd (cc)
 ended_memory file before after (Ok output) s ans (inl g) e = let is = g.status in absurd (cc)
 ended_memory file before after (Err halt.TooLong) s ans (inl g) e = let is = g.status in absurd (cc)
 ended_memory file before after (Err halt.Syntax) s ans (inl g) e = let is = g.status in absurd (cc)
@@ -146,7 +151,7 @@ status_is : (s t : Status) → s ≡ t → IsOfRun t → IsOfRun s
 status_is s t e is = subst IsOfRun (sym e) is
 
 ended_only : (before after : Seen) (a : Answer) (s : Status) → Del a before after s → IsOfRun s
-ended_only before after a s (inr cut) = status_is s statuses.WriteFault cut.status tt
+ended_only before after a s (inr cut) = status_is s statuses.WriteFault (cut_is before after (reply_of a) s cut) tt
 ended_only before after (Ok output) s (inl g) = status_is s statuses.Done g.status tt
 ended_only before after (Err halt.TooLong) s (inl g) = status_is s statuses.Refused g.status tt
 ended_only before after (Err halt.Syntax) s (inl g) = status_is s statuses.Refused g.status tt
@@ -156,11 +161,13 @@ ended_only before after (Err halt.Memory) s (inl g) = status_is s statuses.Memor
 -- No count of an output falls.
 out_later : (before after : Seen) (r : Reply) (s : Status) → IsDelivered r before.out after.out before.err after.err s → before.out.faults ≤ after.out.faults
 out_later before after r s (inl g) = let same = g.output.faults in omega arith
-out_later before after r s (inr cut) = cut.output.later
+out_later before after r s (inr (IsCut.at_output is rose some none)) = some.later
+out_later before after r s (inr (IsCut.at_line is all rose some)) = let same = all.faults in omega arith
 
 err_later : (before after : Seen) (r : Reply) (s : Status) → IsDelivered r before.out after.out before.err after.err s → before.err.faults ≤ after.err.faults
 err_later before after r s (inl g) = let same = g.line.faults in omega arith
-err_later before after r s (inr cut) = cut.line.later
+err_later before after r s (inr (IsCut.at_output is rose some none)) = let same : after.err.faults ≡ before.err.faults = ap (λ (k : SinkSeen). k.faults) none in omega arith
+err_later before after r s (inr (IsCut.at_line is all rose some)) = some.later
 
 pub runs : (file : List ℕ) (before after : Seen) (a : Answer) (s : Status) → Ans file before after a → Del a before after s → after.store.files ≡ before.store.files → after.store.save_faults ≡ before.store.save_faults
     → before.store.read_faults ≤ after.store.read_faults → Runs file before after s

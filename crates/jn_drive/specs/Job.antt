@@ -61,7 +61,7 @@ pub record Runs (file : List ℕ) (before after : Seen) (s : Status) : Type 0 wh
   pub refused : s ≡ statuses.Refused → (reply : Reply) × (reply.status ≡ statuses.Refused) × Replies file before after reply × Gives reply before after s
   -- ReadFault: only where a read failed or the file isn't there. `out` took nothing.
   pub read_fault : s ≡ statuses.ReadFault → IsUnread file before after × Gives unread_reply before after s
-  -- WriteFault: only where an output failed. Both took a prefix of what was to be replied.
+  -- WriteFault: only where an output failed. Both took a prefix of what may be replied.
   pub write_fault : s ≡ statuses.WriteFault → (reply : Reply) × MayReply file before after reply × Cuts reply before after s
   -- Memory: `out` took nothing, and no count rose.
   pub memory : s ≡ statuses.Memory → Gives memory_reply before after s × (after.store.read_faults ≡ before.store.read_faults)

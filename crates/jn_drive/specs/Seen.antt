@@ -57,13 +57,11 @@ pub record IsGiven (reply : Reply) (out out' err err' : SinkSeen) (s : Status) :
   pub output : TookAll out out' reply.output
   pub line : TookAll err err' reply.line
 
--- The reply was cut off: an output failed, and both took some of it. In place of the reply's status
--- the failure is told.
-pub record IsCut (reply : Reply) (out out' err err' : SinkSeen) (s : Status) : Type 0 where
-  pub status : s ≡ statuses.WriteFault
-  pub cause : Rose out.faults out'.faults ⊎ Rose err.faults err'.faults
-  pub output : TookSome out out' reply.output
-  pub line : TookSome err err' reply.line
+-- The reply was cut off, and in place of its status WriteFault is answered: `out` failed, took some of
+-- the output, and nothing was put on `err`; or `err` failed, and took some of the line.
+pub data IsCut (reply : Reply) (out out' err err' : SinkSeen) (s : Status) : Type 0 where
+  at_output : s ≡ statuses.WriteFault → Rose out.faults out'.faults → TookSome out out' reply.output → err' ≡ err → IsCut reply out out' err err' s
+  at_line : s ≡ statuses.WriteFault → TookAll out out' reply.output → Rose err.faults err'.faults → TookSome err err' reply.line → IsCut reply out out' err err' s
 
 abbrev pub IsDelivered : Reply → (out out' err err' : SinkSeen) → Status → Type 0
 IsDelivered reply out out' err err' s = IsGiven reply out out' err err' s ⊎ IsCut reply out out' err err' s
