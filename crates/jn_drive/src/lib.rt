@@ -8,6 +8,8 @@ mod put;
 mod read;
 mod run;
 mod status;
+#[cfg(test)]
+mod tests;
 mod words;
 ghost use Rattle.std.specs.Prelude.{◌≡◌, map, string_bytes, None};
 ghost use Rattle.jn_drive.specs.Words.{file_of};
