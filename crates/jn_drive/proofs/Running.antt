@@ -106,9 +106,11 @@ Ans file before after a = Answers before.store.files file before.store.read_faul
 ended_done : (file : List ℕ) (before after : Seen) (a : Answer) (s : Status) → Ans file before after a → Del a before after s → s ≡ statuses.Done
     → (p : Program) × Replies file before after (output_reply (output_of p)) × Gives (output_reply (output_of p)) before after s
 ended_done file before after a s ans (inr cut) e = let is = cut_is before after (reply_of a) s cut in absurd (cc)
-ended_done file before after (Ok output) s ans (inl g) e =
-    (ans.1.2.1.0, record { bytes = ans.1.0; source = ans.1.1; reads = ans.0; is = RunReply.program ans.1.2.1.0 ans.1.2.0 ans.1.2.1.1.spells refl },
-      given_as before after (output_reply output) (output_reply (output_of ans.1.2.1.0)) s (ap output_reply ans.1.2.1.2) g)
+ended_done file before after (Ok output) s ans (inl g) e = (
+  ans.1.2.1.0,
+  record { bytes = ans.1.0; source = ans.1.1; reads = ans.0; is = RunReply.program ans.1.2.1.0 ans.1.2.0 ans.1.2.1.1.spells refl },
+  given_as before after (output_reply output) (output_reply (output_of ans.1.2.1.0)) s (ap output_reply ans.1.2.1.2) g,
+)
 ended_done file before after (Err halt.TooLong) s ans (inl g) e = let is = g.status in absurd (cc)
 ended_done file before after (Err halt.Syntax) s ans (inl g) e = let is = g.status in absurd (cc)
 ended_done file before after (Err halt.Unread) s ans (inl g) e = let is = g.status in absurd (cc)
@@ -185,5 +187,5 @@ runs file before after a s ans del files saves later = record {
   saves = saves;
   reads_later = later;
   out_later = out_later before after (reply_of a) s del;
-  err_later = err_later before after (reply_of a) s del
+  err_later = err_later before after (reply_of a) s del;
 }

@@ -28,7 +28,8 @@ pub fn code_of(alloc: Global, program: &Program) -> Result<Items<Instr>, AllocEr
 }
 
 fn add_decls(code: &mut Items<Instr>, decls: &[Decl]) -> Result<(), AllocError>
-    ensures { OnOk result (state_after code.new ≡ printed (flat_map decl_output decls.now) (state_after code.old)) }
+    ensures { OnOk result
+        (state_after code.new ≡ printed (flat_map decl_output decls.now) (state_after code.old)) }
 {
     for decl in decls {
         add_members(code, decl.members.as_slice())?;
@@ -37,7 +38,8 @@ fn add_decls(code: &mut Items<Instr>, decls: &[Decl]) -> Result<(), AllocError>
 }
 
 fn add_members(code: &mut Items<Instr>, members: &[Member]) -> Result<(), AllocError>
-    ensures { OnOk result (state_after code.new ≡ printed (flat_map member_output members.now) (state_after code.old)) }
+    ensures { OnOk result
+        (state_after code.new ≡ printed (flat_map member_output members.now) (state_after code.old)) }
 {
     for member in members {
         if let Member::Body(method) = member {
@@ -49,7 +51,8 @@ fn add_members(code: &mut Items<Instr>, members: &[Member]) -> Result<(), AllocE
 
 #[tactic(auto, using(crate::proofs::Linking::one_more))]
 fn add_stmts(code: &mut Items<Instr>, stmts: &[Stmt]) -> Result<(), AllocError>
-    ensures { OnOk result (state_after code.new ≡ printed (flat_map stmt_output stmts.now) (state_after code.old)) }
+    ensures { OnOk result
+        (state_after code.new ≡ printed (flat_map stmt_output stmts.now) (state_after code.old)) }
 {
     for stmt in stmts {
         if let Stmt::Print(e, _) = stmt {
@@ -89,7 +92,8 @@ fn add_expr(code: &mut Items<Instr>, e: &Expr) -> Result<(), AllocError>
 #[cycle(expr)]
 #[tactic(auto, using(crate::proofs::Linking::one_more))]
 fn add_links(code: &mut Items<Instr>, links: &[Link]) -> Result<(), AllocError>
-    ensures { OnOk result (state_after code.new ≡ fold linked (state_after code.old) (map operand_of links.now)) }
+    ensures { OnOk result
+        (state_after code.new ≡ fold linked (state_after code.old) (map operand_of links.now)) }
 {
     for link in links {
         add_expr(code, &link.right)?;

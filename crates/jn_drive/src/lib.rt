@@ -11,6 +11,7 @@ mod status;
 #[cfg(test)]
 mod tests;
 mod words;
+
 ghost use Rattle.std.specs.Prelude.{◌≡◌, map, string_bytes, None};
 ghost use Rattle.jn_drive.specs.Words.{file_of};
 ghost use Rattle.jn_drive.specs.Job.{DoesJob};
@@ -39,14 +40,22 @@ pub fn top<S: Store, O: Sink, E: Sink>(
     // By the job: from what is seen of the store and the outputs before the call, to what is seen after.
     ensures job { DoesJob (file_of (map string_bytes words.now))
         (record {
-            store = record { files = S.files store.old; read_faults = S.read_faults store.old; save_faults = S.save_faults store.old };
-            out = record { taken = O.taken out.old; faults = O.faults out.old };
-            err = record { taken = E.taken err.old; faults = E.faults err.old }
+          store = record {
+            files = S.files store.old;
+            read_faults = S.read_faults store.old;
+            save_faults = S.save_faults store.old;
+          };
+          out = record { taken = O.taken out.old; faults = O.faults out.old };
+          err = record { taken = E.taken err.old; faults = E.faults err.old };
         })
         (record {
-            store = record { files = S.files store.new; read_faults = S.read_faults store.new; save_faults = S.save_faults store.new };
-            out = record { taken = O.taken out.new; faults = O.faults out.new };
-            err = record { taken = E.taken err.new; faults = E.faults err.new }
+          store = record {
+            files = S.files store.new;
+            read_faults = S.read_faults store.new;
+            save_faults = S.save_faults store.new;
+          };
+          out = record { taken = O.taken out.new; faults = O.faults out.new };
+          err = record { taken = E.taken err.new; faults = E.faults err.new };
         })
         result }
 {

@@ -17,12 +17,9 @@ const PIECE: usize = 8_192;
 /// The file's bytes, or the first 1,048,577 of them.
 ///
 /// After a halt other files may be begun; what is left to be read of this one isn't told.
-pub fn read_source<S: Store>(
-    alloc: Global,
-    file: &str,
-    store: &mut S,
-) -> Result<Items<u8>, Halt>
-    ensures read { ReadsFile (S.files store.old) file.now (S.read_faults store.old) (S.read_faults store.new) result }
+pub fn read_source<S: Store>(alloc: Global, file: &str, store: &mut S) -> Result<Items<u8>, Halt>
+    ensures read { ReadsFile (S.files store.old) file.now
+        (S.read_faults store.old) (S.read_faults store.new) result }
     ensures files { S.files store.new ≡ S.files store.old }
     ensures saves { S.save_faults store.new ≡ S.save_faults store.old }
     ensures later { S.read_faults store.old ≤ S.read_faults store.new }
@@ -34,7 +31,8 @@ pub fn read_source<S: Store>(
 /// What is left of the file that was begun, or its first 1,048,577 bytes.
 #[tactic(auto, using(crate::proofs::Reading::one_piece))]
 fn read_rest<S: Store>(alloc: Global, store: &mut S) -> Result<Items<u8>, Halt>
-    ensures read { ReadsRest (S.rest store.old) (S.read_faults store.old) (S.read_faults store.new) result }
+    ensures read { ReadsRest (S.rest store.old)
+        (S.read_faults store.old) (S.read_faults store.new) result }
     ensures files { S.files store.new ≡ S.files store.old }
     ensures saves { S.save_faults store.new ≡ S.save_faults store.old }
     ensures later { S.read_faults store.old ≤ S.read_faults store.new }
@@ -58,7 +56,8 @@ fn read_piece<S: Store>(
     buffer: &mut [u8],
 ) -> Result<usize, Halt>
     requires { 0 < length buffer.old }
-    ensures read { ReadsPiece (S.rest store.old) (S.rest store.new) (S.read_faults store.old) (S.read_faults store.new)
+    ensures read { ReadsPiece (S.rest store.old) (S.rest store.new)
+        (S.read_faults store.old) (S.read_faults store.new)
         source.old.items source.new.items (length buffer.old) result }
     ensures files { S.files store.new ≡ S.files store.old }
     ensures saves { S.save_faults store.new ≡ S.save_faults store.old }

@@ -22,7 +22,8 @@ const LIMIT: usize = 1_048_576;
 ///
 /// The file is read whole first, or its first 1,048,577 bytes.
 fn answer<S: Store>(alloc: Global, file: &str, store: &mut S) -> Result<Items<u8>, Halt>
-    ensures answer { Answers (S.files store.old) file.now (S.read_faults store.old) (S.read_faults store.new) result }
+    ensures answer { Answers (S.files store.old) file.now
+        (S.read_faults store.old) (S.read_faults store.new) result }
     ensures files { S.files store.new ≡ S.files store.old }
     ensures saves { S.save_faults store.new ≡ S.save_faults store.old }
     ensures later { S.read_faults store.old ≤ S.read_faults store.new }
@@ -64,14 +65,22 @@ pub fn run<S: Store, O: Sink, E: Sink>(
 ) -> Status
     ensures { Runs file.now
         (record {
-            store = record { files = S.files store.old; read_faults = S.read_faults store.old; save_faults = S.save_faults store.old };
-            out = record { taken = O.taken out.old; faults = O.faults out.old };
-            err = record { taken = E.taken err.old; faults = E.faults err.old }
+          store = record {
+            files = S.files store.old;
+            read_faults = S.read_faults store.old;
+            save_faults = S.save_faults store.old;
+          };
+          out = record { taken = O.taken out.old; faults = O.faults out.old };
+          err = record { taken = E.taken err.old; faults = E.faults err.old };
         })
         (record {
-            store = record { files = S.files store.new; read_faults = S.read_faults store.new; save_faults = S.save_faults store.new };
-            out = record { taken = O.taken out.new; faults = O.faults out.new };
-            err = record { taken = E.taken err.new; faults = E.faults err.new }
+          store = record {
+            files = S.files store.new;
+            read_faults = S.read_faults store.new;
+            save_faults = S.save_faults store.new;
+          };
+          out = record { taken = O.taken out.new; faults = O.faults out.new };
+          err = record { taken = E.taken err.new; faults = E.faults err.new };
         })
         result }
 {

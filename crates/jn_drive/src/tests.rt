@@ -65,9 +65,10 @@ impl Sink for Pieces {
     }
 }
 
-fn words_of(alloc: Global, words: &[&str]) -> Result<Vec<String>, AllocError> {
+/// The words of a command line, which stand between spaces.
+fn words_of(alloc: Global, line: &str) -> Result<Vec<String>, AllocError> {
     let mut all = Vec::new(alloc);
-    for word in words {
+    for word in line.split_whitespace() {
         all.push(String::from_str(alloc, word)?)?;
     }
     Ok(all)
@@ -95,11 +96,11 @@ fn prints(alloc: Global, count: usize, spaces: usize) -> Result<Vec<u8>, AllocEr
 /// Calls `top`, and expects this status and these bytes on the two outputs.
 fn expect<S: Store>(
     rt: &(impl Abort + Alloc<A = Global>),
-    words: &[&str],
+    line: &str,
     store: &mut S,
     want: (Status, &[u8], &str),
 ) -> Result<(), AllocError> {
-    let words = words_of(rt.alloc(), words)?;
+    let words = words_of(rt.alloc(), line)?;
     let mut out = MemSink::new(rt.alloc(), ROOM, &[])?;
     let mut err = MemSink::new(rt.alloc(), ROOM, &[])?;
     let status = top(rt.alloc(), words.as_slice(), store, &mut out, &mut err);
@@ -114,17 +115,42 @@ fn expect<S: Store>(
 fn sources_are_run_or_refused(rt: HostRuntime) -> Result<(), Fail> {
     for (source, output) in [
         (FIRST, "7\n-3\n"),
-        ("class Main { void main() { print(9223372036854775807 + 1); } }", "-9223372036854775808\n"),
+        (
+            "class Main { void main() { print(9223372036854775807 + 1); } }",
+            "-9223372036854775808\n",
+        ),
         ("class Main { void main() { } }", ""),
-        ("class Main{void main(){print(9223372036854775807*9223372036854775807);}}\n", "1\n"),
-        ("class Main { void main() { print(0 - 9223372036854775807 - 2); } }", "9223372036854775807\n"),
-        ("class Main { void main() { print(10 - 2 - 3); print(2 * 3 * 4 - 5 * 6); } }", "5\n-6\n"),
-        ("class Main { void main() { print(1 - 2 * 3 + 4); print(0); print(0 - 0); } }", "-1\n0\n0\n"),
+        (
+            "class Main{void main(){print(9223372036854775807*9223372036854775807);}}\n",
+            "1\n",
+        ),
+        (
+            "class Main { void main() { print(0 - 9223372036854775807 - 2); } }",
+            "9223372036854775807\n",
+        ),
+        (
+            "class Main { void main() { print(10 - 2 - 3); print(2 * 3 * 4 - 5 * 6); } }",
+            "5\n-6\n",
+        ),
+        (
+            "class Main { void main() { print(1 - 2 * 3 + 4); print(0); print(0 - 0); } }",
+            "-1\n0\n0\n",
+        ),
     ] {
         let mut store = store_of(rt.alloc(), source.as_bytes(), &[])?;
-        expect(&rt, &["run", "f"], &mut store, (Status::Done, output.as_bytes(), ""))?;
+        expect(
+            &rt,
+            "run f",
+            &mut store,
+            (Status::Done, output.as_bytes(), ""),
+        )?;
         let mut bytes = ByBytes { store };
-        expect(&rt, &["run", "f"], &mut bytes, (Status::Done, output.as_bytes(), ""))?;
+        expect(
+            &rt,
+            "run f",
+            &mut bytes,
+            (Status::Done, output.as_bytes(), ""),
+        )?;
     }
     for source in [
         "class Main { void main() { print(1) } }",
@@ -136,30 +162,27 @@ fn sources_are_run_or_refused(rt: HostRuntime) -> Result<(), Fail> {
         "class Other { void main() { } }",
     ] {
         let mut store = store_of(rt.alloc(), source.as_bytes(), &[])?;
-        expect(&rt, &["run", "f"], &mut store, (Status::Refused, b"", NO_PROGRAM))?;
+        expect(&rt, "run f", &mut store, (Status::Refused, b"", NO_PROGRAM))?;
     }
     Ok(())
 }
 
 #[test]
 fn words_that_are_no_job_get_the_usage_line(rt: HostRuntime) -> Result<(), Fail> {
-    for words in [
-        ["run"].as_slice(),
-        [].as_slice(),
-        ["f"].as_slice(),
-        ["run", "f", "f"].as_slice(),
-        ["show", "f"].as_slice(),
-        ["Run", "f"].as_slice(),
-        ["run", "-f"].as_slice(),
-        ["run", "--"].as_slice(),
-        ["f", "run"].as_slice(),
+    for line in [
+        "run", "", "f", "run f f", "show f", "Run f", "run -f", "run --", "f run", "ru f", "runs f",
     ] {
         let mut store = store_of(rt.alloc(), FIRST.as_bytes(), &[])?;
-        expect(&rt, words, &mut store, (Status::Usage, b"", USAGE))?;
+        expect(&rt, line, &mut store, (Status::Usage, b"", USAGE))?;
     }
-    for missing in ["g", "-", "", "ff"] {
+    for line in ["run g", "run -", "run ff", "run f-"] {
         let mut store = store_of(rt.alloc(), FIRST.as_bytes(), &[])?;
-        expect(&rt, &["run", missing], &mut store, (Status::ReadFault, b"", "fault: read\n"))?;
+        expect(
+            &rt,
+            line,
+            &mut store,
+            (Status::ReadFault, b"", "fault: read\n"),
+        )?;
     }
     Ok(())
 }
@@ -169,10 +192,15 @@ fn each_failing_call_of_the_store_is_told(rt: HostRuntime) -> Result<(), Fail> {
     let source = prints(rt.alloc(), 400, 0)?;
     for call in 1..5 {
         let mut store = store_of(rt.alloc(), source.as_slice(), &[call])?;
-        expect(&rt, &["run", "f"], &mut store, (Status::ReadFault, b"", "fault: read\n"))?;
+        expect(
+            &rt,
+            "run f",
+            &mut store,
+            (Status::ReadFault, b"", "fault: read\n"),
+        )?;
     }
     let mut store = store_of(rt.alloc(), b"class Main { void main() { } }", &[4])?;
-    expect(&rt, &["run", "f"], &mut store, (Status::Done, b"", ""))?;
+    expect(&rt, "run f", &mut store, (Status::Done, b"", ""))?;
     assert!(rt; store.file("f").is_some());
     Ok(())
 }
@@ -182,10 +210,20 @@ fn a_source_has_at_most_its_limit(rt: HostRuntime) -> Result<(), Fail> {
     let short = prints(rt.alloc(), 1, 0)?.len();
     let most = prints(rt.alloc(), 1, 1_048_576 - short)?;
     let mut store = store_of(rt.alloc(), most.as_slice(), &[])?;
-    expect(&rt, &["run", "f"], &mut store, (Status::Done, b"1000000000000000000\n", ""))?;
+    expect(
+        &rt,
+        "run f",
+        &mut store,
+        (Status::Done, b"1000000000000000000\n", ""),
+    )?;
     let more = prints(rt.alloc(), 1, 1_048_577 - short)?;
     let mut store = store_of(rt.alloc(), more.as_slice(), &[])?;
-    expect(&rt, &["run", "f"], &mut store, (Status::Refused, b"", "1:1: E02 TooLong\n"))?;
+    expect(
+        &rt,
+        "run f",
+        &mut store,
+        (Status::Refused, b"", "1:1: E02 TooLong\n"),
+    )?;
     Ok(())
 }
 
@@ -199,9 +237,12 @@ fn output_is_put_in_pieces(rt: HostRuntime) -> Result<(), Fail> {
     ] {
         let source = prints(rt.alloc(), count, 0)?;
         let mut store = store_of(rt.alloc(), source.as_slice(), &[])?;
-        let mut out = Pieces { puts: 0, sizes: [0; 4] };
+        let mut out = Pieces {
+            puts: 0,
+            sizes: [0; 4],
+        };
         let mut err = MemSink::new(rt.alloc(), ROOM, &[])?;
-        let words = words_of(rt.alloc(), &["run", "f"])?;
+        let words = words_of(rt.alloc(), "run f")?;
         let status = top(rt.alloc(), words.as_slice(), &mut store, &mut out, &mut err);
         assert_eq!(rt; status, Status::Done);
         assert_eq!(rt; out.puts, puts);
@@ -222,17 +263,17 @@ fn each_failing_put_is_told(rt: HostRuntime) -> Result<(), Fail> {
         let mut store = store_of(rt.alloc(), source.as_slice(), &[])?;
         let mut out = MemSink::new(rt.alloc(), ROOM, &[fail])?;
         let mut err = MemSink::new(rt.alloc(), ROOM, &[])?;
-        let words = words_of(rt.alloc(), &["run", "f"])?;
+        let words = words_of(rt.alloc(), "run f")?;
         let status = top(rt.alloc(), words.as_slice(), &mut store, &mut out, &mut err);
         assert_eq!(rt; status, want);
         assert_eq!(rt; out.bytes().len(), taken);
         assert_eq!(rt; err.bytes().len(), 0);
     }
-    for words in [["run", "g"].as_slice(), ["f"].as_slice()] {
+    for line in ["run g", "f"] {
         let mut store = store_of(rt.alloc(), FIRST.as_bytes(), &[])?;
         let mut out = MemSink::new(rt.alloc(), ROOM, &[])?;
         let mut err = MemSink::new(rt.alloc(), 5, &[])?;
-        let words = words_of(rt.alloc(), words)?;
+        let words = words_of(rt.alloc(), line)?;
         let status = top(rt.alloc(), words.as_slice(), &mut store, &mut out, &mut err);
         assert_eq!(rt; status, Status::WriteFault);
         assert_eq!(rt; out.bytes().len(), 0);

@@ -10,9 +10,10 @@ returns-then-taken-eq0-clause-read g c =
     let size : length c.read_piece.new.source.items ≡ length c.loop-buffer.source.items + length taken.piece = ap length taken.added ∙ length-append _ _ in
     let nothing : length taken.piece ≡ 0 = taken.size ∙ c.if-taken-eq0.true in
     let before : length c.loop-buffer.source.items ≤ most_read = c.loop-buffer.invariant.0 in
-    let short : length c.read_piece.new.source.items ≤ most_read = omega arith in
-    (c.in_ok-taken.ensures.read.0 ∙ c.loop-buffer.invariant.2,
-      rw c.from_vec.ensures (front_read _ _ _ (one_piece _ _ _ _ _ _ c.loop-buffer.invariant.1 taken.rest_was taken.added) short (inl (taken.at_end c.if-taken-eq0.true))))
+    let short : length c.read_piece.new.source.items ≤ most_read = omega arith in (
+      c.in_ok-taken.ensures.read.0 ∙ c.loop-buffer.invariant.2,
+      rw c.from_vec.ensures (front_read _ _ _ (one_piece _ _ _ _ _ _ c.loop-buffer.invariant.1 taken.rest_was taken.added) short (inl (taken.at_end c.if-taken-eq0.true))),
+    )
 
 pub returns-clause-read : goal.returns-clause-read
 returns-clause-read g c =
