@@ -1,0 +1,1 @@
+class Main { void main() { print(1 + 2 * 3); print(2 - 5); } }

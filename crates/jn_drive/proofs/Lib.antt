@@ -1,0 +1,5 @@
+pub mod Judging
+pub mod Linking
+pub mod Pieces
+pub mod Reading
+pub mod Running

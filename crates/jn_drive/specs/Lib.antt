@@ -1,0 +1,9 @@
+pub mod Answer
+pub mod Code
+pub mod Job
+pub mod Machine
+pub mod Meaning
+pub mod Reply
+pub mod Seen
+pub mod Status
+pub mod Words

@@ -1,0 +1,66 @@
+//! The top call: what `jandc` does with its words, its files and its outputs.
+#![tactic(auto)]
+
+mod code;
+mod halt;
+mod machine;
+mod put;
+mod read;
+mod run;
+mod status;
+#[cfg(test)]
+mod tests;
+mod words;
+
+ghost use Rattle.std.specs.Prelude.{◌≡◌, map, string_bytes, None};
+ghost use Rattle.jn_drive.specs.Words.{file_of};
+ghost use Rattle.jn_drive.specs.Job.{DoesJob};
+
+use crate::put::misuse;
+use crate::run::run;
+use crate::words::file_of;
+use jn_io::{Sink, Store};
+pub use status::Status;
+use std::alloc::Global;
+
+/// Does the job that the words are: `run FILE`, which runs the program that the file spells and puts
+/// what it prints on `out`. All other words are answered by the usage line.
+///
+/// `DoesJob` in specs/Job.antt says for each status when it comes, and what the files and the outputs
+/// then are.
+pub fn top<S: Store, O: Sink, E: Sink>(
+    alloc: Global,
+    words: &[String],
+    store: &mut S,
+    out: &mut O,
+    err: &mut E,
+) -> Status
+    // Usage comes only where the words are no job.
+    ensures usage { result ≡ Status.Usage → file_of (map string_bytes words.now) ≡ None }
+    // By the job: from what is seen of the store and the outputs before the call, to what is seen after.
+    ensures job { DoesJob (file_of (map string_bytes words.now))
+        (record {
+          store = record {
+            files = S.files store.old;
+            read_faults = S.read_faults store.old;
+            save_faults = S.save_faults store.old;
+          };
+          out = record { taken = O.taken out.old; faults = O.faults out.old };
+          err = record { taken = E.taken err.old; faults = E.faults err.old };
+        })
+        (record {
+          store = record {
+            files = S.files store.new;
+            read_faults = S.read_faults store.new;
+            save_faults = S.save_faults store.new;
+          };
+          out = record { taken = O.taken out.new; faults = O.faults out.new };
+          err = record { taken = E.taken err.new; faults = E.faults err.new };
+        })
+        result }
+{
+    match file_of(words) {
+        None => misuse(err),
+        Some(file) => run(alloc, file, store, out, err),
+    }
+}
