@@ -1,0 +1,4 @@
+class Main {
+  void main() {
+  }
+}
