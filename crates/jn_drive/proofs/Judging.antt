@@ -1,12 +1,11 @@
 -- The front of a file that was read is answered as the file is.
-use Rattle.std.proofs.Common.{◌≡◌, ◌∙◌, ℕ, ◌<◌, ◌≤◌, ◌+◌, ◌⊎◌, inl, inr, List, [], ◌++◌, length, sym, ap, subst, append-nil, length-append, Result, Ok, Err, arith}
+use Rattle.std.proofs.Common.{◌≡◌, ◌∙◌, ℕ, ◌≤◌, ◌+◌, inl, inr, List, ◌++◌, length, sym, ap, subst, append-nil, length-append, Ok, Err, arith}
 use Rattle.std.specs.declared.option.Option.{Option}
 use Rattle.jn_io.specs.Told.{Files}
-use Rattle.jn_drive.specs.declared.halt.Halt.{Halt}
 use Rattle.jn_drive.specs.declared.halt.Halt.TheVariants as halt
 use Rattle.jn_drive.specs.Reply.{source_limit}
 use Rattle.jn_drive.specs.Seen.{IsSource}
-use Rattle.jn_drive.specs.Answer.{Answer, IsFrontOf, Judges, Answers, most_read}
+use Rattle.jn_drive.specs.Answer.{Answer, IsFrontOf, Judges, Answers}
 
 -- A front within the limit is all.
 all_read : (bytes front : List ℕ) → IsFrontOf bytes front → length front ≤ source_limit → front ≡ bytes

@@ -1,9 +1,8 @@
 -- Pieces put one after the other are the front of the whole.
-use Rattle.std.proofs.Common.{◌≡◌, ℕ, ◌+◌, ◌-◌, ◌∙◌, sym, ap, subst, refl, cond, min, List, ◌++◌, take, drop, length, append_assoc, Result, Ok, Err, Some, None, IsErr, arith}
+use Rattle.std.proofs.Common.{◌≡◌, ℕ, ◌+◌, ◌-◌, ap, refl, min, List, ◌++◌, take, drop, append_assoc, Result, Ok, Err, Some, None, IsErr, arith}
 use Rattle.std.specs.declared.option.Option.{Option}
 use Rattle.std.specs.Io.KnownBytes.{append_known}
 use Rattle.std.proofs.Math.Seq.{take-add}
-use Rattle.std.proofs.lemmas.List.{take-take}
 use Rattle.std.proofs.lemmas.Grind.{common_steps}
 use Rattle.jn_io.specs.Told.{Takes}
 

@@ -1,5 +1,5 @@
 -- Pieces read one after the other are the front of what was left to be read.
-use Rattle.std.proofs.Common.{◌≡◌, ℕ, ◌≤◌, List, [], ◌++◌, take, length, ap, sym, refl, Some, None, append-nil, append_assoc, ◌⊎◌, inl, inr, subst, ◌∙◌, Result, Ok, Err}
+use Rattle.std.proofs.Common.{◌≡◌, ℕ, ◌≤◌, List, [], ◌++◌, length, ap, sym, refl, Some, None, append-nil, append_assoc, ◌⊎◌, inl, subst, ◌∙◌, Ok, Err}
 use Rattle.std.proofs.lemmas.Option.{same_Some}
 use Rattle.std.specs.declared.option.Option.{Option}
 use Rattle.std.specs.Io.KnownBytes.{prepend_known, IsAtEnd}

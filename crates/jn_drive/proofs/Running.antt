@@ -1,20 +1,16 @@
 -- What `run` does, from what its file's bytes come to and how that is delivered.
-use Rattle.std.proofs.Common.{◌≡◌, ◌≢◌, ◌∙◌, ℕ, ◌<◌, ◌≤◌, ◌+◌, ◌⊎◌, inl, inr, List, [], ◌++◌, length, sym, ap, subst, refl, Result, Ok, Err, Some, None, arith}
+use Rattle.std.proofs.Common.{◌≡◌, ◌∙◌, ℕ, ◌≤◌, ◌⊎◌, inl, inr, List, sym, ap, subst, refl, Ok, Err, Some, None, arith}
 use Rattle.std.specs.declared.option.Option.{Option}
-use Rattle.std.specs.FinMap.{get}
 use Rattle.std.proofs.lemmas.Option.{same_Some}
 use Rattle.jn_base.specs.declared.tree.Program.{Program}
-use Rattle.jn_parser.specs.Spelling.{SourceSpells}
-use Rattle.jn_io.specs.Causes.{Rose}
 use Rattle.jn_io.specs.Told.{Files, Lacks}
 use Rattle.jn_drive.specs.declared.status.Status.{Status}
 use Rattle.jn_drive.specs.declared.status.Status.TheVariants as statuses
-use Rattle.jn_drive.specs.declared.halt.Halt.{Halt}
 use Rattle.jn_drive.specs.declared.halt.Halt.TheVariants as halt
 use Rattle.jn_drive.specs.Meaning.{output_of}
-use Rattle.jn_drive.specs.Reply.{Reply, RunReply, usage_reply, syntax_reply, too_long_reply, unread_reply, memory_reply, output_reply, source_limit}
-use Rattle.jn_drive.specs.Seen.{Seen, SinkSeen, IsSource, IsToldSource, IsQuiet, IsGiven, IsCut, IsDelivered, TookAll, TookSome}
-use Rattle.jn_drive.specs.Answer.{Answer, Answers, Judges, SpellsOnly, reply_of}
+use Rattle.jn_drive.specs.Reply.{Reply, RunReply, syntax_reply, too_long_reply, unread_reply, memory_reply, output_reply}
+use Rattle.jn_drive.specs.Seen.{Seen, SinkSeen, IsSource, IsToldSource, IsQuiet, IsCut, IsDelivered}
+use Rattle.jn_drive.specs.Answer.{Answer, Answers, Judges, reply_of}
 use Rattle.jn_drive.specs.Job.{Runs, Replies, MayReply, IsUnread, Gives, Cuts, GivesUnlessMemory, IsOfRun}
 
 -- The bytes that are told are those that were read.

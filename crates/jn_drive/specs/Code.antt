@@ -3,7 +3,7 @@ use Rattle.std.specs.Prelude.{ℕ, ℤ, pos, List, [], ◌∷◌, ◌++◌, fold
 use Rattle.jn_base.specs.declared.tree.Op.{Op}
 use Rattle.jn_drive.specs.declared.code.Instr.{Instr}
 use Rattle.jn_drive.specs.declared.code.Instr.TheVariants as instr
-use Rattle.jn_drive.specs.Meaning.{joined, link_joined, line_of}
+use Rattle.jn_drive.specs.Meaning.{link_joined, line_of}
 
 -- The operands, the last one pushed first, and the bytes printed.
 pub record State : Type 0 where

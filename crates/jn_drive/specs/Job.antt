@@ -9,7 +9,7 @@ use Rattle.jn_parser.specs.Spelling.{SourceSpells}
 use Rattle.jn_drive.specs.declared.status.Status.{Status}
 use Rattle.jn_drive.specs.declared.status.Status.TheVariants as statuses
 use Rattle.jn_drive.specs.Meaning.{output_of}
-use Rattle.jn_drive.specs.Reply.{Reply, RunReply, usage_reply, syntax_reply, unread_reply, memory_reply, output_reply, source_limit}
+use Rattle.jn_drive.specs.Reply.{Reply, RunReply, usage_reply, unread_reply, memory_reply, output_reply, source_limit}
 use Rattle.jn_drive.specs.Seen.{Seen, IsSource, IsToldSource, IsQuiet, IsGiven, IsCut}
 
 -- The reply was given whole, in a call from `before` to `after`.

@@ -3,7 +3,7 @@
 -- The language has one class whose method prints expressions of numbers and of chains of `+`, `-` and
 -- `*`. The definitions speak of every tree; what they give for the forms that the language hasn't yet
 -- stands last in each, and no source that is taken spells such a tree.
-use Rattle.std.specs.Prelude.{ℕ, ℤ, pos, List, [], ◌∷◌, ◌++◌, map, fold}
+use Rattle.std.specs.Prelude.{ℕ, ℤ, pos, List, [], ◌∷◌, ◌++◌, fold}
 use Rattle.std.specs.List.{flat_map}
 use Rattle.std.specs.Fmt.{signed_decimal}
 use Rattle.std.specs.Int.{w64, int_wrapping_add, int_wrapping_sub, int_wrapping_mul}
@@ -14,9 +14,8 @@ use Rattle.jn_base.specs.declared.tree.Link.{Link, fold-Link}
 use Rattle.jn_base.specs.declared.tree.Node.TheOpen.{Node-F, Expr-F, Link-F, Suffix-F}
 use Rattle.jn_base.specs.declared.tree.Stmt.{Stmt, out-Stmt}
 use Rattle.jn_base.specs.declared.tree.Stmt.TheOpen.{Stmt-F}
-use Rattle.jn_base.specs.declared.tree.Method.{Method}
 use Rattle.jn_base.specs.declared.tree.Member.{Member, out-Member}
-use Rattle.jn_base.specs.declared.tree.Member.TheOpen.{Member-F, Decl-F}
+use Rattle.jn_base.specs.declared.tree.Member.TheOpen.{Member-F}
 use Rattle.jn_base.specs.declared.tree.Decl.{Decl, out-Decl}
 use Rattle.jn_base.specs.declared.tree.Program.{Program}
 

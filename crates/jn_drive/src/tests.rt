@@ -208,7 +208,7 @@ fn each_failing_call_of_the_store_is_told(rt: HostRuntime) -> Result<(), Fail> {
 #[test]
 fn a_source_has_at_most_its_limit(rt: HostRuntime) -> Result<(), Fail> {
     let short = prints(rt.alloc(), 1, 0)?.len();
-    let most = prints(rt.alloc(), 1, 1_048_576 - short)?;
+    let most = prints(rt.alloc(), 1, 1_048_576usize.saturating_sub(short))?;
     let mut store = store_of(rt.alloc(), most.as_slice(), &[])?;
     expect(
         &rt,
@@ -216,7 +216,7 @@ fn a_source_has_at_most_its_limit(rt: HostRuntime) -> Result<(), Fail> {
         &mut store,
         (Status::Done, b"1000000000000000000\n", ""),
     )?;
-    let more = prints(rt.alloc(), 1, 1_048_577 - short)?;
+    let more = prints(rt.alloc(), 1, 1_048_577usize.saturating_sub(short))?;
     let mut store = store_of(rt.alloc(), more.as_slice(), &[])?;
     expect(
         &rt,

@@ -1,7 +1,5 @@
-use Rattle.std.proofs.Common.{rules, arith, ◌≡◌, map, fold, OnOk, IfOk, ℕ}
+use Rattle.std.proofs.Common.{arith}
 use Rattle.std.proofs.lemmas.Grind.{common_steps}
-use Rattle.jn_drive.specs.Meaning.{value_of, operand_of, link_joined}
-use Rattle.jn_drive.specs.Code.{State, pushed, printed, linked, state_after}
 use Rattle.jn_drive.proofs.Linking.{links_pushed, chain_value}
 use Rattle.jn_drive.proofs.code.+expr.Goals as goal
 

@@ -1,4 +1,4 @@
-use Rattle.std.proofs.Common.{arith, ◌∙◌, ◌≤◌, ◌+◌, length}
+use Rattle.std.proofs.Common.{arith, ◌∙◌}
 use Rattle.jn_drive.proofs.Pieces.{piece_put, part_put, failed_takes}
 use Rattle.jn_drive.proofs.put.put_output.Goals as goal
 

@@ -1,6 +1,5 @@
-use Rattle.std.proofs.Common.{arith, rules, inl, inr, ◌≡◌, ◌≤◌, ◌∙◌, ap, subst, List, ℕ, ◌+◌, sym, length, length-append}
-use Rattle.std.specs.Io.KnownBytes.{IsAtEnd}
-use Rattle.jn_drive.specs.Answer.{IsFront, most_read}
+use Rattle.std.proofs.Common.{arith, rules, inl, inr, ◌≡◌, ◌≤◌, ◌∙◌, ap, ◌+◌, length, length-append}
+use Rattle.jn_drive.specs.Answer.{most_read}
 use Rattle.jn_drive.proofs.Reading.{one_piece, front_read}
 use Rattle.jn_drive.proofs.read.read_rest.Goals as goal
 

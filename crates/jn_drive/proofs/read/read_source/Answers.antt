@@ -1,4 +1,3 @@
-use Rattle.std.proofs.Common.{◌≡◌}
 use Rattle.jn_drive.proofs.Reading.{file_read}
 use Rattle.jn_drive.proofs.read.read_source.Goals as goal
 

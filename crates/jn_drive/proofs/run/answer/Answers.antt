@@ -1,4 +1,4 @@
-use Rattle.std.proofs.Common.{◌≡◌, ◌∙◌, subst, List, ℕ}
+use Rattle.std.proofs.Common.{subst, List, ℕ}
 use Rattle.jn_drive.specs.Answer.{Judges}
 use Rattle.jn_drive.proofs.Judging.{bytes_answered}
 use Rattle.jn_drive.proofs.run.answer.Goals as goal
