@@ -12,10 +12,9 @@ ghost use Rattle.std.specs.declared.io.ErrorKind.TheVariants.{OutOfMemory};
 use jn_drive::{Status, top};
 use jn_io::{DirStore, StdSink};
 use std::alloc::Global;
-use std::env;
-use std::io;
 use std::process::ExitCode;
 use std::rt::Env;
+use std::{env, io};
 
 /// What the program ends with where the system doesn't give the words. It is no status of `top`.
 const NO_WORDS: u8 = 13;
