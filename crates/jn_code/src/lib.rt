@@ -4,6 +4,7 @@
 pub mod fault;
 pub mod image;
 pub mod instr;
+pub mod spelling;
 
 pub use fault::{CodeWhy, FieldKind, ImageFault, RowWhy};
 pub use image::{

@@ -1,0 +1,4 @@
+pub mod FieldLaws
+pub mod InstrLaws
+pub mod FileLaws
+pub mod SpellsLaws
