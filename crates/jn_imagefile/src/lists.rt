@@ -1,0 +1,90 @@
+//! Lists of the file.
+
+ghost use Rattle.std.specs.Prelude.{ℕ, ◌≡◌, length};
+ghost use Rattle.jn_code.specs.SpellsFields.{Field, Reading, kind_byte, read_listed, read_ascending};
+ghost use Rattle.jn_imagefile.specs.Gives.{Gives};
+
+use crate::fields::kind_at;
+use crate::stop::Stop;
+use sqlite_items::Items;
+use std::alloc::Global;
+
+/// What a list of the file holds.
+pub trait Item: Drop {
+    /// How it stands in the file.
+    ghost field: { Field Self };
+
+    fn read(alloc: Global, bytes: &[u8]) -> Result<(Self, &[u8]), Stop>
+        ensures { Gives (λ x. (x.0, x.1.now)) result (field.read bytes.now) };
+}
+
+/// What a list holds in the order of its keys.
+pub trait Entry: Drop {
+    ghost key: { Self → ℕ };
+
+    /// How it stands in the file where its key has to be at least that.
+    ghost field: { ℕ → Field Self };
+
+    fn key(&self) -> u32
+        ensures { result ≡ key self.now };
+
+    fn read(bytes: &[u8], least: u64) -> Result<(Self, &[u8]), Stop>
+        ensures { Gives (λ x. (x.0, x.1.now)) result ((field least).read bytes.now) };
+}
+
+/// So many items.
+pub fn items_at<T: Item>(
+    alloc: Global,
+    count: u32,
+    bytes: &[u8],
+) -> Result<(Items<T>, &[u8]), Stop>
+    ensures { Gives (λ x. (x.0, x.1.now)) result (read_listed T.field.read count bytes.now) }
+{
+    let mut items = Items::new(alloc);
+    let mut rest = bytes;
+    for _ in 0..count {
+        let (item, after) = T::read(alloc, rest)?;
+        items.push(item)?;
+        rest = after;
+    }
+    Ok((items, rest))
+}
+
+/// So many entries in order.
+pub fn entries_at<T: Entry>(
+    alloc: Global,
+    count: u32,
+    bytes: &[u8],
+) -> Result<(Items<T>, &[u8]), Stop>
+    ensures { Gives (λ x. (x.0, x.1.now)) result (read_ascending T.key (λ least. (T.field least).read) 0 count bytes.now) }
+{
+    let mut entries = Items::new(alloc);
+    let mut rest = bytes;
+    let mut least: u64 = 0;
+    for _ in 0..count {
+        let (entry, after) = T::read(rest, least)?;
+        least = u64::from(entry.key()) + 1;
+        entries.push(entry)?;
+        rest = after;
+    }
+    Ok((entries, rest))
+}
+
+/// So many kinds, from 1 to `most`.
+pub fn kinds_at(
+    alloc: Global,
+    count: u32,
+    most: u8,
+    bytes: &[u8],
+) -> Result<(Items<u8>, &[u8]), Stop>
+    ensures { Gives (λ x. (x.0, x.1.now)) result (read_listed (kind_byte 1 most).read count bytes.now) }
+{
+    let mut kinds = Items::new(alloc);
+    let mut rest = bytes;
+    for _ in 0..count {
+        let (kind, after) = kind_at(rest, 1, most)?;
+        kinds.push(kind)?;
+        rest = after;
+    }
+    Ok((kinds, rest))
+}
