@@ -1,2 +1,3 @@
 pub mod Loops
 pub mod Found
+pub mod AsTheyAre

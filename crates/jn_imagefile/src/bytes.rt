@@ -1,6 +1,6 @@
 //! Numbers as bytes, the lowest first.
 
-ghost use Rattle.std.specs.Prelude.{◌≡◌, ◌++◌, [], ◌∷◌, OnOk};
+ghost use Rattle.std.specs.Prelude.{◌≡◌, ◌<◌, ◌++◌, [], ◌∷◌, OnOk};
 ghost use Rattle.std.specs.Int.{w16, w32};
 ghost use Rattle.jn_code.specs.SpellsFields.{number, signed};
 
@@ -20,7 +20,8 @@ pub fn put_u16(out: &mut Vec<u8>, n: u16) -> Result<(), AllocError>
 }
 
 pub fn put_u32(out: &mut Vec<u8>, n: u32) -> Result<(), AllocError>
-    ensures { OnOk result (out.new.items ≡ out.old.items ++ (number w32).spelled n) }
+    ensures bytes { OnOk result (out.new.items ≡ out.old.items ++ (number w32).spelled n) }
+    ensures fits { n < 4294967296 }
 {
     out.extend_from_slice(&n.to_le_bytes())
 }

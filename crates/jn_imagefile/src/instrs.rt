@@ -183,6 +183,10 @@ fn put_operand(out: &mut Vec<u8>, x: Instr) -> Result<(), AllocError>
 impl Item for Instr {
     ghost field = { instr };
 
+    ghost form = { InstrInForm };
+
+    ghost fits = { OperandFits };
+
     #[tactic(auto, unfolding(jn_code::specs::SpellsInstr::read_instr))]
     fn read(_alloc: Global, bytes: &[u8]) -> Result<(Instr, &[u8]), Stop> {
         let (code, rest) = u8_at(bytes)?;
@@ -190,5 +194,10 @@ impl Item for Instr {
             None => Err(Stop::Bad(bytes.len(), FieldKind::Opcode)),
             Some(x) => operand_at(x, rest),
         }
+    }
+
+    fn write(&self, out: &mut Vec<u8>) -> Result<(), AllocError> {
+        put_u8(out, opcode(*self))?;
+        put_operand(out, *self)
     }
 }

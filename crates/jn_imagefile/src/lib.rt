@@ -7,7 +7,10 @@ mod entries;
 mod fields;
 mod instrs;
 mod lists;
+mod puts;
 mod reading;
 mod stop;
+mod writing;
 
 pub use reading::read_image;
+pub use writing::write_image;

@@ -18,7 +18,7 @@ use std::alloc::Global;
 const LIMIT: usize = 134_217_728;
 
 /// The bytes 4a 4e 44 31.
-const MAGIC: u32 = 0x3144_4e4a;
+pub const MAGIC: u32 = 0x3144_4e4a;
 
 fn magic_at(bytes: &[u8]) -> Result<(u32, &[u8]), Stop>
     ensures { Gives (λ x. (x.0, x.1.now)) result (magic_number.read bytes.now) }
