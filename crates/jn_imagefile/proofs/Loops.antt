@@ -67,7 +67,7 @@ goes_on_in_order key read front count i least bytes a after total lt h so_far =
     let k : count - i ≡ suc (count - (i + 1)) = omega arith in
     let next : key a + 1 ≡ suc (key a) = omega arith in
     let one : with_front front (read_ascending key read least (count - i) bytes) ≡ with_front (front ++ a ∷ []) (read_ascending key read (suc (key a)) (count - (i + 1)) after) =
-        rw (k, h) (regroup front a (read_ascending key read (suc (key a)) (count - (i + 1)) after)) in
+    rw (k, h) (regroup front a (read_ascending key read (suc (key a)) (count - (i + 1)) after)) in
     ap (λ (l : ℕ). with_front (front ++ a ∷ []) (read_ascending key read l (count - (i + 1)) after)) next ∙ sym one ∙ so_far
 
 ends_in_order : {A : Type 0} (f : spells.Stop) (key : A → ℕ) (read : ℕ → List ℕ → Reading A) (front : List A) (count i least : ℕ) (bytes : List ℕ) (total : Reading (List A)) → i < count → read least bytes ≡ Err f

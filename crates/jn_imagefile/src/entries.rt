@@ -7,13 +7,13 @@ ghost use Rattle.jn_code.specs.SpellsFile.{text, shape, group, member, method, f
 
 use crate::bytes::{put_u8, put_u16, put_u32};
 use crate::counted::{few_kinds_at, list_at, ordered_at, short_ordered_at, string_at};
-use crate::puts::{
-    put_few_kinds, put_list, put_ordered, put_short_ordered, put_string,
-};
 use crate::fields::{count_at, kind_at, u8_at, u16_at, u16_from, u32_at, u32_from};
 use crate::lists::{Entry, Item};
+use crate::puts::{put_few_kinds, put_list, put_ordered, put_short_ordered, put_string};
 use crate::stop::Stop;
-use jn_code::{ClassRow, Code, FieldEntry, Group, MemberEntry, MethodEntry, OtherEntry, Shape, Text};
+use jn_code::{
+    ClassRow, Code, FieldEntry, Group, MemberEntry, MethodEntry, OtherEntry, Shape, Text,
+};
 use std::alloc::{AllocError, Global};
 
 impl Entry for MemberEntry {

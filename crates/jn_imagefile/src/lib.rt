@@ -14,3 +14,6 @@ mod writing;
 
 pub use reading::read_image;
 pub use writing::write_image;
+
+#[cfg(test)]
+mod tests;

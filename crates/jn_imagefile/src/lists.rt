@@ -53,11 +53,7 @@ pub trait Entry: Drop {
 }
 
 /// So many items.
-pub fn items_at<T: Item>(
-    alloc: Global,
-    count: u32,
-    bytes: &[u8],
-) -> Result<(Items<T>, &[u8]), Stop>
+pub fn items_at<T: Item>(alloc: Global, count: u32, bytes: &[u8]) -> Result<(Items<T>, &[u8]), Stop>
     ensures { Gives (λ x. (x.0, x.1.now)) result (read_listed T.field.read count bytes.now) }
 {
     let mut items = Items::new(alloc);
