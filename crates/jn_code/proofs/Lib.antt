@@ -1,3 +1,9 @@
+pub mod Sound
+pub mod Words
+pub mod RowFacts
+pub mod Frames
+pub mod Obeyed
+pub mod Safe
 pub mod FieldLaws
 pub mod InstrLaws
 pub mod FileLaws

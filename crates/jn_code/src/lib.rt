@@ -4,6 +4,9 @@
 pub mod fault;
 pub mod image;
 pub mod instr;
+pub mod kind;
+pub mod law;
+pub mod rows;
 pub mod spelling;
 
 pub use fault::{CodeWhy, FieldKind, ImageFault, RowWhy};
@@ -11,3 +14,4 @@ pub use image::{
     ClassRow, Code, FieldEntry, Group, Image, MemberEntry, MethodEntry, OtherEntry, Shape, Text,
 };
 pub use instr::Instr;
+pub use kind::OperandKind;

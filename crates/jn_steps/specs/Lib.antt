@@ -1,3 +1,5 @@
 pub mod Runs
 pub mod Laws
 pub mod Steps
+pub mod Frames
+pub mod Numbers

@@ -1,6 +1,8 @@
-ghost use Rattle.std.specs.Prelude.{List, ℕ};
+ghost use Rattle.std.specs.Prelude.{◌≡◌, List, ℕ, ◌∷◌, pos, negsuc, true, []};
 ghost use Rattle.jn_steps.specs.Runs.{Next};
 ghost use Rattle.jn_steps.specs.Laws.{OutputGrows, RunsGoOn, RunsInParts};
+ghost use Rattle.jn_steps.specs.Frames.{Rules, State, machine_step};
+ghost use Rattle.jn_steps.specs.Numbers.{sum_of, difference_of, product_of, negation_of, quotient_of, remainder_of, number_line, truth_line};
 
 /// The laws of runs, over any states `S` and outcomes `O`. It does nothing.
 ///
@@ -11,12 +13,37 @@ pub fn runs_go_on<S, O>()
     ensures parts { (step : S → Next S O) → RunsInParts step }
 {}
 
+/// A machine over frames `F` and a heap `H`, whatever its rules, goes on from where it was when it has more steps. It does
+/// nothing.
+pub fn machines_go_on<F, H, B, V, O>()
+    ensures { (rules : Rules F H B V O) (depth : ℕ) → RunsGoOn (machine_step rules depth) (λ (s : State F H). s.output) }
+{}
+
+/// Worked rows of the numbers: they wrap, a quotient goes toward 0, a remainder has the sign of the dividend. It does
+/// nothing.
+pub fn number_rows()
+    ensures sum { sum_of (pos 9223372036854775807) (pos 1) ≡ negsuc 9223372036854775807 }
+    ensures difference { difference_of (pos 2) (pos 5) ≡ negsuc 2 }
+    ensures product { product_of (pos 4611686018427387904) (pos 2) ≡ negsuc 9223372036854775807 }
+    ensures negation { negation_of (negsuc 9223372036854775807) ≡ negsuc 9223372036854775807 }
+    ensures quotient { quotient_of (negsuc 6) (pos 2) ≡ Some (negsuc 2) }
+    ensures least_quotient { quotient_of (negsuc 9223372036854775807) (negsuc 0) ≡ Some (negsuc 9223372036854775807) }
+    ensures no_quotient { quotient_of (pos 1) (pos 0) ≡ None }
+    ensures remainder { remainder_of (negsuc 6) (pos 2) ≡ Some (negsuc 0) }
+    ensures other_remainder { remainder_of (pos 7) (negsuc 1) ≡ Some (pos 1) }
+    ensures no_remainder { remainder_of (pos 1) (pos 0) ≡ None }
+    ensures number { number_line (negsuc 11) ≡ 45 ∷ 49 ∷ 50 ∷ 10 ∷ [] }
+    ensures truth { truth_line true ≡ 116 ∷ 114 ∷ 117 ∷ 101 ∷ 10 ∷ [] }
+{}
+
 #[cfg(test)]
 mod tests {
-    use super::runs_go_on;
+    use super::{machines_go_on, number_rows, runs_go_on};
 
     #[test]
     fn the_laws_are_there() {
         runs_go_on::<u8, u8>();
+        machines_go_on::<u8, u8, u8, u8, u8>();
+        number_rows();
     }
 }
