@@ -10,3 +10,4 @@ pub mod SpellsFields
 pub mod SpellsInstr
 pub mod SpellsFile
 pub mod Spells
+pub mod SpellsExample
