@@ -154,10 +154,10 @@ law64 = number_law w64 (2 ^ 64) wide64
 pub passing_law : {A : Type 0} (test : A → Bool) (stop : ℕ → Stop) (f : Field A) (P : A → Type 0) → IsField f P → IsField (passing test stop f) (λ x. P x × (test x ≡ true))
 passing_law {A} test stop f P law = record {
   takes = λ bytes x rest fits e.
-    let a = bind_ok (f.read bytes) (λ y. cond (test y.0) (Ok y) (Err (stop (length bytes)))) (x, rest) e in
-    let g = test_ok (test a.0.0) (stop (length bytes)) a.0 (x, rest) a.2 in
-    let t = law.takes bytes a.0.0 a.0.1 fits a.1 in
-    subst (λ (y : A × List ℕ). Takes bytes (f.spelled y.0) y.1 × (P y.0 × (test y.0 ≡ true))) g.1 (t.0, (t.1, g.0));
+      let a = bind_ok (f.read bytes) (λ y. cond (test y.0) (Ok y) (Err (stop (length bytes)))) (x, rest) e in
+      let g = test_ok (test a.0.0) (stop (length bytes)) a.0 (x, rest) a.2 in
+      let t = law.takes bytes a.0.0 a.0.1 fits a.1 in
+      subst (λ (y : A × List ℕ). Takes bytes (f.spelled y.0) y.1 × (P y.0 × (test y.0 ≡ true))) g.1 (t.0, (t.1, g.0));
   again = λ x rest h. rw (law.again x rest h.0, h.1) refl;
 }
 
@@ -174,15 +174,15 @@ pub part_law : {A S : Type 0} {of : S → A} {first : Field A} {next : A → Fie
 unfolding part
 part_law {A} {S} {of} {first} {next} {P} {Q} one two back = record {
   takes = λ bytes s rest fits e.
-    let a = bind_ok (first.read bytes) (λ x. (next x.0).read x.1) (s, rest) e in
-    let t = one.takes bytes a.0.0 a.0.1 fits a.1 in
-    let u = (two a.0.0).takes a.0.1 s rest t.0.rest_fits a.2 in
-    let both = Takes-then bytes (first.spelled a.0.0) a.0.1 ((next a.0.0).spelled s) rest t.0 u.0 in
-    subst (λ (y : A). Takes bytes (first.spelled y ++ (next y).spelled s) rest × (P y × Q y s)) (sym (back a.0.0 s t.1 u.1)) (both, (t.1, u.1));
+      let a = bind_ok (first.read bytes) (λ x. (next x.0).read x.1) (s, rest) e in
+      let t = one.takes bytes a.0.0 a.0.1 fits a.1 in
+      let u = (two a.0.0).takes a.0.1 s rest t.0.rest_fits a.2 in
+      let both = Takes-then bytes (first.spelled a.0.0) a.0.1 ((next a.0.0).spelled s) rest t.0 u.0 in
+      subst (λ (y : A). Takes bytes (first.spelled y ++ (next y).spelled s) rest × (P y × Q y s)) (sym (back a.0.0 s t.1 u.1)) (both, (t.1, u.1));
   again = λ s rest h.
-    ap (λ (bytes : List ℕ). first.read bytes >>= λ x. (next x.0).read x.1) (append_assoc (first.spelled (of s)) ((next (of s)).spelled s) rest)
-    ∙ ap (λ (r : Reading A). r >>= λ x. (next x.0).read x.1) (one.again (of s) ((next (of s)).spelled s ++ rest) h.0)
-    ∙ (two (of s)).again s rest h.1;
+      ap (λ (bytes : List ℕ). first.read bytes >>= λ x. (next x.0).read x.1) (append_assoc (first.spelled (of s)) ((next (of s)).spelled s) rest)
+      ∙ ap (λ (r : Reading A). r >>= λ x. (next x.0).read x.1) (one.again (of s) ((next (of s)).spelled s ++ rest) h.0)
+      ∙ (two (of s)).again s rest h.1;
 }
 
 pub last_law : {A S : Type 0} {of : S → A} {field : Field A} {P : A → Type 0} (make : A → S)
@@ -190,15 +190,15 @@ pub last_law : {A S : Type 0} {of : S → A} {field : Field A} {P : A → Type 0
 unfolding last
 last_law {A} {S} {of} {field} {P} make law back = record {
   takes = λ bytes s rest fits e.
-    let a = bind_ok (field.read bytes) (λ x. Ok (make x.0, x.1)) (s, rest) e in
-    let t = law.takes bytes a.0.0 a.0.1 fits a.1 in
-    let b = back a.0.0 in
-    let here : Takes bytes (field.spelled (of (make a.0.0))) a.0.1 × (P (of (make a.0.0)) × (make a.0.0 ≡ make (of (make a.0.0)))) =
-        subst (λ (y : A). Takes bytes (field.spelled y) a.0.1 × (P y × (make a.0.0 ≡ make y))) (sym b) (t.0, (t.1, refl)) in
-    subst (λ (y : S × List ℕ). Takes bytes (field.spelled (of y.0)) y.1 × (P (of y.0) × (y.0 ≡ make (of y.0)))) (ok_is (make a.0.0, a.0.1) (s, rest) a.2) here;
+      let a = bind_ok (field.read bytes) (λ x. Ok (make x.0, x.1)) (s, rest) e in
+      let t = law.takes bytes a.0.0 a.0.1 fits a.1 in
+      let b = back a.0.0 in
+      let here : Takes bytes (field.spelled (of (make a.0.0))) a.0.1 × (P (of (make a.0.0)) × (make a.0.0 ≡ make (of (make a.0.0)))) =
+      subst (λ (y : A). Takes bytes (field.spelled y) a.0.1 × (P y × (make a.0.0 ≡ make y))) (sym b) (t.0, (t.1, refl)) in
+      subst (λ (y : S × List ℕ). Takes bytes (field.spelled (of y.0)) y.1 × (P (of y.0) × (y.0 ≡ make (of y.0)))) (ok_is (make a.0.0, a.0.1) (s, rest) a.2) here;
   again = λ s rest h.
-    ap (λ (r : Reading A). r >>= λ x. Ok (make x.0, x.1)) (law.again (of s) rest h.0)
-    ∙ ap (λ (y : S). Ok (y, rest)) (sym h.1);
+      ap (λ (r : Reading A). r >>= λ x. Ok (make x.0, x.1)) (law.again (of s) rest h.0)
+      ∙ ap (λ (y : S). Ok (y, rest)) (sym h.1);
 }
 
 -- ---- lists
@@ -208,7 +208,7 @@ listed_takes : {A : Type 0} (item : Field A) (P : A → Type 0) → IsField item
 unfolding read_listed
 listed_takes {A} item P law zero bytes xs rest fits e =
     subst (λ (y : List A × List ℕ). Takes bytes (flat_map item.spelled y.0) y.1 × ((length y.0 ≡ 0) × AllByRecursion P y.0)) (ok_is ([], bytes) (xs, rest) e)
-        (record { parts = refl; rest_fits = fits }, (refl, tt))
+    (record { parts = refl; rest_fits = fits }, (refl, tt))
 listed_takes {A} item P law (suc n) bytes xs rest fits e =
     let a = bind_ok (item.read bytes) (λ x. read_listed item.read n x.1 >>= λ ys. Ok (x.0 ∷ ys.0, ys.1)) (xs, rest) e in
     let b = bind_ok (read_listed item.read n a.0.1) (λ ys. Ok (a.0.0 ∷ ys.0, ys.1)) (xs, rest) a.2 in
@@ -216,7 +216,7 @@ listed_takes {A} item P law (suc n) bytes xs rest fits e =
     let u = listed_takes item P law n a.0.1 b.0.0 b.0.1 t.0.rest_fits b.1 in
     let both = Takes-then bytes (item.spelled a.0.0) a.0.1 (flat_map item.spelled b.0.0) b.0.1 t.0 u.0 in
     subst (λ (y : List A × List ℕ). Takes bytes (flat_map item.spelled y.0) y.1 × ((length y.0 ≡ suc n) × AllByRecursion P y.0)) (ok_is (a.0.0 ∷ b.0.0, b.0.1) (xs, rest) b.2)
-        (both, (ap suc u.1.0, (t.1, u.1.1)))
+    (both, (ap suc u.1.0, (t.1, u.1.1)))
 
 listed_again : {A : Type 0} (item : Field A) (P : A → Type 0) → IsField item P → (xs : List A) (rest : List ℕ) → AllByRecursion P xs
     → read_listed item.read (length xs) (flat_map item.spelled xs ++ rest) ≡ Ok (xs, rest)
@@ -244,7 +244,7 @@ ascending_takes : {A : Type 0} (key : A → ℕ) (entry : ℕ → Field A) (P : 
 unfolding read_ascending
 ascending_takes {A} key entry P law same zero least bytes xs rest fits e =
     subst (λ (y : List A × List ℕ). Takes bytes (flat_map (entry 0).spelled y.0) y.1 × ((length y.0 ≡ 0) × AscendsFrom least (map key y.0) × AllByRecursion P y.0)) (ok_is ([], bytes) (xs, rest) e)
-        (record { parts = refl; rest_fits = fits }, (refl, tt, tt))
+    (record { parts = refl; rest_fits = fits }, (refl, tt, tt))
 ascending_takes {A} key entry P law same (suc n) least bytes xs rest fits e =
     let a = bind_ok ((entry least).read bytes) (λ x. read_ascending key (λ l. (entry l).read) (suc (key x.0)) n x.1 >>= λ ys. Ok (x.0 ∷ ys.0, ys.1)) (xs, rest) e in
     let b = bind_ok (read_ascending key (λ l. (entry l).read) (suc (key a.0.0)) n a.0.1) (λ ys. Ok (a.0.0 ∷ ys.0, ys.1)) (xs, rest) a.2 in
@@ -253,7 +253,7 @@ ascending_takes {A} key entry P law same (suc n) least bytes xs rest fits e =
     let u = ascending_takes key entry P law same n (suc (key a.0.0)) a.0.1 b.0.0 b.0.1 t.0.rest_fits b.1 in
     let both = Takes-then bytes ((entry 0).spelled a.0.0) a.0.1 (flat_map (entry 0).spelled b.0.0) b.0.1 t0 u.0 in
     subst (λ (y : List A × List ℕ). Takes bytes (flat_map (entry 0).spelled y.0) y.1 × ((length y.0 ≡ suc n) × AscendsFrom least (map key y.0) × AllByRecursion P y.0)) (ok_is (a.0.0 ∷ b.0.0, b.0.1) (xs, rest) b.2)
-        (both, (ap suc u.1.0, (t.1.1, u.1.1), (t.1.0, u.1.2)))
+    (both, (ap suc u.1.0, (t.1.1, u.1.1), (t.1.0, u.1.2)))
 
 ascending_again : {A : Type 0} (key : A → ℕ) (entry : ℕ → Field A) (P : A → Type 0) → ((l : ℕ) → IsField (entry l) (λ x. P x × (l ≤ key x))) → ((l : ℕ) (x : A) → (entry l).spelled x ≡ (entry 0).spelled x)
     → (xs : List A) (least : ℕ) (rest : List ℕ) → AscendsFrom least (map key xs) → AllByRecursion P xs

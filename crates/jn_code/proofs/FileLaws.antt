@@ -1,29 +1,24 @@
 -- The file of an image is read as it was written.
-use Rattle.std.proofs.Common.{◌≡◌, ℕ, zero, suc, ◌+◌, ◌-◌, ◌<◌, ◌≤◌, Bool, true, false, List, [], ◌∷◌, ◌++◌, length, map, All, refl, sym, ap, subst, ◌∙◌, arith}
+use Rattle.std.proofs.Common.{◌≡◌, ℕ, suc, ◌-◌, ◌<◌, ◌≤◌, Bool, true, false, List, [], ◌∷◌, length, map, All, refl, sym, ap, arith}
 use Rattle.std.specs.Prelude.{nat_le, ◌&&◌, ◌==◌}
-use Rattle.std.specs.List.{AllByRecursion}
 use Rattle.std.specs.Int.{w16, w32}
 use Rattle.std.proofs.lemmas.Bool.{leb-true, le-leb, eqb-true}
 use Rattle.std.proofs.lemmas.List.Elements.{All-from_recursion, recursion_from_All}
-use Rattle.jn_code.specs.declared.image.Text.{Text}
 use Rattle.jn_code.specs.declared.image.Image.{Image}
 use Rattle.jn_code.specs.declared.image.Shape.{Shape}
-use Rattle.jn_code.specs.declared.image.Group.{Group}
 use Rattle.jn_code.specs.declared.image.ClassRow.{ClassRow}
 use Rattle.jn_code.specs.declared.image.MemberEntry.{MemberEntry}
 use Rattle.jn_code.specs.declared.image.MethodEntry.{MethodEntry}
 use Rattle.jn_code.specs.declared.image.FieldEntry.{FieldEntry}
 use Rattle.jn_code.specs.declared.image.OtherEntry.{OtherEntry}
 use Rattle.jn_code.specs.declared.image.Code.{Code}
-use Rattle.jn_code.specs.declared.instr.Instr.{Instr}
 use Rattle.jn_code.specs.declared.fault.FieldKind.TheVariants as kind
-use Rattle.jn_code.specs.Form.{IsKind, IsFieldKind, IsBelowFirst, Ascends, ShapeInForm, GroupInForm, RowInForm, CodeInForm, InForm, InstrInForm}
-use Rattle.jn_code.specs.Spells.{OperandFits, MemberFits, MethodFits, FieldFits, OtherFits, RowFits, CodeFits, Fits}
-use Rattle.jn_code.specs.SpellsFields.{Field, Magic, Bad, byte, raw, number, passing, kind_byte, at_most, at_least, part, last, listed, ascending, counted}
-use Rattle.jn_code.specs.SpellsInstr.{instr}
-use Rattle.jn_code.specs.SpellsFile.{magic, magic_number, kinds, result_kind, text, shape, group, member, method, field, other, row, code, file}
+use Rattle.jn_code.specs.Form.{IsKind, IsBelowFirst, Ascends, ShapeInForm, GroupInForm, RowInForm, CodeInForm, InForm}
+use Rattle.jn_code.specs.Spells.{MemberFits, MethodFits, FieldFits, OtherFits, RowFits, CodeFits, Fits}
+use Rattle.jn_code.specs.SpellsFields.{Field, Magic, Bad, byte, raw, number, kind_byte, at_most, at_least, part, last, listed, ascending, counted}
+use Rattle.jn_code.specs.SpellsFile.{magic, magic_number, kinds, text, shape, group, member, method, field, other, row, code, file}
 use Rattle.jn_code.proofs.FieldLaws.{IsField, same_field, byte_law, raw_law, law16, law32, passing_law, part_law, last_law, listed_law, ascending_law, AscendsFrom}
-use Rattle.jn_code.proofs.InstrLaws.{InstrFine, instr_law}
+use Rattle.jn_code.proofs.InstrLaws.{instr_law}
 
 -- ---- numbers with a condition
 
@@ -104,8 +99,8 @@ pub shape_law : IsField shape ShapeInForm
 unfolding shape
 shape_law = same_field shape _ ShapeInForm
     (part_law (counted_law (at_most 15 byte) _ (at_most_law 15 byte _ byte_law) kinds_law)
-        (λ params. last_law (λ result. record { params = params; result = result }) (kind_law 0 3 (omega arith)) (λ x. refl))
-        (λ params s p h. ap (λ (t : Shape). t.params) h.1))
+    (λ params. last_law (λ result. record { params = params; result = result }) (kind_law 0 3 (omega arith)) (λ x. refl))
+    (λ params s p h. ap (λ (t : Shape). t.params) h.1))
     (λ s h. record { count = h.0.0.1; params = h.0.1; result = h.1.0.1 })
     (λ s f. (((omega (arith, f.count), f.count), f.params), ((omega arith, f.result), refl)))
 
@@ -199,22 +194,42 @@ row_law = same_field row _ RowFine
     (λ x s p h. ap (λ (r : ClassRow). r.family) h.1.1.1.1.1))
     (λ x s p h. ap (λ (r : ClassRow). r.up) h.1.1.1.1.1.1))
     (λ r h.
-      let members = h.1.1.1.0 in
-      let methods = h.1.1.1.1.0 in
-      let fields = h.1.1.1.1.1.0 in
-      let others = h.1.1.1.1.1.1.0 in
-      record {
-        fits = record { up = h.0; family = h.1.0; group = h.1.1.0; members = members.1.1; methods = methods.1.1; fields = fields.1.1; others = others.1.1 };
-        form = record {
-          members_count = members.0; methods_count = methods.0; fields_count = fields.0; others_count = others.0;
-          members = members.1.0; methods = methods.1.0; fields = fields.1.0; others = others.1.0;
-        };
-      })
-    (λ r f. (f.fits.up, (f.fits.family, (f.fits.group,
-      ((f.form.members_count, (f.form.members, f.fits.members)),
-      ((f.form.methods_count, (f.form.methods, f.fits.methods)),
-      ((f.form.fields_count, (f.form.fields, f.fits.fields)),
-      ((f.form.others_count, (f.form.others, f.fits.others)), refl))))))))
+    let members = h.1.1.1.0 in
+    let methods = h.1.1.1.1.0 in
+    let fields = h.1.1.1.1.1.0 in
+    let others = h.1.1.1.1.1.1.0 in
+    record {
+      fits = record { up = h.0; family = h.1.0; group = h.1.1.0; members = members.1.1; methods = methods.1.1; fields = fields.1.1; others = others.1.1 };
+      form = record {
+        members_count = members.0;
+        methods_count = methods.0;
+        fields_count = fields.0;
+        others_count = others.0;
+        members = members.1.0;
+        methods = methods.1.0;
+        fields = fields.1.0;
+        others = others.1.0;
+      };
+    })
+    (λ r f. (
+      f.fits.up,
+      (
+        f.fits.family,
+        (
+          f.fits.group,
+          (
+            (f.form.members_count, (f.form.members, f.fits.members)),
+            (
+              (f.form.methods_count, (f.form.methods, f.fits.methods)),
+              (
+                (f.form.fields_count, (f.form.fields, f.fits.fields)),
+                ((f.form.others_count, (f.form.others, f.fits.others)), refl),
+              ),
+            ),
+          ),
+        ),
+      ),
+    ))
 
 pub record CodeFine (c : Code) : Type 0 where
   pub fits : CodeFits c
@@ -233,24 +248,37 @@ code_law = same_field code _ CodeFine
     (λ x s p h. ap (λ (c : Code). c.result) h.1.1.1))
     (λ x s p h. ap (λ (c : Code). c.params) h.1.1.1.1))
     (λ c h.
-      let params = h.0 in
-      let result = h.1.0 in
-      let locals = h.1.1.0 in
-      let stack = h.1.1.1.0 in
-      let instrs = h.1.1.1.1.0 in
-      record {
-        fits = λ i x e. (instrs.1 i x e).0;
-        form = record {
-          params_count = params.0.1; params = params.1; result = result.1;
-          locals_count = omega (arith, params.0.1, locals.0.1); locals = locals.1;
-          stack = stack.1; count = instrs.0; instrs = λ i x e. (instrs.1 i x e).1;
-        };
-      })
-    (λ c f. (((omega (arith, f.form.params_count), f.form.params_count), f.form.params),
-      ((omega arith, f.form.result),
-      (((omega (arith, f.form.locals_count), omega (arith, f.form.locals_count)), f.form.locals),
-      ((omega (arith, f.form.stack), f.form.stack),
-      ((f.form.count, λ i x e. (f.fits i x e, f.form.instrs i x e)), refl))))))
+    let params = h.0 in
+    let result = h.1.0 in
+    let locals = h.1.1.0 in
+    let stack = h.1.1.1.0 in
+    let instrs = h.1.1.1.1.0 in
+    record {
+      fits = λ i x e. (instrs.1 i x e).0;
+      form = record {
+        params_count = params.0.1;
+        params = params.1;
+        result = result.1;
+        locals_count = omega (arith, params.0.1, locals.0.1);
+        locals = locals.1;
+        stack = stack.1;
+        count = instrs.0;
+        instrs = λ i x e. (instrs.1 i x e).1;
+      };
+    })
+    (λ c f. (
+      ((omega (arith, f.form.params_count), f.form.params_count), f.form.params),
+      (
+        (omega arith, f.form.result),
+        (
+          ((omega (arith, f.form.locals_count), omega (arith, f.form.locals_count)), f.form.locals),
+          (
+            (omega (arith, f.form.stack), f.form.stack),
+            ((f.form.count, λ i x e. (f.fits i x e, f.form.instrs i x e)), refl),
+          ),
+        ),
+      ),
+    ))
 
 pub record FileFine (i : Image) : Type 0 where
   pub fits : Fits i
@@ -279,25 +307,48 @@ file_law = same_field file _ FileFine
     (λ x s p h. ap (λ (i : Image). i.texts) h.1.1.1.1.1.1))
     (λ x s p h. sym p))
     (λ i h.
-      let texts = h.1.0 in
-      let methods = h.1.1.0 in
-      let fields = h.1.1.1.0 in
-      let groups = h.1.1.1.1.0 in
-      let classes = h.1.1.1.1.1.0 in
-      let codes = h.1.1.1.1.1.1.0 in
-      record {
-        fits = record { classes = λ k d e. (classes.1 k d e).fits; codes = λ k d e. (codes.1 k d e).fits; start = h.1.1.1.1.1.1.1.0 };
-        form = record {
-          texts_count = texts.0; texts = texts.1; methods_count = methods.0; methods = methods.1; fields_count = fields.0; fields = fields.1;
-          groups_count = groups.0; groups = groups.1; classes_count = classes.0.1; classes = λ k d e. (classes.1 k d e).form;
-          codes_count = codes.0; codes = λ k d e. (codes.1 k d e).form;
-        };
-      })
-    (λ i f. (refl,
-      ((f.form.texts_count, f.form.texts),
-      ((f.form.methods_count, f.form.methods),
-      ((f.form.fields_count, f.form.fields),
-      ((f.form.groups_count, f.form.groups),
-      (((omega (arith, f.form.classes_count), f.form.classes_count), λ k d e. record { fits = f.fits.classes k d e; form = f.form.classes k d e }),
-      ((f.form.codes_count, λ k d e. record { fits = f.fits.codes k d e; form = f.form.codes k d e }),
-      (f.fits.start, refl)))))))))
+    let texts = h.1.0 in
+    let methods = h.1.1.0 in
+    let fields = h.1.1.1.0 in
+    let groups = h.1.1.1.1.0 in
+    let classes = h.1.1.1.1.1.0 in
+    let codes = h.1.1.1.1.1.1.0 in
+    record {
+      fits = record { classes = λ k d e. (classes.1 k d e).fits; codes = λ k d e. (codes.1 k d e).fits; start = h.1.1.1.1.1.1.1.0 };
+      form = record {
+        texts_count = texts.0;
+        texts = texts.1;
+        methods_count = methods.0;
+        methods = methods.1;
+        fields_count = fields.0;
+        fields = fields.1;
+        groups_count = groups.0;
+        groups = groups.1;
+        classes_count = classes.0.1;
+        classes = λ k d e. (classes.1 k d e).form;
+        codes_count = codes.0;
+        codes = λ k d e. (codes.1 k d e).form;
+      };
+    })
+    (λ i f. (
+      refl,
+      (
+        (f.form.texts_count, f.form.texts),
+        (
+          (f.form.methods_count, f.form.methods),
+          (
+            (f.form.fields_count, f.form.fields),
+            (
+              (f.form.groups_count, f.form.groups),
+              (
+                ((omega (arith, f.form.classes_count), f.form.classes_count), λ k d e. record { fits = f.fits.classes k d e; form = f.form.classes k d e }),
+                (
+                  (f.form.codes_count, λ k d e. record { fits = f.fits.codes k d e; form = f.form.codes k d e }),
+                  (f.fits.start, refl),
+                ),
+              ),
+            ),
+          ),
+        ),
+      ),
+    ))

@@ -1,5 +1,5 @@
 -- An instruction is read as it was written.
-use Rattle.std.proofs.Common.{◌≡◌, ℕ, zero, suc, ℤ, ◌+◌, ◌^◌, ◌<◌, ◌≤◌, Bool, true, false, List, [], ◌∷◌, ◌++◌, length, Option, Some, None, Result, Ok, Err, refl, sym, ap, subst, ◌∙◌, arith}
+use Rattle.std.proofs.Common.{◌≡◌, ℕ, zero, suc, ℤ, ◌+◌, ◌<◌, ◌≤◌, List, [], ◌∷◌, ◌++◌, length, Option, Some, None, Ok, refl, sym, ap, subst, ◌∙◌, arith}
 use Rattle.std.specs.Prelude.{slice_get, FitsSigned, nat_le}
 use Rattle.std.specs.Int.{w16, w32, w64, to_le_bytes, cast_signed, cast_unsigned}
 use Rattle.std.proofs.lemmas.Int.{of_z-to_z, to_z-of_z}
@@ -10,7 +10,7 @@ use Rattle.jn_code.specs.declared.instr.Instr.TheVariants as op
 use Rattle.jn_code.specs.declared.fault.FieldKind.TheVariants as kind
 use Rattle.jn_code.specs.Form.{InstrInForm}
 use Rattle.jn_code.specs.Spells.{OperandFits}
-use Rattle.jn_code.specs.SpellsFields.{Stop, Bad, Reading, ◌>>=◌, Field, byte, number, signed, truth, last, done}
+use Rattle.jn_code.specs.SpellsFields.{Bad, Reading, ◌>>=◌, Field, byte, number, signed, truth, last}
 use Rattle.jn_code.specs.SpellsInstr.{instructions, opcode, operand, operand_of, instruction_of, read_operand, read_instr, instr}
 use Rattle.jn_code.proofs.FieldLaws.{IsBytes, IsField, Takes, bind_ok, ok_is, same_field, byte_law, law16, law32, law64, passing_law}
 
@@ -23,14 +23,14 @@ signed_takes bytes z rest fits e =
     let same : cast_unsigned w64 (cast_signed w64 a.0.0) ≡ a.0.0 = of_z-to_z w64 a.0.0 t.1 in
     let here : Takes bytes (to_le_bytes w64 (cast_unsigned w64 (cast_signed w64 a.0.0))) a.0.1 = subst (λ (n : ℕ). Takes bytes (to_le_bytes w64 n) a.0.1) (sym same) t.0 in
     subst (λ (y : ℤ × List ℕ). Takes bytes (to_le_bytes w64 (cast_unsigned w64 y.0)) y.1 × FitsSigned w64 y.0) (ok_is (cast_signed w64 a.0.0, a.0.1) (z, rest) a.2)
-        (here, sfits_to_z {w = w64} {n = a.0.0} (Fits-of_lt {w = w64} {n = a.0.0} t.1))
+    (here, sfits_to_z {w = w64} {n = a.0.0} (Fits-of_lt {w = w64} {n = a.0.0} t.1))
 
 pub signed_law : IsField signed (λ z. FitsSigned w64 z)
 signed_law = record {
   takes = signed_takes;
   again = λ z rest h.
-    ap (λ (r : Reading ℕ). r >>= λ n. Ok (cast_signed w64 n.0, n.1)) (law64.again (cast_unsigned w64 z) rest (Fits-lt-pow {w = w64} (Fits-of_z {w = w64} {z = z} h)))
-    ∙ ap (λ (y : ℤ). Ok (y, rest)) (to_z-of_z w64 z h);
+      ap (λ (r : Reading ℕ). r >>= λ n. Ok (cast_signed w64 n.0, n.1)) (law64.again (cast_unsigned w64 z) rest (Fits-lt-pow {w = w64} (Fits-of_z {w = w64} {z = z} h)))
+      ∙ ap (λ (y : ℤ). Ok (y, rest)) (to_z-of_z w64 z h);
 }
 
 pub truth_law : IsField truth (λ b. b ≤ 1)

@@ -1,5 +1,5 @@
 -- An image has one spelling at most, a spelling is of one image and begins no other, and reading gives exactly the image that is spelled.
-use Rattle.std.proofs.Common.{◌≡◌, ℕ, ◌<◌, ◌≤◌, Bool, true, false, cond, ltb, eqb, List, [], ◌∷◌, ◌++◌, length, Result, Ok, Err, refl, sym, ap, subst, ◌∙◌, arith}
+use Rattle.std.proofs.Common.{◌≡◌, ℕ, ◌≤◌, Bool, true, false, cond, ltb, List, [], ◌++◌, length, Result, Ok, Err, refl, sym, ap, subst, ◌∙◌}
 use Rattle.std.proofs.lemmas.Bool.{ltb-false, le-ltb, eqb-true}
 use Rattle.std.proofs.lemmas.List.{append-nil, nil_from_length}
 use Rattle.jn_code.specs.declared.image.Image.{Image}
@@ -7,9 +7,9 @@ use Rattle.jn_code.specs.declared.fault.ImageFault.{ImageFault}
 use Rattle.jn_code.specs.declared.fault.ImageFault.TheVariants as fault
 use Rattle.jn_code.specs.Form.{InForm}
 use Rattle.jn_code.specs.Spells.{Fits, Spells, file_of, limit, ended, image_of}
-use Rattle.jn_code.specs.SpellsFields.{Reading, Stop}
+use Rattle.jn_code.specs.SpellsFields.{Reading}
 use Rattle.jn_code.specs.SpellsFile.{file}
-use Rattle.jn_code.proofs.FieldLaws.{IsBytes, ok_is, fine}
+use Rattle.jn_code.proofs.FieldLaws.{IsBytes, ok_is}
 use Rattle.jn_code.proofs.FileLaws.{file_law}
 
 pub one_spelling : (i : Image) (a b : List ℕ) → Spells i a → Spells i b → a ≡ b

@@ -1,5 +1,5 @@
 -- The file of an image, field after field. Numbers have their lowest byte first.
-use Rattle.std.specs.Prelude.{ℕ, ◌-◌, ◌==◌, List, [], ◌∷◌, length}
+use Rattle.std.specs.Prelude.{ℕ, ◌-◌, ◌==◌, List, length}
 use Rattle.std.specs.Int.{w16, w32}
 use Rattle.jn_code.specs.declared.image.Text.{Text}
 use Rattle.jn_code.specs.declared.image.Image.{Image}

@@ -1,5 +1,5 @@
 -- What is answered is spelled.
-use Rattle.std.proofs.Common.{◌≡◌, ℕ, List, Result, Ok, Err, sym}
+use Rattle.std.proofs.Common.{ℕ, List, Result, Ok, Err, sym}
 use Rattle.std.specs.Prelude.{IfOk}
 use Rattle.jn_code.specs.declared.image.Image.{Image}
 use Rattle.jn_code.specs.declared.fault.ImageFault.{ImageFault}

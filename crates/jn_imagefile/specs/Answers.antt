@@ -1,5 +1,5 @@
 -- What was returned is what was told, unless memory ran out.
-use Rattle.std.specs.Prelude.{◌≡◌, Result, Ok, Err}
+use Rattle.std.specs.Prelude.{◌≡◌, Result, Err}
 use Rattle.jn_code.specs.declared.image.Image.{Image}
 use Rattle.jn_code.specs.declared.fault.ImageFault.{ImageFault}
 use Rattle.jn_code.specs.declared.fault.ImageFault.TheVariants as fault

@@ -1,4 +1,3 @@
-use Rattle.std.proofs.Common.{◌≡◌, sym}
 use Rattle.jn_code.specs.SpellsFields.{part}
 use Rattle.jn_imagefile.proofs.counted.short_ordered_at.Goals as goal
 

@@ -1,4 +1,4 @@
-use Rattle.std.proofs.Common.{ℕ, ◌≡◌, ◌++◌, ◌∷◌, [], ◌+◌, ap, ◌∙◌}
+use Rattle.std.proofs.Common.{ℕ, ◌≡◌}
 use Rattle.std.proofs.lemmas.Result.{err_from_is_err_and}
 use Rattle.jn_code.specs.SpellsFields.{read_ascending}
 use Rattle.jn_imagefile.proofs.Loops.{goes_on_in_order, stops_in_order, is_done_in_order}

@@ -1,4 +1,3 @@
-use Rattle.std.proofs.Common.{◌++◌, ◌∷◌, []}
 use Rattle.std.proofs.lemmas.Result.{err_from_is_err_and}
 use Rattle.jn_code.specs.SpellsFields.{read_listed}
 use Rattle.jn_imagefile.proofs.Loops.{goes_on, stops, is_done}

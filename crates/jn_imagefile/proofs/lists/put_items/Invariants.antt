@@ -1,4 +1,4 @@
-use Rattle.std.proofs.Common.{◌≡◌, ◌++◌, take}
+use Rattle.std.proofs.Common.{take}
 use Rattle.std.specs.List.{flat_map, AllWithin}
 use Rattle.jn_imagefile.specs.Appends.{Appends}
 use Rattle.jn_imagefile.proofs.lists.put_items.Given as goal

@@ -1,5 +1,4 @@
-use Rattle.std.proofs.Common.{ℕ, subst, sym, arith}
-use Rattle.jn_code.specs.Spells.{image_of}
+use Rattle.std.proofs.Common.{subst, arith}
 use Rattle.jn_code.proofs.SpellsLaws.{spelled_is_read}
 use Rattle.jn_imagefile.specs.Answers.{Answers}
 use Rattle.jn_imagefile.proofs.Found.{is_found}
