@@ -28,47 +28,55 @@ kinds = listed (kind_byte 1 3)
 abbrev pub result_kind : Field ℕ
 result_kind = kind_byte 0 3
 
+-- A text: its length in four bytes, and its bytes.
 unfoldable pub text : Field Text
 text =
     last (λ t. t.bytes) (counted (number w32) raw) λ bytes.
     record { bytes = bytes }
 
+-- A method selector: the count of its parameters in a byte, at most 15, their kinds, and the result's kind.
 unfoldable pub shape : Field Shape
 shape =
     part (λ s. s.params) (counted (at_most 15 byte) kinds) λ params.
     last (λ s. s.result) result_kind λ result.
     record { params = params; result = result }
 
+-- A group: the count of its slots in a byte, at most 250, and their kinds.
 unfoldable pub group : Field Group
 group =
     last (λ g. g.slots) (counted (at_most 250 byte) kinds) λ slots.
     record { slots = slots }
 
--- The entries of a class, the first number at least that.
+-- The entries of a class, the first number of each at least that. A member: a name and a class, in two bytes each.
 unfoldable pub member : ℕ → Field MemberEntry
 member least =
     part (λ e. e.name) (at_least least (number w16)) λ name.
     last (λ e. e.class) (number w16) λ class.
     record { name = name; class = class }
 
+-- A method: a selector and a code, in four bytes each.
 unfoldable pub method : ℕ → Field MethodEntry
 method least =
     part (λ e. e.selector) (at_least least (number w32)) λ selector.
     last (λ e. e.code) (number w32) λ code.
     record { selector = selector; code = code }
 
+-- A field: a selector in four bytes, and a slot in one.
 unfoldable pub field : ℕ → Field FieldEntry
 field least =
     part (λ e. e.selector) (at_least least (number w32)) λ selector.
     last (λ e. e.slot) byte λ slot.
     record { selector = selector; slot = slot }
 
+-- A counterpart: a family and a class, in two bytes each.
 unfoldable pub other : ℕ → Field OtherEntry
 other least =
     part (λ e. e.family) (at_least least (number w16)) λ family.
     last (λ e. e.class) (number w16) λ class.
     record { family = family; class = class }
 
+-- A class: three numbers of two bytes, and four lists of entries in ascending order, each behind its count; the count of
+-- methods has four bytes, the other three have two.
 unfoldable pub row : Field ClassRow
 row =
     part (λ r. r.up) (number w16) λ up.
@@ -80,6 +88,8 @@ row =
     last (λ r. r.others) (counted (number w16) (ascending (λ e. e.family) other)) λ others.
     record { up = up; family = family; group = group; members = members; methods = methods; fields = fields; others = others }
 
+-- A code: its parameters, at most 16, the result's kind, the further locals, at most 255 with the parameters, how many
+-- operands it has at most, in two bytes and at most 4,096, and the instructions behind their count in four bytes.
 unfoldable pub code : Field Code
 code =
     part (λ c. c.params) (counted (at_most 16 byte) kinds) λ params.
@@ -89,6 +99,9 @@ code =
     last (λ c. c.instrs) (counted (number w32) (listed instr)) λ instrs.
     record { params = params; result = result; locals = locals; stack = stack; instrs = instrs }
 
+-- The file: the four bytes in front, then texts, method selectors, field selectors, groups, classes, codes, each list behind
+-- its count, and the code with which a run begins. Groups and classes are counted in two bytes, the others in four; there are
+-- at most 4,096 classes.
 unfoldable pub file : Field Image
 file =
     part (λ i. magic) magic_number λ _.
