@@ -1,3 +1,5 @@
+mod each;
+
 use super::*;
 use jn_code::{FieldKind, ImageFault, Instr};
 use std::alloc::Global;
