@@ -4,3 +4,7 @@ pub mod RowFacts
 pub mod Frames
 pub mod Obeyed
 pub mod Safe
+pub mod FieldLaws
+pub mod InstrLaws
+pub mod FileLaws
+pub mod SpellsLaws

@@ -6,3 +6,8 @@ pub mod Machine
 pub mod Example
 pub mod Known
 pub mod Never
+pub mod SpellsFields
+pub mod SpellsInstr
+pub mod SpellsFile
+pub mod Spells
+pub mod SpellsExample

@@ -7,6 +7,7 @@ pub mod instr;
 pub mod kind;
 pub mod law;
 pub mod rows;
+pub mod spelling;
 
 pub use fault::{CodeWhy, FieldKind, ImageFault, RowWhy};
 pub use image::{

@@ -1,0 +1,3 @@
+pub mod Loops
+pub mod Found
+pub mod AsTheyAre
