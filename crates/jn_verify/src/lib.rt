@@ -15,6 +15,7 @@ mod pass;
 mod pile;
 mod rows;
 mod takes;
-
+#[cfg(test)]
+mod tests;
 
 pub use good::{Good, verify};

@@ -19,11 +19,7 @@ fn one(alloc: Global, a: Option<OperandKind>) -> Result<Wants, AllocError>
     Ok(wants)
 }
 
-fn two(
-    alloc: Global,
-    a: Option<OperandKind>,
-    b: Option<OperandKind>,
-) -> Result<Wants, AllocError>
+fn two(alloc: Global, a: Option<OperandKind>, b: Option<OperandKind>) -> Result<Wants, AllocError>
     ensures { IfOk result (λ wants. wants.items ≡ two a b) }
 {
     let mut wants = Vec::new(alloc);

@@ -10,8 +10,8 @@ loop-m-preserved c = record {
   a_in = omega (arith, c.loop-m.invariant.a_in);
   b_in = omega (arith, c.loop-m.invariant.b_in);
   rest =
-    sym
+      sym
       (last_eq c.args.a.now c.args.b.now c.loop-m.m c.loop-m.n _ _ (omega arith) c.loop-m.invariant.a_in (omega (arith, c.if-n-eq0.false)) c.loop-m.invariant.b_in
-         (sym c.kind_eq.ensures ∙ c.if-not-kind_eq.false))
-    ∙ c.loop-m.invariant.rest;
+      (sym c.kind_eq.ensures ∙ c.if-not-kind_eq.false))
+      ∙ c.loop-m.invariant.rest;
 }
