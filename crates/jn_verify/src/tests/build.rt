@@ -30,11 +30,17 @@ pub struct Row {
     pub entry: Entry,
 }
 
+fn is_kind(kind: u8, most: u8) -> bool
+    ensures { OnTrue result ((1 ≤ kind) × (kind ≤ most)) }
+{
+    1 <= kind && kind <= most
+}
+
 fn are_kinds(kinds: &[u8], most: u8) -> bool
     ensures { OnTrue result (All (λ k. (1 ≤ k) × (k ≤ most)) kinds.now) }
 {
     for kind in kinds {
-        if *kind < 1 || *kind > most {
+        if !is_kind(*kind, most) {
             return false;
         }
     }
