@@ -1,0 +1,5 @@
+pub mod Begins
+pub mod Answers
+pub mod ReadTypes
+pub mod ReadExprs
+pub mod Expected
