@@ -1,3 +1,5 @@
 pub mod FirstWords
 pub mod Tools
 pub mod Row
+pub mod TypesSound
+pub mod TermsSound
