@@ -3,3 +3,5 @@ pub mod Tools
 pub mod Row
 pub mod TypesSound
 pub mod TermsSound
+pub mod ExprSound
+pub mod ChainSound
