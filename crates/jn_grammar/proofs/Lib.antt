@@ -5,3 +5,4 @@ pub mod TypesSound
 pub mod TermsSound
 pub mod ExprSound
 pub mod ChainSound
+pub mod Meets
