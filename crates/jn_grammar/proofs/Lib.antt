@@ -6,3 +6,8 @@ pub mod TermsSound
 pub mod ExprSound
 pub mod ChainSound
 pub mod Meets
+pub mod TermsAgain
+pub mod TypesAgain
+pub mod ChainAgain
+pub mod ExprAgain
+pub mod LevelsAgain
