@@ -11,3 +11,7 @@ pub mod TypesAgain
 pub mod ChainAgain
 pub mod ExprAgain
 pub mod LevelsAgain
+pub mod Machine
+pub mod TermsRuns
+pub mod ExprRuns
+pub mod LevelsRuns
