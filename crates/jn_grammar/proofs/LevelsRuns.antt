@@ -27,7 +27,7 @@ use Rattle.jn_grammar.proofs.Machine.{Comes, Does, run_fails, comes_then, comes_
 use Rattle.jn_grammar.proofs.ExprRuns.{Runs, unary_runs}
 
 -- the machine at an operator of the level
-rest_takes : (s : Bool) (l : Level) (n : ℕ) (ts : List Lexeme) (below : List Symbol)
+pub rest_takes : (s : Bool) (l : Level) (n : ℕ) (ts : List Lexeme) (below : List Symbol)
     → run s ts (Going n (Rest l ∷ below)) ≡ (if goes_on l ts then run s (behind ts) (Going n (linked l ++ below)) else run s ts (Going n below))
 rest_takes s l n [] below = refl
 rest_takes s l n (t ∷ ts) below = by_operator (operator l t.word)

@@ -15,3 +15,8 @@ pub mod Machine
 pub mod TermsRuns
 pub mod ExprRuns
 pub mod LevelsRuns
+pub mod Steps
+pub mod FirstFault
+pub mod Finish
+pub mod Finishes
+pub mod Whole
