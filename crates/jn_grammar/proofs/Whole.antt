@@ -66,7 +66,7 @@ whole_left s n ts x h = by_expr (expr_in (level n) ts) h
     by_expr (Ok e) h = by_end e.0 (expect End e.1) h
     by_expr (Err f) h = cc
 
-spelled : (s : Bool) (n : ℕ) (ts : List Lexeme) (x : ExprTree × List Lexeme) → whole_in s n ts ≡ Ok x → IsSpelled IsWhole ts x.0
+pub spelled : (s : Bool) (n : ℕ) (ts : List Lexeme) (x : ExprTree × List Lexeme) → whole_in s n ts ≡ Ok x → IsSpelled IsWhole ts x.0
 spelled s n ts x h =
     let tk = took_of IsWhole ts (whole_in s n ts) x (whole_sound s n ts) h in
     record { parts = tk.words; are_words = sym (tk.split ∙ ap (λ (v : List Lexeme). lexemes tk.words ++ v) (whole_left s n ts x h) ∙ append-nil (lexemes tk.words)); is = tk.is }

@@ -5,3 +5,14 @@
 #![tactic(auto)]
 
 pub mod fault;
+pub mod laws;
+
+#[cfg(test)]
+mod tests {
+    use super::laws::whole_expressions;
+
+    #[test]
+    fn the_laws_are_there() {
+        whole_expressions();
+    }
+}
