@@ -1,6 +1,8 @@
 -- An expression as a whole input: its reader, its grammar and its machine, and so the place of its first fault.
 use Rattle.std.proofs.Common.{◌≡◌, ℕ, zero, suc, ◌+◌, Bool, true, false, List, [], ◌∷◌, ◌++◌, length, Result, Ok, Err, refl, sym, ◌∙◌, ap, subst, if◌then◌else◌}
+use Rattle.std.specs.Prelude.{All, None}
 use Rattle.std.proofs.lemmas.List.{append-nil}
+use Rattle.std.proofs.lemmas.List.Elements.{All-head, All-tail}
 use Rattle.jn_base.specs.declared.tree.Place.{Place}
 use Rattle.jn_base.specs.declared.tree.Expr.{Expr as ExprTree}
 use Rattle.jn_base.specs.declared.tree.Level.TheVariants.{Or}
@@ -9,6 +11,7 @@ use Rattle.jn_base.specs.declared.word.Word.TheVariants.{End}
 use Rattle.jn_base.specs.declared.word.Lexeme.{Lexeme}
 use Rattle.jn_base.specs.Words.{lexeme}
 use Rattle.jn_base.specs.Parts.{Part, end_of_file}
+use Rattle.jn_base.specs.Spelling.{limit_of}
 use Rattle.jn_base.specs.GrammarExpr.{IsExpr}
 use Rattle.jn_grammar.specs.declared.fault.Fault.{Fault}
 use Rattle.jn_grammar.specs.declared.fault.Fault.TheVariants.{Syntax}
@@ -18,7 +21,7 @@ use Rattle.jn_grammar.specs.ReadExprs.{expr_in, level}
 use Rattle.jn_grammar.specs.Expected.{Symbol, Expr, EndOfFile, Finishes, Refuses, led, step, State, Going, Done, Fails, read, ended, run}
 use Rattle.jn_grammar.specs.ReadWhole.{IsWhole, whole, last_in, whole_in, first}
 use Rattle.jn_grammar.proofs.Tools.{Took, Sound, sound_bind, sound_expect, glue, took_of}
-use Rattle.jn_grammar.proofs.Meets.{meets, then_reads}
+use Rattle.jn_grammar.proofs.Meets.{met, meets, then_reads}
 use Rattle.jn_grammar.proofs.Machine.{into, Comes, comes_then, run_fails}
 use Rattle.jn_grammar.proofs.ChainSound.{expr_sound, sounds_below}
 use Rattle.jn_grammar.proofs.ExprAgain.{EndsExpr}
@@ -77,6 +80,14 @@ again parts x (whole q {w} i) =
     ap (λ (v : List Lexeme). whole_in true 200 v) (sym (append-nil (lexemes (w ++ end_of_file q ∷ []))))
     ∙ then_reads (expr_in (level 200)) (λ e. expect End e.1 >>= λ z. last_in e.0 z.1) w (end_of_file q ∷ []) [] x (Ok (x, []))
     (expr_again 200 (agains_below 200) i refl (lexeme End q ∷ []) (end_ends q)) refl
+
+-- where no word passes a limit, none is met
+meets_none : {A : Type 0} (w : List Part) (v : List Lexeme) (r : Answer A) → All (λ (t : Part). limit_of t.role ≡ None) w → meets w v r ≡ r
+meets_none [] v r h = refl
+meets_none (t ∷ w) v r h = ap (λ k. met k (suc (length w + length v)) (meets w v r)) (All-head (λ (t : Part). limit_of t.role ≡ None) t w h) ∙ meets_none w v r (All-tail (λ (t : Part). limit_of t.role ≡ None) t w h)
+
+pub only_so : (parts : List Part) (x : ExprTree) → IsWhole parts x → All (λ (t : Part). limit_of t.role ≡ None) parts → whole_in true 200 (lexemes parts) ≡ Ok (x, [])
+only_so parts x i h = again parts x i ∙ meets_none parts [] (Ok (x, [])) h
 
 -- the end of the file on top, and nothing below
 end_runs : (s : Bool) (n : ℕ) (e : ExprTree) (ts : List Lexeme) → run s ts (Going n (EndOfFile ∷ [])) ≡ into (λ y. Done) (expect End ts >>= λ z. last_in e z.1)
