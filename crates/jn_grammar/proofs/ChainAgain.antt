@@ -1,5 +1,5 @@
 -- What is in the grammar of operators with their operands is read, whatever the level.
-use Rattle.std.proofs.Common.{◌≡◌, ℕ, zero, suc, Bool, true, false, cond, List, [], ◌∷◌, ◌++◌, length, Option, Some, None, Result, Ok, Err, refl, sym, ◌∙◌, ap, subst, ◌+◌, ◌≤◌, arith, length-append, if◌then◌else◌}
+use Rattle.std.proofs.Common.{◌≡◌, ℕ, Bool, true, false, List, [], ◌∷◌, ◌++◌, length, Option, Some, Ok, refl, sym, ◌∙◌, ap, subst, ◌≤◌, arith, if◌then◌else◌}
 use Rattle.std.specs.Prelude.{is_some}
 use Rattle.jn_base.specs.declared.tree.Place.{Place}
 use Rattle.jn_base.specs.declared.tree.Expr.{Expr}
@@ -13,15 +13,15 @@ use Rattle.jn_base.specs.declared.word.Word.{Word}
 use Rattle.jn_base.specs.declared.word.Word.TheVariants.{Name as Named_, Keyword as Key, Number, Mark as Marked}
 use Rattle.jn_base.specs.declared.word.Lexeme.{Lexeme}
 use Rattle.jn_base.specs.Words.{lexeme}
-use Rattle.jn_base.specs.Parts.{Part, mark, link, chained}
+use Rattle.jn_base.specs.Parts.{Part, link, chained}
 use Rattle.jn_base.specs.GrammarExpr.{IsOperator, or, and, equal, not_equal, less, less_equal, greater, greater_equal, plus, minus, times, over, remainder}
-use Rattle.jn_grammar.specs.Begins.{begins, behind, place, lexemes, is_word}
+use Rattle.jn_grammar.specs.Begins.{begins, place, lexemes, is_word}
 use Rattle.jn_grammar.specs.Answers.{Answer, ◌>>=◌, row}
-use Rattle.jn_grammar.specs.ReadExprs.{operator, operator_of, goes_on, link_by, link_in, chain_in, pair_in}
+use Rattle.jn_grammar.specs.ReadExprs.{operator, goes_on, link_by, link_in, chain_in, pair_in}
 use Rattle.jn_grammar.proofs.FirstWords.{never}
 use Rattle.jn_grammar.proofs.Row.{Row, none, next}
 use Rattle.jn_grammar.proofs.ChainSound.{IsLink, one_link}
-use Rattle.jn_grammar.proofs.Meets.{meets, words_append, Reads, then_reads, if_true, if_false}
+use Rattle.jn_grammar.proofs.Meets.{words_append, Reads, then_reads, if_true, if_false}
 use Rattle.jn_grammar.proofs.TermsAgain.{row_again, read_then}
 
 -- an expression begins with one of these

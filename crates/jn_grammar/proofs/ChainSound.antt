@@ -1,6 +1,5 @@
 -- What is read of operators with their operands, of expressions and of arguments is in the grammar.
-use Rattle.std.proofs.Common.{◌≡◌, ℕ, zero, suc, Bool, true, false, cond, List, [], ◌∷◌, ◌++◌, length, Option, Some, None, Result, Ok, Err, refl, sym, ◌∙◌, ap, subst, if◌then◌else◌}
-use Rattle.std.specs.Prelude.{is_some}
+use Rattle.std.proofs.Common.{◌≡◌, ℕ, zero, suc, true, List, [], ◌∷◌, ◌++◌, length, Option, Some, None, Ok, Err, refl, sym, ◌∙◌, ap, subst}
 use Rattle.jn_base.specs.declared.tree.Place.{Place}
 use Rattle.jn_base.specs.declared.tree.Expr.{Expr}
 use Rattle.jn_base.specs.declared.tree.Level.{Level}
@@ -16,9 +15,9 @@ use Rattle.jn_base.specs.declared.word.Lexeme.{Lexeme}
 use Rattle.jn_base.specs.Words.{lexeme}
 use Rattle.jn_base.specs.Parts.{Part, mark, link, chained}
 use Rattle.jn_base.specs.GrammarExpr.{IsOperator, or, and, equal, not_equal, less, less_equal, greater, greater_equal, plus, minus, times, over, remainder, IsUnary, IsProduct, product, IsFactors, no_factor, then_factor, IsSum, sum, IsSummands, no_summand, then_summand, IsComparison, one_sum, two_sums, IsEquality, one_side, two_sides, IsConjunction, conjunction, IsConjuncts, no_conjunct, then_conjunct, IsExpr, disjunction, IsDisjuncts, no_disjunct, then_disjunct, IsArgs, no_arg, args, IsMoreArgs, no_more_arg, then_arg}
-use Rattle.jn_grammar.specs.Begins.{begins, behind, place, lexemes}
-use Rattle.jn_grammar.specs.Answers.{Answer, ◌>>=◌, row}
-use Rattle.jn_grammar.specs.ReadExprs.{operator, operator_of, goes_on, link_by, link_in, chain_in, pair_in, product_in, sum_in, comparison_in, equality_in, conjunction_in, expr_in, arg_in, args_in, unary_in, level}
+use Rattle.jn_grammar.specs.Begins.{begins, behind, place}
+use Rattle.jn_grammar.specs.Answers.{Answer}
+use Rattle.jn_grammar.specs.ReadExprs.{operator, goes_on, link_by, link_in, chain_in, pair_in, product_in, sum_in, comparison_in, equality_in, conjunction_in, expr_in, arg_in, args_in, unary_in, level}
 use Rattle.jn_grammar.proofs.FirstWords.{begins_is}
 use Rattle.jn_grammar.proofs.Tools.{Below, Took, Sound, sound_bind, sound_if, sound_map, glue}
 use Rattle.jn_grammar.proofs.Row.{Row, none, next, many_sound}

@@ -1,37 +1,32 @@
 -- What is in the grammar of primaries, parts and operands is read, with its tree, whatever fits behind it.
-use Rattle.std.proofs.Common.{◌≡◌, ℕ, zero, suc, Bool, true, false, cond, List, [], ◌∷◌, ◌++◌, length, Option, Some, None, Result, Ok, Err, refl, sym, ◌∙◌, ap, subst, ◌+◌, ◌≤◌, ◌<◌, arith, append_assoc, length-append, if◌then◌else◌}
-use Rattle.std.specs.Prelude.{◌&&◌}
+use Rattle.std.proofs.Common.{◌≡◌, ℕ, zero, suc, true, false, List, [], ◌∷◌, ◌++◌, length, Some, Ok, Err, refl, sym, ◌∙◌, ap, ◌+◌, ◌≤◌, arith, length-append}
 use Rattle.jn_base.specs.declared.tree.Name.{Name}
 use Rattle.jn_base.specs.declared.tree.Place.{Place}
-use Rattle.jn_base.specs.declared.tree.Named.{Named}
 use Rattle.jn_base.specs.declared.tree.Term.{Term}
-use Rattle.jn_base.specs.declared.tree.ViewTerm.{ViewTerm}
 use Rattle.jn_base.specs.declared.tree.Expr.{Expr}
 use Rattle.jn_base.specs.declared.tree.Node.TheVariants as node
 use Rattle.jn_base.specs.declared.tree.Suffix.{Suffix}
 use Rattle.jn_base.specs.declared.tree.Level.TheVariants as level_
-use Rattle.jn_base.specs.declared.word.Keyword.TheVariants.{False, New, Null, Super, This, True, View}
-use Rattle.jn_base.specs.declared.word.Mark.TheVariants.{Bang, CloseBracket, CloseParen, Comma, Dot, Minus, OpenBracket, OpenParen}
+use Rattle.jn_base.specs.declared.word.Mark.TheVariants.{CloseBracket, CloseParen, Dot, OpenBracket, OpenParen}
 use Rattle.jn_base.specs.declared.word.Word.{Word}
-use Rattle.jn_base.specs.declared.word.Word.TheVariants.{Name as Named_, Keyword as Key, Number, Mark as Marked}
+use Rattle.jn_base.specs.declared.word.Word.TheVariants.{Mark as Marked}
 use Rattle.jn_base.specs.declared.word.Lexeme.{Lexeme}
 use Rattle.jn_base.specs.Words.{lexeme}
-use Rattle.jn_base.specs.Parts.{Part, Opens, lexeme_of, key, mark, name, number, opening, named, expr, suffix, posted}
-use Rattle.jn_base.specs.GrammarTypes.{IsTerm, IsView}
-use Rattle.jn_base.specs.GrammarExpr.{IsForm, new_object, super_call, IsPrim, constant, yes, no, null, this_object, variable, parens, form, IsSuffix, field, call, IsSuffixes, no_suffix, then_suffix, IsPost, post, IsUnary, inverse, negative, viewed, unsigned, IsExpr, IsArgs}
+use Rattle.jn_base.specs.Parts.{Part, Opens, mark, name, opening, named, expr, suffix}
+use Rattle.jn_base.specs.GrammarTypes.{IsTerm}
+use Rattle.jn_base.specs.GrammarExpr.{new_object, super_call, IsPrim, constant, yes, no, null, this_object, variable, parens, form, IsSuffix, field, call, IsSuffixes, no_suffix, then_suffix, IsUnary, IsExpr, IsArgs}
 use Rattle.jn_base.specs.declared.refusal.Limit.TheVariants.{Nesting}
 use Rattle.jn_base.specs.Spelling.{limit_of}
 use Rattle.jn_grammar.specs.declared.fault.Fault.TheVariants.{Passed}
-use Rattle.jn_grammar.specs.Begins.{begins, behind, place, lexemes, is_word}
-use Rattle.jn_grammar.specs.Answers.{Answer, ◌>>=◌, here, expect, name_in, row}
-use Rattle.jn_grammar.specs.ReadTypes.{term_in, view_in}
-use Rattle.jn_grammar.specs.ReadExprs.{Inner, begins_view, shut_args_in, call_args_in, new_in, super_call_in, super_in, parens_in, prim_by, prim_in, call_in, suffix_in, post_in, viewed_in, inverse_in, negative_in, unary_in, expr_in, args_in, level, goes_on}
+use Rattle.jn_grammar.specs.Begins.{begins, lexemes}
+use Rattle.jn_grammar.specs.Answers.{Answer, ◌>>=◌, expect, row}
+use Rattle.jn_grammar.specs.ReadTypes.{term_in}
+use Rattle.jn_grammar.specs.ReadExprs.{shut_args_in, call_args_in, new_in, super_call_in, super_in, parens_in, prim_by, prim_in, call_in, suffix_in, unary_in, expr_in, args_in, level, goes_on}
 use Rattle.jn_grammar.proofs.Tools.{Below, length_lexemes}
 use Rattle.jn_grammar.proofs.Row.{Row, none, next}
 use Rattle.jn_grammar.proofs.ExprSound.{IsCallArgs, call_args}
-use Rattle.jn_grammar.proofs.Meets.{met, meets, meets_bind, meets_append, words_append, Reads, then_reads, then_ok, if_true, if_false}
-use Rattle.jn_grammar.proofs.TermsAgain.{EndsNames, EndsTerm, row_again, read_then, deep, shallow, term_again}
-use Rattle.jn_grammar.proofs.TypesAgain.{EndsView, view_again}
+use Rattle.jn_grammar.proofs.Meets.{met, meets, Reads, then_reads, if_false}
+use Rattle.jn_grammar.proofs.TermsAgain.{EndsTerm, row_again, read_then, deep, shallow, term_again}
 
 -- What no Post goes on with; no operand of the level and none of those below; no expression.
 pub record EndsPost (v : List Lexeme) : Type 0 where

@@ -1,12 +1,8 @@
 -- Reading primaries, parts and operands is what the machine does with their symbols.
-use Rattle.std.proofs.Common.{◌≡◌, ℕ, zero, suc, ◌≤◌, ◌<◌, ◌+◌, Bool, true, false, cond, List, [], ◌∷◌, ◌++◌, length, Option, Some, None, Result, Ok, Err, refl, sym, ◌∙◌, ap, subst, arith, if◌then◌else◌}
-use Rattle.std.specs.Prelude.{◌&&◌}
-use Rattle.jn_base.specs.declared.tree.Name.{Name}
+use Rattle.std.proofs.Common.{◌≡◌, ℕ, zero, suc, ◌≤◌, ◌<◌, Bool, true, false, List, [], ◌∷◌, length, Ok, refl, sym, ◌∙◌, ap, arith}
 use Rattle.jn_base.specs.declared.tree.Place.{Place}
 use Rattle.jn_base.specs.declared.tree.Named.{Named}
 use Rattle.jn_base.specs.declared.tree.Term.{Term as TermTree}
-use Rattle.jn_base.specs.declared.tree.Expr.{Expr as ExprTree}
-use Rattle.jn_base.specs.declared.tree.Node.TheVariants as node
 use Rattle.jn_base.specs.declared.tree.Suffix.{Suffix}
 use Rattle.jn_base.specs.declared.tree.Level.TheVariants as level_
 use Rattle.jn_base.specs.declared.refusal.Limit.TheVariants.{Nesting}
@@ -16,19 +12,18 @@ use Rattle.jn_base.specs.declared.word.Word.{Word}
 use Rattle.jn_base.specs.declared.word.Word.TheVariants.{Name as Named_, Keyword as Key, Number, Mark as Marked}
 use Rattle.jn_base.specs.declared.word.Lexeme.{Lexeme}
 use Rattle.jn_base.specs.Words.{lexeme}
-use Rattle.jn_base.specs.Parts.{Part, named, expr, suffix}
+use Rattle.jn_base.specs.Parts.{Part, named}
 use Rattle.jn_base.specs.GrammarExpr.{IsSuffix, field, call}
 use Rattle.jn_grammar.specs.declared.fault.Fault.TheVariants.{Syntax, Passed}
-use Rattle.jn_grammar.specs.Begins.{begins, behind, place, is_word}
-use Rattle.jn_grammar.specs.Answers.{Answer, ◌>>=◌, here, expect, name_by, name_in, row}
-use Rattle.jn_grammar.specs.ReadTypes.{term_in, view_in}
+use Rattle.jn_grammar.specs.Begins.{begins, behind, is_word}
+use Rattle.jn_grammar.specs.Answers.{◌>>=◌, name_by, name_in, row}
 use Rattle.jn_grammar.specs.ReadExprs.{begins_view, shut_args_in, call_args_in, new_in, super_call_in, super_in, parens_in, prim_by, prim_in, call_in, suffix_in, post_in, viewed_in, inverse_in, negative_in, unary_in, expr_in, args_in, level}
-use Rattle.jn_grammar.specs.Expected.{Symbol, Expects, Shuts, AName, Term, View, Prim, Suffixes, SuffixName, MayCall, Post, InParens, Unary, OperandEnd, Expr, Rest, CallArgs, Args, SuperTerm, rests, does, led, opened, step, State, Going, Done, Fails, read, ended, run}
+use Rattle.jn_grammar.specs.Expected.{Symbol, Expects, Shuts, AName, Term, Prim, Suffixes, SuffixName, MayCall, InParens, Unary, OperandEnd, Expr, CallArgs, Args, SuperTerm, opened, Going, run}
 use Rattle.jn_grammar.proofs.Tools.{Below, strictly}
 use Rattle.jn_grammar.proofs.ExprSound.{suffix_sound}
 use Rattle.jn_grammar.proofs.ChainSound.{sounds_below}
 use Rattle.jn_grammar.proofs.Meets.{if_true, if_false}
-use Rattle.jn_grammar.proofs.Machine.{Comes, Does, run_fails, comes_then, comes_if, comes_both, from, takes_or_leaves, opens_or_leaves, opens_or_refuses, expects, shuts, names, operand_ends, row_runs}
+use Rattle.jn_grammar.proofs.Machine.{Comes, Does, run_fails, comes_then, comes_both, from, takes_or_leaves, opens_or_leaves, opens_or_refuses, expects, shuts, names, operand_ends, row_runs}
 use Rattle.jn_grammar.proofs.TermsRuns.{term_runs, view_runs}
 
 -- What holds of the readers where n more may open.

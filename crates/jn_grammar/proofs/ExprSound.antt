@@ -1,30 +1,27 @@
 -- What is read of primaries, parts and operands is in the grammar.
-use Rattle.std.proofs.Common.{◌≡◌, ℕ, zero, suc, Bool, true, false, cond, List, [], ◌∷◌, ◌++◌, length, Option, Some, None, Result, Ok, Err, refl, sym, ◌∙◌, ap, subst, if◌then◌else◌}
+use Rattle.std.proofs.Common.{◌≡◌, ℕ, zero, suc, Bool, true, false, List, [], ◌∷◌, ◌++◌, length, Some, None, Ok, refl, sym, ◌∙◌, ap, subst}
 use Rattle.std.specs.Prelude.{◌&&◌}
 use Rattle.jn_base.specs.declared.tree.Name.{Name}
 use Rattle.jn_base.specs.declared.tree.Place.{Place}
-use Rattle.jn_base.specs.declared.tree.Named.{Named}
 use Rattle.jn_base.specs.declared.tree.Term.{Term}
-use Rattle.jn_base.specs.declared.tree.ViewTerm.{ViewTerm}
 use Rattle.jn_base.specs.declared.tree.Expr.{Expr}
 use Rattle.jn_base.specs.declared.tree.Node.TheVariants as node
 use Rattle.jn_base.specs.declared.tree.Suffix.{Suffix}
-use Rattle.jn_base.specs.declared.tree.Level.TheVariants as level_
 use Rattle.jn_base.specs.declared.word.Keyword.TheVariants.{False, New, Null, Super, This, True, View}
-use Rattle.jn_base.specs.declared.word.Mark.TheVariants.{Bang, CloseBracket, CloseParen, Comma, Dot, Minus, OpenBracket, OpenParen}
+use Rattle.jn_base.specs.declared.word.Mark.TheVariants.{Bang, CloseBracket, CloseParen, Dot, Minus, OpenBracket, OpenParen}
 use Rattle.jn_base.specs.declared.word.Word.{Word}
 use Rattle.jn_base.specs.declared.word.Word.TheVariants.{Name as Named_, Keyword as Key, Number, Mark as Marked}
 use Rattle.jn_base.specs.declared.word.Lexeme.{Lexeme}
 use Rattle.jn_base.specs.Words.{lexeme}
-use Rattle.jn_base.specs.Parts.{Part, lexeme_of, key, mark, name, number, opening, named, expr, suffix, posted}
+use Rattle.jn_base.specs.Parts.{Part, key, mark, name, number, opening, named, expr, suffix}
 use Rattle.jn_base.specs.GrammarTypes.{IsTerm, IsView}
 use Rattle.jn_base.specs.GrammarExpr.{IsForm, new_object, super_call, IsPrim, constant, yes, no, null, this_object, variable, parens, form, IsSuffix, field, call, IsSuffixes, no_suffix, then_suffix, IsPost, post, IsUnary, inverse, negative, viewed, unsigned, IsExpr, IsArgs}
 use Rattle.jn_grammar.specs.Begins.{begins, behind, place, lexemes}
-use Rattle.jn_grammar.specs.Answers.{Answer, ◌>>=◌, here, expect, name_in, row}
-use Rattle.jn_grammar.specs.ReadTypes.{term_in, view_in}
+use Rattle.jn_grammar.specs.Answers.{◌>>=◌, here}
+use Rattle.jn_grammar.specs.ReadTypes.{term_in}
 use Rattle.jn_grammar.specs.ReadExprs.{begins_view, shut_args_in, call_args_in, new_in, super_call_in, super_in, parens_in, prim_by, prim_in, call_in, suffix_in, post_in, viewed_in, inverse_in, negative_in, unary_in, expr_in, args_in, level}
 use Rattle.jn_grammar.proofs.FirstWords.{begins_is, never}
-use Rattle.jn_grammar.proofs.Tools.{Below, Took, Sound, sound_bind, sound_if, sound_map, sound_expect, sound_name, glue}
+use Rattle.jn_grammar.proofs.Tools.{Below, Sound, sound_bind, sound_if, sound_map, sound_expect, sound_name, glue}
 use Rattle.jn_grammar.proofs.Row.{Row, none, next, many_sound}
 use Rattle.jn_grammar.proofs.TermsSound.{term_sound, view_sound}
 

@@ -1,8 +1,6 @@
 -- Whatever is expected can come: each state that the machine reaches has an end.
-use Rattle.std.proofs.Common.{◌≡◌, ℕ, zero, suc, ◌+◌, ◌≤◌, ◌<◌, Bool, true, false, List, [], ◌∷◌, ◌++◌, length, ◌⊎◌, inl, inr, Option, Some, None, refl, sym, ◌∙◌, ap, subst, arith, if◌then◌else◌}
+use Rattle.std.proofs.Common.{◌≡◌, ℕ, zero, suc, Bool, true, false, List, [], ◌∷◌, ◌++◌, length, ◌⊎◌, inl, inr, Option, Some, None, refl, sym, subst, if◌then◌else◌}
 use Rattle.std.specs.Prelude.{pos}
-use Rattle.std.proofs.lemmas.Bool.{eq-eqb}
-use Rattle.jn_base.specs.declared.tree.Name.{Name}
 use Rattle.jn_base.specs.declared.tree.Level.{Level}
 use Rattle.jn_base.specs.declared.tree.Level.TheVariants as level_
 use Rattle.jn_base.specs.declared.tree.Op.{Op}
@@ -10,12 +8,12 @@ use Rattle.jn_base.specs.declared.refusal.Limit.{Limit}
 use Rattle.jn_base.specs.declared.word.Keyword.TheVariants.{Boolean, Class, False, Int, New, Null, Super, This, True, View as ViewKey}
 use Rattle.jn_base.specs.declared.word.Mark.TheVariants.{Ampersand, Backslash, Bang, CloseBracket, CloseParen, Comma, Dot, Minus, OpenBracket, OpenParen}
 use Rattle.jn_base.specs.declared.word.Word.{Word}
-use Rattle.jn_base.specs.declared.word.Word.TheVariants.{Name as Named_, Keyword as Key, Number, Mark as Marked, End, Fault as Faulty, Text}
+use Rattle.jn_base.specs.declared.word.Word.TheVariants.{Name as Named_, Keyword as Key, Number, Mark as Marked, End}
 use Rattle.jn_base.specs.declared.word.Lexeme.{Lexeme}
 use Rattle.jn_base.specs.Words.{lexeme}
-use Rattle.jn_grammar.specs.Begins.{begins, nowhere, is_word, mark_code, key_code}
-use Rattle.jn_grammar.specs.ReadExprs.{operator, goes_on}
-use Rattle.jn_grammar.specs.Expected.{Symbol, Expects, Shuts, AName, Dots, MayBang, Tail, Names, Term, AfterName, NameOrClass, AfterNames, Ref, Masks, View, Type_, Atom, Atoms, Prim, Suffixes, SuffixName, MayCall, Post, InParens, Unary, OperandEnd, Expr, Rest, CallArgs, Args, MoreArgs, SuperTerm, EndOfFile, Act, Takes, Counts, Opens, Closes, Leaves, Ends, Finishes, Refuses, on, on_operator, linked, rests, does, led, opened, counts_by, step, State, Going, Done, Fails, read, ended, run}
+use Rattle.jn_grammar.specs.Begins.{begins, nowhere, is_word}
+use Rattle.jn_grammar.specs.ReadExprs.{operator}
+use Rattle.jn_grammar.specs.Expected.{Symbol, Expects, Shuts, AName, Dots, MayBang, Tail, Names, Term, AfterName, NameOrClass, AfterNames, Ref, Masks, View, Type_, Atom, Atoms, Prim, Suffixes, SuffixName, MayCall, Post, InParens, Unary, OperandEnd, Expr, Rest, CallArgs, Args, MoreArgs, SuperTerm, EndOfFile, Act, Takes, Counts, Opens, Closes, Leaves, Ends, Finishes, Refuses, on, on_operator, linked, rests, does, led, opened, counts_by, step, State, Going, Done, Fails, read}
 use Rattle.jn_grammar.proofs.FirstWords.{never}
 use Rattle.jn_grammar.proofs.TermsAgain.{EndsNames, EndsTerm}
 use Rattle.jn_grammar.proofs.TypesAgain.{EndsView, EndsType}

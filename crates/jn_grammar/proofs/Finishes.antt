@@ -1,5 +1,5 @@
 -- Where one more may open, what is expected comes.
-use Rattle.std.proofs.Common.{◌≡◌, ℕ, zero, suc, ◌+◌, Bool, true, false, List, [], ◌∷◌, ◌++◌, length, Option, Some, None, refl, sym, ◌∙◌, ap, subst, if◌then◌else◌}
+use Rattle.std.proofs.Common.{◌≡◌, ℕ, suc, true, false, List, [], ◌∷◌, ◌++◌, length, refl, ◌∙◌, ap, if◌then◌else◌}
 use Rattle.jn_base.specs.declared.tree.Level.{Level}
 use Rattle.jn_base.specs.declared.tree.Level.TheVariants as level_
 use Rattle.jn_base.specs.declared.word.Mark.TheVariants.{Ampersand, Backslash, Bang, CloseParen, Comma, Dot, OpenBracket, OpenParen}
@@ -9,15 +9,13 @@ use Rattle.jn_base.specs.declared.word.Lexeme.{Lexeme}
 use Rattle.jn_base.specs.Words.{lexeme}
 use Rattle.jn_grammar.specs.Begins.{begins, is_word}
 use Rattle.jn_grammar.specs.ReadExprs.{goes_on}
-use Rattle.jn_grammar.specs.Expected.{Symbol, Expects, Shuts, AName, Dots, MayBang, Tail, Names, Term, AfterName, NameOrClass, AfterNames, Ref, Masks, View, Type_, Atom, Atoms, Prim, Suffixes, SuffixName, MayCall, Post, InParens, Unary, OperandEnd, Expr, Rest, CallArgs, Args, MoreArgs, SuperTerm, EndOfFile, Takes, Opens, Closes, Leaves, Refuses, linked, rests, does, led, step, State, Going, Done, Fails, read, ended, run}
+use Rattle.jn_grammar.specs.Expected.{Symbol, Expects, Shuts, AName, Dots, MayBang, Tail, Names, Term, AfterName, NameOrClass, AfterNames, Ref, Masks, View, Type_, Atom, Atoms, Prim, Suffixes, SuffixName, MayCall, Post, InParens, Unary, OperandEnd, Expr, Rest, CallArgs, Args, MoreArgs, SuperTerm, EndOfFile, Takes, Closes, Refuses, rests, led, step, Going, Done, run}
 use Rattle.jn_grammar.proofs.FirstWords.{never}
-use Rattle.jn_grammar.proofs.Meets.{if_true, if_false}
+use Rattle.jn_grammar.proofs.Meets.{if_false}
 use Rattle.jn_grammar.proofs.Machine.{takes_or_leaves, opens_or_leaves, operand_ends}
 use Rattle.jn_grammar.proofs.LevelsRuns.{rest_takes}
-use Rattle.jn_grammar.proofs.TermsAgain.{EndsNames, EndsTerm}
-use Rattle.jn_grammar.proofs.TypesAgain.{EndsView, EndsType}
-use Rattle.jn_grammar.proofs.ExprAgain.{EndsPost, EndsProduct, EndsSum, EndsComparison, EndsEquality, EndsConjunction, EndsExpr}
-use Rattle.jn_grammar.proofs.Finish.{word, finish, Follow, Tidy, EndsLevel, post_of, close_is}
+use Rattle.jn_grammar.proofs.TermsAgain.{EndsTerm}
+use Rattle.jn_grammar.proofs.Finish.{word, finish, Follow, Tidy, EndsLevel, post_of}
 
 -- WHAT LEAVES THE NEXT WORD
 dots_leave : (n : ℕ) (v : List Lexeme) (below : List Symbol) → begins (Marked Dot) v ≡ false → run false v (Going n (Dots ∷ below)) ≡ run false v (Going n below)

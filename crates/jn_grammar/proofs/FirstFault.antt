@@ -1,8 +1,6 @@
 -- THE PLACE OF A FAULT, once for all: from a reader, its grammar and its machine. No nonterminal is named.
-use Rattle.std.proofs.Common.{◌≡◌, ℕ, zero, suc, ◌+◌, ◌≤◌, ◌<◌, Bool, true, false, List, [], ◌∷◌, ◌++◌, length, Option, Some, None, Result, Ok, Err, refl, sym, ◌∙◌, ap, subst, append_assoc, length-append, arith}
-use Rattle.std.proofs.lemmas.List.{append-nil}
+use Rattle.std.proofs.Common.{◌≡◌, ℕ, suc, ◌+◌, ◌≤◌, Bool, true, false, List, [], ◌∷◌, ◌++◌, length, Option, Some, None, Ok, Err, refl, sym, ◌∙◌, ap, subst, append_assoc, length-append, arith}
 use Rattle.jn_base.specs.declared.refusal.Limit.{Limit}
-use Rattle.jn_base.specs.declared.word.Word.{Word}
 use Rattle.jn_base.specs.declared.word.Lexeme.{Lexeme}
 use Rattle.jn_base.specs.Parts.{Part, lexeme_of}
 use Rattle.jn_base.specs.Spelling.{limit_of}
@@ -14,7 +12,7 @@ use Rattle.jn_grammar.specs.Expected.{Symbol, State, Going, Done, Fails, read, e
 use Rattle.jn_grammar.specs.Places.{IsSpelled, IsBegun, BeginsSo, PassesSo, IsCleanSo, IsSyntaxAt, IsLimitAt}
 use Rattle.jn_grammar.proofs.Tools.{lexemes_append, length_lexemes}
 use Rattle.jn_grammar.proofs.Meets.{met, meets}
-use Rattle.jn_grammar.proofs.Steps.{next_state, read_next, read_fails, next_going, next_done, Alive, count_of, counted_as, Stops, stops, read_on, stops_with, fault_within, freed, IsRoomy, passed_free, read_free}
+use Rattle.jn_grammar.proofs.Steps.{next_state, read_next, read_fails, next_going, next_done, Alive, count_of, stops, read_on, stops_with, fault_within, freed, passed_free, read_free}
 
 abbrev pub done_of : {A : Type 0} → Answer A → State
 done_of (Ok x) = Done

@@ -1,6 +1,5 @@
 -- What is in the grammar of expressions and arguments is read, with its tree, whatever fits behind it.
-use Rattle.std.proofs.Common.{◌≡◌, ℕ, zero, suc, Bool, true, false, cond, List, [], ◌∷◌, ◌++◌, length, Option, Some, None, Result, Ok, Err, refl, sym, ◌∙◌, ap, subst, ◌+◌, ◌≤◌, arith, length-append, if◌then◌else◌}
-use Rattle.std.specs.Prelude.{◌&&◌}
+use Rattle.std.proofs.Common.{◌≡◌, ℕ, zero, suc, true, false, List, [], ◌∷◌, ◌++◌, length, Ok, refl, ◌∙◌, ap, ◌+◌, ◌≤◌, arith}
 use Rattle.jn_base.specs.declared.tree.Place.{Place}
 use Rattle.jn_base.specs.declared.tree.ViewTerm.{ViewTerm}
 use Rattle.jn_base.specs.declared.tree.Expr.{Expr}
@@ -11,25 +10,24 @@ use Rattle.jn_base.specs.declared.tree.Link.{Link}
 use Rattle.jn_base.specs.declared.word.Keyword.TheVariants.{View}
 use Rattle.jn_base.specs.declared.word.Mark.{Mark}
 use Rattle.jn_base.specs.declared.word.Mark.TheVariants.{Bang, CloseParen, Comma, Dot, Minus, OpenParen}
-use Rattle.jn_base.specs.declared.word.Word.{Word}
 use Rattle.jn_base.specs.declared.word.Word.TheVariants.{Keyword as Key, Mark as Marked}
 use Rattle.jn_base.specs.declared.word.Lexeme.{Lexeme}
 use Rattle.jn_base.specs.Words.{lexeme}
 use Rattle.jn_base.specs.Parts.{Part, key, mark, opening, expr, posted, link}
 use Rattle.jn_base.specs.GrammarTypes.{IsView}
-use Rattle.jn_base.specs.GrammarExpr.{IsOperator, or, and, equal, not_equal, less, less_equal, greater, greater_equal, plus, minus, times, over, remainder, IsForm, new_object, super_call, IsPrim, constant, yes, no, null, this_object, variable, parens, form, IsSuffixes, no_suffix, then_suffix, IsPost, post, IsUnary, inverse, negative, viewed, unsigned, IsProduct, product, IsFactors, no_factor, then_factor, IsSum, sum, IsSummands, no_summand, then_summand, IsComparison, one_sum, two_sums, IsEquality, one_side, two_sides, IsConjunction, conjunction, IsConjuncts, no_conjunct, then_conjunct, IsExpr, disjunction, IsDisjuncts, no_disjunct, then_disjunct, IsArgs, no_arg, args, IsMoreArgs, no_more_arg, then_arg}
-use Rattle.jn_grammar.specs.Begins.{begins, behind, place, lexemes}
-use Rattle.jn_grammar.specs.Answers.{Answer, ◌>>=◌, expect, row}
+use Rattle.jn_base.specs.GrammarExpr.{IsOperator, or, and, equal, not_equal, less, less_equal, greater, greater_equal, plus, minus, times, over, remainder, new_object, super_call, IsPrim, constant, yes, no, null, this_object, variable, parens, form, IsPost, post, IsUnary, inverse, negative, viewed, unsigned, IsProduct, product, IsFactors, no_factor, then_factor, IsSum, sum, IsSummands, no_summand, then_summand, IsComparison, one_sum, two_sums, IsEquality, one_side, two_sides, IsConjunction, conjunction, IsConjuncts, no_conjunct, then_conjunct, IsExpr, disjunction, IsDisjuncts, no_disjunct, then_disjunct, IsArgs, no_arg, args, IsMoreArgs, no_more_arg, then_arg}
+use Rattle.jn_grammar.specs.Begins.{begins, place, lexemes}
+use Rattle.jn_grammar.specs.Answers.{◌>>=◌, expect, row}
 use Rattle.jn_grammar.specs.ReadTypes.{view_in}
 use Rattle.jn_grammar.specs.ReadExprs.{begins_view, prim_in, suffix_in, post_in, viewed_in, inverse_in, negative_in, unary_in, product_in, sum_in, comparison_in, equality_in, conjunction_in, expr_in, arg_in, args_in, level, goes_on}
 use Rattle.jn_grammar.proofs.Tools.{Below}
 use Rattle.jn_grammar.proofs.Row.{Row, none, next}
 use Rattle.jn_grammar.proofs.ChainSound.{IsLink, one_link, IsArg, one_arg}
-use Rattle.jn_grammar.proofs.Meets.{meets, words_append, Reads, then_reads, if_true, if_false}
-use Rattle.jn_grammar.proofs.TermsAgain.{EndsNames, EndsTerm, row_again, read_then}
-use Rattle.jn_grammar.proofs.TypesAgain.{EndsView, view_again}
+use Rattle.jn_grammar.proofs.Meets.{Reads, then_reads, if_false}
+use Rattle.jn_grammar.proofs.TermsAgain.{row_again, read_then}
+use Rattle.jn_grammar.proofs.TypesAgain.{view_again}
 use Rattle.jn_grammar.proofs.ChainAgain.{Starts, starts, starts_append, place_is, no_view, no_close, Operands, chain_again, alone_again, two_again}
-use Rattle.jn_grammar.proofs.ExprAgain.{EndsPost, EndsProduct, EndsSum, EndsComparison, EndsEquality, EndsConjunction, EndsExpr, paren_ends, Agains, denied_again, allowed_again, deeper, prim_again, suffix_head, row_suffixes, suffixes_again}
+use Rattle.jn_grammar.proofs.ExprAgain.{EndsPost, EndsProduct, EndsSum, EndsComparison, EndsEquality, EndsConjunction, EndsExpr, paren_ends, Agains, denied_again, allowed_again, deeper, prim_again, suffixes_again}
 
 -- HOW EACH BEGINS
 pub prim_starts : {d : ℕ} {p : Place} {w : List Part} {e : Expr} → IsPrim d p w e → Starts p w

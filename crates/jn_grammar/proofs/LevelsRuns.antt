@@ -1,5 +1,5 @@
 -- Reading expressions and arguments is what the machine does with their symbols.
-use Rattle.std.proofs.Common.{◌≡◌, ℕ, zero, suc, ◌≤◌, ◌<◌, ◌+◌, Bool, true, false, cond, List, [], ◌∷◌, ◌++◌, length, Option, Some, None, Result, Ok, Err, refl, sym, ◌∙◌, ap, subst, arith, if◌then◌else◌}
+use Rattle.std.proofs.Common.{◌≡◌, ℕ, zero, suc, ◌≤◌, ◌<◌, Bool, true, List, [], ◌∷◌, ◌++◌, length, Option, Some, None, Ok, refl, sym, ◌∙◌, ap, arith, if◌then◌else◌}
 use Rattle.std.specs.Prelude.{is_some}
 use Rattle.jn_base.specs.declared.tree.Place.{Place}
 use Rattle.jn_base.specs.declared.tree.Expr.{Expr as ExprTree}
@@ -10,20 +10,20 @@ use Rattle.jn_base.specs.declared.tree.Link.{Link}
 use Rattle.jn_base.specs.declared.word.Keyword.TheVariants.{False, New, Null, Super, This, True}
 use Rattle.jn_base.specs.declared.word.Mark.TheVariants.{Bang, CloseParen, Comma, Minus, OpenParen}
 use Rattle.jn_base.specs.declared.word.Word.{Word}
-use Rattle.jn_base.specs.declared.word.Word.TheVariants.{Name as Named_, Keyword as Key, Number, Mark as Marked}
+use Rattle.jn_base.specs.declared.word.Word.TheVariants.{Keyword as Key, Mark as Marked}
 use Rattle.jn_base.specs.declared.word.Lexeme.{Lexeme}
 use Rattle.jn_base.specs.Words.{lexeme}
-use Rattle.jn_base.specs.Parts.{Part, link, chained}
-use Rattle.jn_base.specs.GrammarExpr.{IsUnary, IsProduct, IsSum, IsComparison, IsEquality, IsConjunction}
+use Rattle.jn_base.specs.Parts.{Part}
+use Rattle.jn_base.specs.GrammarExpr.{IsUnary, IsProduct, IsEquality, IsConjunction}
 use Rattle.jn_grammar.specs.Begins.{begins, behind, place, is_word}
-use Rattle.jn_grammar.specs.Answers.{Answer, ◌>>=◌, here, row}
+use Rattle.jn_grammar.specs.Answers.{Answer, row}
 use Rattle.jn_grammar.specs.ReadExprs.{operator, operator_of, goes_on, link_by, link_in, chain_in, pair_in, unary_in, product_in, sum_in, comparison_in, equality_in, conjunction_in, expr_in, arg_in, args_in, level}
-use Rattle.jn_grammar.specs.Expected.{Symbol, Unary, Expr, Rest, Args, MoreArgs, Takes, Leaves, linked, rests, on_operator, does, led, step, State, Going, Done, Fails, read, ended, run}
+use Rattle.jn_grammar.specs.Expected.{Symbol, Unary, Expr, Rest, Args, MoreArgs, Takes, linked, rests, on_operator, led, step, Going, run}
 use Rattle.jn_grammar.proofs.Tools.{Below, Sound, strictly}
 use Rattle.jn_grammar.proofs.ExprSound.{unary_sound}
-use Rattle.jn_grammar.proofs.ChainSound.{IsLink, one_link, link_sound, product_sound, sum_sound, comparison_sound, equality_sound, conjunction_sound, IsArg, one_arg, arg_sound, sounds_below}
+use Rattle.jn_grammar.proofs.ChainSound.{IsLink, one_link, link_sound, product_sound, equality_sound, conjunction_sound, IsArg, one_arg, arg_sound, sounds_below}
 use Rattle.jn_grammar.proofs.Meets.{if_true, if_false}
-use Rattle.jn_grammar.proofs.Machine.{Comes, Does, run_fails, comes_then, comes_if, comes_both, from, takes_or_leaves, row_runs}
+use Rattle.jn_grammar.proofs.Machine.{Comes, Does, comes_then, comes_both, from, takes_or_leaves, row_runs}
 use Rattle.jn_grammar.proofs.ExprRuns.{Runs, unary_runs}
 
 -- the machine at an operator of the level

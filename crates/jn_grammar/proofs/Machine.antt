@@ -1,17 +1,14 @@
 -- How the proofs compose that the machine does what the reader does. No symbol of the grammar is named but those of single words.
-use Rattle.std.proofs.Common.{◌≡◌, ℕ, zero, suc, ◌≤◌, ◌<◌, ◌+◌, Bool, true, false, cond, List, [], ◌∷◌, ◌++◌, length, Result, Ok, Err, refl, sym, ◌∙◌, ap, subst, arith, if◌then◌else◌}
-use Rattle.jn_base.specs.declared.tree.Place.{Place}
-use Rattle.jn_base.specs.declared.tree.Named.{Named}
-use Rattle.jn_base.specs.declared.refusal.Limit.TheVariants.{Nesting}
+use Rattle.std.proofs.Common.{◌≡◌, ℕ, zero, suc, ◌≤◌, ◌<◌, Bool, true, false, List, [], ◌∷◌, ◌++◌, length, Ok, Err, refl, ◌∙◌, ap, arith, if◌then◌else◌}
 use Rattle.jn_base.specs.declared.word.Word.{Word}
 use Rattle.jn_base.specs.declared.word.Word.TheVariants as word
 use Rattle.jn_base.specs.declared.word.Lexeme.{Lexeme}
 use Rattle.jn_base.specs.Words.{lexeme}
 use Rattle.jn_grammar.specs.declared.fault.Fault.{Fault}
-use Rattle.jn_grammar.specs.declared.fault.Fault.TheVariants.{Syntax, Passed}
-use Rattle.jn_grammar.specs.Begins.{begins, behind, place, is_word}
+use Rattle.jn_grammar.specs.declared.fault.Fault.TheVariants.{Syntax}
+use Rattle.jn_grammar.specs.Begins.{begins, behind, is_word}
 use Rattle.jn_grammar.specs.Answers.{Answer, ◌>>=◌, here, expect, name_by, name_in, many}
-use Rattle.jn_grammar.specs.Expected.{Symbol, Expects, Shuts, AName, OperandEnd, Act, Takes, Opens, Closes, Leaves, Refuses, on, does, led, opened, step, State, Going, Done, Fails, read, ended, run}
+use Rattle.jn_grammar.specs.Expected.{Symbol, Expects, Shuts, AName, OperandEnd, Takes, Opens, Closes, Leaves, Refuses, on, does, led, opened, step, State, Going, Fails, run}
 
 -- What an answer says of the machine: from its state with the symbol on top it comes to the state without.
 abbrev pub into : {A : Type 0} → (A × List Lexeme → State) → Answer A → State

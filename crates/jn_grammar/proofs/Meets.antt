@@ -1,11 +1,10 @@
 -- How the proofs compose that what is in the grammar is read, up to the first word that passes a limit.
-use Rattle.std.proofs.Common.{◌≡◌, ℕ, zero, suc, ◌≤◌, ◌<◌, ◌+◌, Bool, true, false, cond, List, [], ◌∷◌, ◌++◌, length, Option, Some, None, Result, Ok, Err, refl, sym, ◌∙◌, ap, subst, append_assoc, length-append, arith, if◌then◌else◌}
+use Rattle.std.proofs.Common.{◌≡◌, ℕ, zero, suc, ◌≤◌, ◌+◌, Bool, true, false, List, [], ◌∷◌, ◌++◌, length, Option, Some, None, Ok, Err, refl, sym, ◌∙◌, ap, subst, append_assoc, length-append, arith, if◌then◌else◌}
 use Rattle.jn_base.specs.declared.refusal.Limit.{Limit}
 use Rattle.jn_base.specs.declared.word.Lexeme.{Lexeme}
-use Rattle.jn_base.specs.Parts.{Part, Role, lexeme_of}
+use Rattle.jn_base.specs.Parts.{Part}
 use Rattle.jn_base.specs.Spelling.{limit_of}
-use Rattle.jn_grammar.specs.declared.fault.Fault.{Fault}
-use Rattle.jn_grammar.specs.declared.fault.Fault.TheVariants.{Syntax, Passed}
+use Rattle.jn_grammar.specs.declared.fault.Fault.TheVariants.{Passed}
 use Rattle.jn_grammar.specs.Begins.{lexemes}
 use Rattle.jn_grammar.specs.Answers.{Answer, ◌>>=◌, many}
 use Rattle.jn_grammar.proofs.Tools.{lexemes_append, length_lexemes}
@@ -78,9 +77,9 @@ many_again {A} Is more item Fits goes again (next {k} {w} {v = u} {x} {xs} d ds)
     let room' : length u + length v ≤ clock = omega (arith, g.1, length-append w u) in
     if_true (more (lexemes (w ++ u) ++ v)) _ _ (ap more (words_append w u v) ∙ g.0)
     ∙ then_reads (item k) (λ y. many more item clock (suc k) y.1 >>= λ others. Ok (y.0 ∷ others.0, others.1)) w u v x (Ok (x ∷ xs, v))
-        (again k w x d (lexemes u ++ v) (fits_row ds))
-        (ap (λ (r : Answer (List A)). r >>= λ others. Ok (x ∷ others.0, others.1)) (many_again Is more item Fits goes again ds v e f clock room')
-        ∙ meets_bind u v (Ok (xs, v)) (λ others. Ok (x ∷ others.0, others.1)))
+    (again k w x d (lexemes u ++ v) (fits_row ds))
+    (ap (λ (r : Answer (List A)). r >>= λ others. Ok (x ∷ others.0, others.1)) (many_again Is more item Fits goes again ds v e f clock room')
+    ∙ meets_bind u v (Ok (xs, v)) (λ others. Ok (x ∷ others.0, others.1)))
   where
     fits_row : {j : ℕ} {u : List Part} {ys : List A} → Row Is j u ys → Fits (lexemes u ++ v)
     fits_row none = f

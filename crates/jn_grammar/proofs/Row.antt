@@ -1,9 +1,9 @@
 -- Items in a row.
-use Rattle.std.proofs.Common.{◌≡◌, ℕ, zero, suc, Bool, true, false, cond, List, [], ◌∷◌, ◌++◌, length, Result, Ok, Err, refl, if◌then◌else◌}
+use Rattle.std.proofs.Common.{◌≡◌, ℕ, zero, suc, Bool, true, List, [], ◌∷◌, ◌++◌, Ok, refl}
 use Rattle.jn_base.specs.declared.word.Lexeme.{Lexeme}
 use Rattle.jn_base.specs.Parts.{Part}
-use Rattle.jn_grammar.specs.Answers.{Answer, ◌>>=◌, many}
-use Rattle.jn_grammar.proofs.Tools.{Took, Sound, sound_bind, sound_if, glue}
+use Rattle.jn_grammar.specs.Answers.{Answer, many}
+use Rattle.jn_grammar.proofs.Tools.{Sound, sound_bind, sound_if, glue}
 
 -- each of them an X, the first of them the k-th
 pub data Row {A : Type 0} (Is : ℕ → List Part → A → Type 0) : ℕ → List Part → List A → Type 0 where

@@ -1,5 +1,5 @@
 -- The machine from one word to the next: where it stops, and that without limits it goes on. No nonterminal is named.
-use Rattle.std.proofs.Common.{◌≡◌, ℕ, zero, suc, ◌+◌, ◌≤◌, ◌<◌, Bool, true, false, List, [], ◌∷◌, ◌++◌, length, Option, Some, None, Result, Ok, Err, refl, sym, ◌∙◌, ap, subst, append_assoc, length-append, arith}
+use Rattle.std.proofs.Common.{◌≡◌, ℕ, zero, suc, ◌≤◌, Bool, true, false, List, [], ◌∷◌, ◌++◌, length, Option, Some, None, refl, sym, ◌∙◌, ap, subst, length-append, arith}
 use Rattle.jn_base.specs.declared.refusal.Limit.{Limit}
 use Rattle.jn_base.specs.declared.word.Word.{Word}
 use Rattle.jn_base.specs.declared.word.Lexeme.{Lexeme}
@@ -7,7 +7,7 @@ use Rattle.jn_base.specs.Spelling.{limit_of}
 use Rattle.jn_grammar.specs.declared.fault.Fault.{Fault}
 use Rattle.jn_grammar.specs.declared.fault.Fault.TheVariants.{Syntax, Passed}
 use Rattle.jn_grammar.specs.Answers.{passed}
-use Rattle.jn_grammar.specs.Expected.{Symbol, Act, Takes, Counts, Opens, Closes, Leaves, Ends, Finishes, Refuses, does, led, opened, counts_by, step, State, Going, Done, Fails, read, ended, run}
+use Rattle.jn_grammar.specs.Expected.{Symbol, Act, Takes, Counts, Opens, Closes, Leaves, Ends, Finishes, Refuses, does, led, counts_by, step, State, Going, Done, Fails, read, ended, run}
 
 -- one word from any state
 abbrev pub next_state : Bool → State → Word → ℕ → State
@@ -92,7 +92,7 @@ step_at s (x ∷ below) n k l = led_at s (does x k) n below l (λ m. step s belo
 pub next_at : (s : Bool) (st : State) (k : Word) (l : ℕ) (f : Fault) → Alive st → next_state s st k l ≡ Fails f → count_of f ≡ l
 unfolding AtWord
 next_at s (Going n expected) k l f a q = subst (λ u. AtWord l u) q (step_at s expected n k l)
-next_at s Done k l f a q = ap count_of (same_fault (Syntax l) f q) 
+next_at s Done k l f a q = ap count_of (same_fault (Syntax l) f q)
   where
     same_fault : (f g : Fault) → ◌≡◌ {A = State} (Fails f) (Fails g) → g ≡ f
     same_fault f g e = cc

@@ -1,12 +1,11 @@
 -- Reading names, terms, views and types is what the machine does with their symbols.
-use Rattle.std.proofs.Common.{◌≡◌, ℕ, zero, suc, ◌≤◌, ◌<◌, ◌+◌, Bool, true, false, cond, List, [], ◌∷◌, ◌++◌, length, Option, Some, None, Result, Ok, Err, refl, sym, ◌∙◌, ap, subst, arith, if◌then◌else◌}
+use Rattle.std.proofs.Common.{◌≡◌, ℕ, zero, suc, ◌≤◌, ◌<◌, Bool, true, List, [], ◌∷◌, length, Option, Some, None, Ok, refl, ◌∙◌, arith, if◌then◌else◌}
 use Rattle.jn_base.specs.declared.tree.Name.{Name}
 use Rattle.jn_base.specs.declared.tree.Place.{Place}
 use Rattle.jn_base.specs.declared.tree.Named.{Named}
 use Rattle.jn_base.specs.declared.tree.Ref.{Ref as RefTree}
 use Rattle.jn_base.specs.declared.tree.Ref.TheVariants as ref
 use Rattle.jn_base.specs.declared.tree.Term.{Term as TermTree}
-use Rattle.jn_base.specs.declared.tree.TypeTerm.{TypeTerm}
 use Rattle.jn_base.specs.declared.refusal.Limit.{Limit}
 use Rattle.jn_base.specs.declared.refusal.Limit.TheVariants.{Nesting}
 use Rattle.jn_base.specs.declared.word.Keyword.TheVariants.{Boolean, Class, Int, This}
@@ -17,15 +16,15 @@ use Rattle.jn_base.specs.declared.word.Lexeme.{Lexeme}
 use Rattle.jn_base.specs.Words.{lexeme}
 use Rattle.jn_base.specs.Parts.{Part, Atom as AtomRole}
 use Rattle.jn_grammar.specs.declared.fault.Fault.TheVariants.{Syntax, Passed}
-use Rattle.jn_grammar.specs.Begins.{begins, behind, place, is_word}
-use Rattle.jn_grammar.specs.Answers.{Answer, ◌>>=◌, here, expect, name_by, name_in, passed, within, within_by, row}
-use Rattle.jn_grammar.specs.ReadTypes.{dot_in, dots_in, bang_in, names_in, tail_in, ref_by, ref_in, class_in, own_in, prefix_in, after_names_in, name_or_class_in, after_name_in, term_by, term_in, mask_in, masks_in, view_in, is_head, begins_term, atom_in, next_atom_in, atoms_in, class_type_in, type_in}
-use Rattle.jn_grammar.specs.Expected.{Symbol, Expects, Shuts, AName, Dots, MayBang, Tail, Names, Term, AfterName, NameOrClass, AfterNames, Ref, Masks, View, Type_, Atom, Atoms, does, led, opened, counts_by, step, State, Going, Done, Fails, read, ended, run}
-use Rattle.jn_grammar.proofs.Tools.{Sound, strictly}
+use Rattle.jn_grammar.specs.Begins.{begins, behind, is_word}
+use Rattle.jn_grammar.specs.Answers.{Answer, ◌>>=◌, name_by, passed, within_by, row}
+use Rattle.jn_grammar.specs.ReadTypes.{dot_in, dots_in, bang_in, names_in, tail_in, ref_by, ref_in, class_in, own_in, prefix_in, after_names_in, name_or_class_in, after_name_in, term_by, term_in, mask_in, masks_in, view_in, atom_in, next_atom_in, atoms_in, class_type_in, type_in}
+use Rattle.jn_grammar.specs.Expected.{Symbol, Expects, Shuts, AName, Dots, MayBang, Tail, Names, Term, AfterName, NameOrClass, AfterNames, Ref, Masks, View, Type_, Atom, Atoms, opened, counts_by, Going, run}
+use Rattle.jn_grammar.proofs.Tools.{strictly}
 use Rattle.jn_grammar.proofs.TypesSound.{IsDot, one_dot, dot_sound}
 use Rattle.jn_grammar.proofs.TermsSound.{IsMask, one_mask, mask_sound, IsNextAtom, next_atom, next_atom_sound}
 use Rattle.jn_grammar.proofs.Meets.{if_true, if_false}
-use Rattle.jn_grammar.proofs.Machine.{Comes, Does, run_fails, comes_then, comes_if, comes_both, from, takes_or_leaves, opens_or_leaves, expects, shuts, names, row_runs}
+use Rattle.jn_grammar.proofs.Machine.{Comes, Does, run_fails, comes_then, comes_both, from, takes_or_leaves, expects, shuts, names, row_runs}
 
 dot_long : (k : ℕ) (w : List Part) (x : Name) → IsDot k w x → 1 ≤ length w
 dot_long k w x one_dot = omega arith

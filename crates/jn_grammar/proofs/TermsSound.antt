@@ -1,5 +1,5 @@
 -- What is read of terms, views and types is in the grammar.
-use Rattle.std.proofs.Common.{◌≡◌, ℕ, zero, suc, Bool, true, false, cond, List, [], ◌∷◌, ◌++◌, length, Option, Some, None, Result, Ok, Err, refl, sym, ◌∙◌, ap, subst, if◌then◌else◌}
+use Rattle.std.proofs.Common.{◌≡◌, ℕ, zero, suc, Bool, true, List, [], ◌∷◌, ◌++◌, length, Option, Some, None, Ok, Err, refl, sym, ◌∙◌, ap, subst}
 use Rattle.std.proofs.lemmas.List.{append-nil}
 use Rattle.jn_base.specs.declared.tree.Name.{Name}
 use Rattle.jn_base.specs.declared.tree.Place.{Place}
@@ -8,23 +8,21 @@ use Rattle.jn_base.specs.declared.tree.Ref.{Ref}
 use Rattle.jn_base.specs.declared.tree.Ref.TheVariants as ref
 use Rattle.jn_base.specs.declared.tree.Head.TheVariants as head
 use Rattle.jn_base.specs.declared.tree.Term.{Term}
-use Rattle.jn_base.specs.declared.tree.ViewTerm.{ViewTerm}
-use Rattle.jn_base.specs.declared.tree.TypeTerm.{TypeTerm}
 use Rattle.jn_base.specs.declared.tree.TypeTerm.TheVariants as type_term
 use Rattle.jn_base.specs.declared.refusal.Limit.{Limit}
 use Rattle.jn_base.specs.declared.word.Keyword.TheVariants.{Boolean, Class, Int, This}
-use Rattle.jn_base.specs.declared.word.Mark.TheVariants.{Ampersand, Backslash, Bang, CloseBracket, Dot, OpenBracket}
+use Rattle.jn_base.specs.declared.word.Mark.TheVariants.{Ampersand, Backslash, CloseBracket, Dot, OpenBracket}
 use Rattle.jn_base.specs.declared.word.Word.{Word}
 use Rattle.jn_base.specs.declared.word.Word.TheVariants.{Name as Named_, Keyword as Key, Mark as Marked}
 use Rattle.jn_base.specs.declared.word.Lexeme.{Lexeme}
 use Rattle.jn_base.specs.Words.{lexeme}
-use Rattle.jn_base.specs.Parts.{Part, Role, Plain, Opens, Atom, part, lexeme_of, key, mark, name, opening, atom, named, term}
-use Rattle.jn_base.specs.GrammarTypes.{IsDotted, one_name, more_names, IsDots, no_dot, dot, IsNames, loose, exact, IsTail, no_tail, tail, IsRef, this, variable, IsTerm, plain, own, in_prefix, IsMasks, no_mask, mask, IsView, view, IsAtoms, last_atom, then_atom, IsType, int, boolean, class}
+use Rattle.jn_base.specs.Parts.{Part, Role, Atom, key, mark, name, opening, atom, named, term}
+use Rattle.jn_base.specs.GrammarTypes.{IsDotted, one_name, more_names, IsTail, this, variable, IsTerm, plain, in_prefix, IsMasks, no_mask, mask, IsView, view, IsAtoms, last_atom, then_atom, IsType, int, boolean, class}
 use Rattle.jn_grammar.specs.Begins.{begins, behind, place, lexemes}
-use Rattle.jn_grammar.specs.Answers.{Answer, ◌>>=◌, here, expect, name_in, passed, within, within_by, row}
-use Rattle.jn_grammar.specs.ReadTypes.{dot_in, dots_in, bang_in, names_in, tail_in, ref_by, ref_in, class_in, own_in, prefix_in, after_names_in, name_or_class_in, after_name_in, term_by, term_in, mask_in, masks_in, view_in, begins_term, atom_in, next_atom_in, atoms_in, class_type_in, type_in}
+use Rattle.jn_grammar.specs.Answers.{Answer, ◌>>=◌, here, name_in, passed, within, within_by}
+use Rattle.jn_grammar.specs.ReadTypes.{own_in, prefix_in, after_names_in, name_or_class_in, after_name_in, term_by, term_in, mask_in, masks_in, view_in, begins_term, atom_in, next_atom_in, atoms_in, class_type_in, type_in}
 use Rattle.jn_grammar.proofs.FirstWords.{begins_is}
-use Rattle.jn_grammar.proofs.Tools.{Took, Sound, sound_bind, sound_if, sound_map, sound_expect, sound_name, glue}
+use Rattle.jn_grammar.proofs.Tools.{Sound, sound_bind, sound_if, sound_map, sound_expect, sound_name, glue}
 use Rattle.jn_grammar.proofs.Row.{Row, none, next, many_sound}
 use Rattle.jn_grammar.proofs.TypesSound.{IsDot, dotted_of, row_dots_sound, NamesAt, TailOf, bang_sound, tail_sound, IsRefWord, ref_word, ref_sound, IsClassWord, class_word, class_sound, own_sound}
 

@@ -1,12 +1,9 @@
 -- What is in the grammar of masks, views and types is read, with its tree, whatever fits behind it.
-use Rattle.std.proofs.Common.{◌≡◌, ℕ, zero, suc, Bool, true, false, cond, List, [], ◌∷◌, ◌++◌, length, Option, Some, None, Result, Ok, Err, refl, sym, ◌∙◌, ap, subst, ◌+◌, ◌≤◌, ◌<◌, arith, append_assoc, length-append, if◌then◌else◌}
+use Rattle.std.proofs.Common.{◌≡◌, ℕ, suc, true, false, List, [], ◌∷◌, ◌++◌, length, Option, Some, None, Ok, Err, refl, ◌∙◌, ap, subst, ◌+◌, ◌≤◌, arith, length-append}
 use Rattle.std.proofs.lemmas.List.{append-nil}
 use Rattle.jn_base.specs.declared.tree.Name.{Name}
 use Rattle.jn_base.specs.declared.tree.Place.{Place}
 use Rattle.jn_base.specs.declared.tree.Named.{Named}
-use Rattle.jn_base.specs.declared.tree.Ref.{Ref}
-use Rattle.jn_base.specs.declared.tree.Ref.TheVariants as ref
-use Rattle.jn_base.specs.declared.tree.Head.TheVariants as head
 use Rattle.jn_base.specs.declared.tree.Term.{Term}
 use Rattle.jn_base.specs.declared.tree.ViewTerm.{ViewTerm}
 use Rattle.jn_base.specs.declared.tree.TypeTerm.{TypeTerm}
@@ -18,20 +15,20 @@ use Rattle.jn_base.specs.declared.word.Word.{Word}
 use Rattle.jn_base.specs.declared.word.Word.TheVariants.{Name as Named_, Keyword as Key, Mark as Marked}
 use Rattle.jn_base.specs.declared.word.Lexeme.{Lexeme}
 use Rattle.jn_base.specs.Words.{lexeme}
-use Rattle.jn_base.specs.Parts.{Part, Role, Plain, Opens, Atom, part, lexeme_of, key, mark, name, opening, atom, named, term}
-use Rattle.jn_base.specs.GrammarTypes.{IsDotted, one_name, more_names, IsDots, no_dot, dot, IsNames, loose, exact, IsTail, no_tail, tail, IsRef, this, variable, IsTerm, plain, own, in_prefix, IsMasks, no_mask, mask, IsView, view, IsAtoms, last_atom, then_atom, IsType, int, boolean, class}
-use Rattle.jn_grammar.specs.Begins.{begins, behind, place, lexemes}
-use Rattle.jn_grammar.specs.Answers.{Answer, ◌>>=◌, here, expect, name_in, passed, within, within_by, row}
-use Rattle.jn_grammar.specs.ReadTypes.{dot_in, dots_in, bang_in, names_in, tail_in, ref_by, ref_in, class_in, own_in, prefix_in, after_names_in, name_or_class_in, after_name_in, term_by, term_in, mask_in, masks_in, view_in, begins_term, atom_in, next_atom_in, atoms_in, class_type_in, type_in}
+use Rattle.jn_base.specs.Parts.{Part, Role, Plain, Atom, key, mark, opening, atom}
+use Rattle.jn_base.specs.GrammarTypes.{IsDotted, one_name, more_names, IsNames, loose, exact, this, variable, IsTerm, plain, own, in_prefix, IsMasks, no_mask, mask, IsView, view, IsAtoms, last_atom, then_atom, IsType, int, boolean, class}
+use Rattle.jn_grammar.specs.Begins.{begins, lexemes}
+use Rattle.jn_grammar.specs.Answers.{Answer, ◌>>=◌, within_by, row}
+use Rattle.jn_grammar.specs.ReadTypes.{term_in, mask_in, masks_in, view_in, atom_in, next_atom_in, atoms_in, class_type_in, type_in}
 use Rattle.jn_base.specs.Spelling.{limit_of}
 use Rattle.jn_grammar.specs.declared.fault.Fault.TheVariants.{Passed}
 use Rattle.jn_grammar.specs.ReadTypes.{is_head}
 use Rattle.jn_grammar.proofs.FirstWords.{never}
 use Rattle.jn_grammar.proofs.Tools.{length_lexemes}
 use Rattle.jn_grammar.proofs.Row.{Row, none, next}
-use Rattle.jn_grammar.proofs.TermsSound.{IsMask, one_mask, IsAtom, one_atom, lexemes_atom, IsNextAtom, next_atom}
-use Rattle.jn_grammar.proofs.Meets.{met, meets, meets_bind, meets_append, words_append, Reads, then_reads, if_true, if_false}
-use Rattle.jn_grammar.proofs.TermsAgain.{EndsNames, EndsTerm, row_again, read_then, row_of, DottedRow, dotted_row, term_again}
+use Rattle.jn_grammar.proofs.TermsSound.{IsMask, one_mask, IsAtom, one_atom, IsNextAtom, next_atom}
+use Rattle.jn_grammar.proofs.Meets.{met, meets, words_append, Reads, then_reads, if_true, if_false}
+use Rattle.jn_grammar.proofs.TermsAgain.{EndsTerm, row_again, read_then, term_again}
 
 mask_again : (k : ℕ) (w : List Part) (x : Named) → IsMask k w x → (v : List Lexeme) → Unit {0} → Reads (mask_in k) w v x
 unfolding mask_in

@@ -1,24 +1,21 @@
 -- An expression as a whole input: its reader, its grammar and its machine, and so the place of its first fault.
-use Rattle.std.proofs.Common.{◌≡◌, ℕ, zero, suc, ◌+◌, Bool, true, false, List, [], ◌∷◌, ◌++◌, length, Result, Ok, Err, refl, sym, ◌∙◌, ap, subst, if◌then◌else◌}
+use Rattle.std.proofs.Common.{◌≡◌, ℕ, suc, ◌+◌, Bool, true, false, List, [], ◌∷◌, ◌++◌, length, Ok, Err, refl, sym, ◌∙◌, ap, subst, if◌then◌else◌}
 use Rattle.std.specs.Prelude.{All, None}
 use Rattle.std.proofs.lemmas.List.{append-nil}
 use Rattle.std.proofs.lemmas.List.Elements.{All-head, All-tail}
 use Rattle.jn_base.specs.declared.tree.Place.{Place}
 use Rattle.jn_base.specs.declared.tree.Expr.{Expr as ExprTree}
-use Rattle.jn_base.specs.declared.tree.Level.TheVariants.{Or}
-use Rattle.jn_base.specs.declared.word.Word.{Word}
 use Rattle.jn_base.specs.declared.word.Word.TheVariants.{End}
 use Rattle.jn_base.specs.declared.word.Lexeme.{Lexeme}
 use Rattle.jn_base.specs.Words.{lexeme}
 use Rattle.jn_base.specs.Parts.{Part, end_of_file}
 use Rattle.jn_base.specs.Spelling.{limit_of}
 use Rattle.jn_base.specs.GrammarExpr.{IsExpr}
-use Rattle.jn_grammar.specs.declared.fault.Fault.{Fault}
 use Rattle.jn_grammar.specs.declared.fault.Fault.TheVariants.{Syntax}
-use Rattle.jn_grammar.specs.Begins.{begins, behind, place, lexemes, is_word}
+use Rattle.jn_grammar.specs.Begins.{place, lexemes, is_word}
 use Rattle.jn_grammar.specs.Answers.{Answer, ◌>>=◌, here, expect}
 use Rattle.jn_grammar.specs.ReadExprs.{expr_in, level}
-use Rattle.jn_grammar.specs.Expected.{Symbol, Expr, EndOfFile, Finishes, Refuses, led, step, State, Going, Done, Fails, read, ended, run}
+use Rattle.jn_grammar.specs.Expected.{Symbol, EndOfFile, Finishes, Refuses, led, step, State, Going, Done, read, run}
 use Rattle.jn_grammar.specs.ReadWhole.{IsWhole, whole, last_in, whole_in, first}
 use Rattle.jn_grammar.proofs.Tools.{Took, Sound, sound_bind, sound_expect, glue, took_of}
 use Rattle.jn_grammar.proofs.Meets.{met, meets, then_reads}

@@ -1,6 +1,5 @@
 -- What reading answers, and reading in a row.
-use Rattle.std.specs.Prelude.{ℕ, zero, suc, Bool, true, false, List, [], ◌∷◌, ◌++◌, length, Option, Some, None, Result, Ok, Err, if◌then◌else◌}
-use Rattle.jn_base.specs.declared.tree.Name.{Name}
+use Rattle.std.specs.Prelude.{ℕ, zero, suc, Bool, true, false, List, [], ◌∷◌, length, Option, Some, None, Result, Ok, Err, if◌then◌else◌}
 use Rattle.jn_base.specs.declared.tree.Place.{Place}
 use Rattle.jn_base.specs.declared.tree.Named.{Named}
 use Rattle.jn_base.specs.declared.refusal.Limit.{Limit}

@@ -1,5 +1,5 @@
 -- What may come next: a stack of what is still expected, and how many more marks and operators may open. One step a word.
-use Rattle.std.specs.Prelude.{ℕ, zero, suc, Bool, true, false, List, [], ◌∷◌, ◌++◌, length, Option, Some, None, if◌then◌else◌}
+use Rattle.std.specs.Prelude.{ℕ, zero, suc, Bool, List, [], ◌∷◌, ◌++◌, length, Option, Some, None, if◌then◌else◌}
 use Rattle.jn_base.specs.declared.tree.Level.{Level}
 use Rattle.jn_base.specs.declared.tree.Level.TheVariants.{Or, And, Equal, Compare, Sum, Product}
 use Rattle.jn_base.specs.declared.tree.Op.{Op}
@@ -15,7 +15,6 @@ use Rattle.jn_grammar.specs.declared.fault.Fault.{Fault}
 use Rattle.jn_grammar.specs.declared.fault.Fault.TheVariants.{Syntax, Passed}
 use Rattle.jn_grammar.specs.Begins.{is_word}
 use Rattle.jn_grammar.specs.Answers.{passed}
-use Rattle.jn_grammar.specs.ReadTypes.{is_head}
 use Rattle.jn_grammar.specs.ReadExprs.{operator}
 
 pub data Symbol : Type 0 where

@@ -1,5 +1,5 @@
 -- Where a fault stands, of any grammar of whole inputs: `Is parts x` says that the words are one, with the tree x.
-use Rattle.std.specs.Prelude.{◌≡◌, ◌≤◌, ℕ, suc, Bool, true, false, List, [], ◌∷◌, ◌++◌, length, Option, Some, None, Result, Ok, Err}
+use Rattle.std.specs.Prelude.{◌≡◌, ℕ, suc, List, [], ◌∷◌, ◌++◌, length, Some}
 use Rattle.jn_base.specs.declared.refusal.Limit.{Limit}
 use Rattle.jn_base.specs.declared.word.Lexeme.{Lexeme}
 use Rattle.jn_base.specs.Parts.{Part, lexeme_of}

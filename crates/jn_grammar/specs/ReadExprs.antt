@@ -1,5 +1,5 @@
 -- Reading expressions.
-use Rattle.std.specs.Prelude.{ℕ, zero, suc, Bool, true, false, ◌&&◌, is_some, List, [], ◌∷◌, length, Option, Some, None, Result, Ok, Err, if◌then◌else◌}
+use Rattle.std.specs.Prelude.{ℕ, zero, suc, Bool, true, false, ◌&&◌, is_some, List, [], ◌∷◌, length, Option, Some, None, Ok, Err, if◌then◌else◌}
 use Rattle.jn_base.specs.declared.tree.Place.{Place}
 use Rattle.jn_base.specs.declared.tree.Named.{Named}
 use Rattle.jn_base.specs.declared.tree.Term.{Term}
@@ -181,8 +181,8 @@ module _ (b : Inner) where
 
   unfoldable pub unary_in : List Lexeme → Answer Expr
   unary_in ts = if begins (Marked Bang) ts then inverse_in ts
-    else (if begins (Marked Minus) ts then negative_in ts
-    else (if begins_view ts then viewed_in ts else post_in ts))
+      else (if begins (Marked Minus) ts then negative_in ts
+      else (if begins_view ts then viewed_in ts else post_in ts))
 
   unfoldable pub product_in : List Lexeme → Answer Expr
   product_in ts = chain_in level_.Product unary_in ts

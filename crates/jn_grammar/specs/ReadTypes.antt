@@ -1,5 +1,5 @@
 -- Reading names, terms, views and types. `left` more marks and prefix operators may be open.
-use Rattle.std.specs.Prelude.{ℕ, zero, suc, Bool, true, false, List, [], ◌∷◌, length, Result, Ok, Err, if◌then◌else◌}
+use Rattle.std.specs.Prelude.{ℕ, zero, suc, Bool, true, false, List, [], ◌∷◌, length, Ok, Err, if◌then◌else◌}
 use Rattle.jn_base.specs.declared.tree.Name.{Name}
 use Rattle.jn_base.specs.declared.tree.Place.{Place}
 use Rattle.jn_base.specs.declared.tree.Named.{Named}
@@ -18,7 +18,7 @@ use Rattle.jn_base.specs.declared.word.Word.TheVariants.{Name as Named_, Keyword
 use Rattle.jn_base.specs.declared.word.Lexeme.{Lexeme}
 use Rattle.jn_base.specs.Parts.{Atom, term}
 use Rattle.jn_grammar.specs.declared.fault.Fault.TheVariants.{Passed}
-use Rattle.jn_grammar.specs.Begins.{begins, behind, place}
+use Rattle.jn_grammar.specs.Begins.{begins, behind}
 use Rattle.jn_grammar.specs.Answers.{Answer, ◌>>=◌, here, expect, name_in, within, row}
 
 -- behind a dot
@@ -149,4 +149,4 @@ class_type_in strict left ts = do
 
 unfoldable pub type_in : Bool → ℕ → List Lexeme → Answer TypeTerm
 type_in strict left ts = if begins (Key Int) ts then Ok (type_term.Int, behind ts)
-  else (if begins (Key Boolean) ts then Ok (type_term.Bool, behind ts) else class_type_in strict left ts)
+    else (if begins (Key Boolean) ts then Ok (type_term.Bool, behind ts) else class_type_in strict left ts)

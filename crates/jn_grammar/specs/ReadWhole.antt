@@ -1,5 +1,5 @@
 -- An expression as a whole input: with the end of the file behind it, and nothing more.
-use Rattle.std.specs.Prelude.{ℕ, Bool, List, [], ◌∷◌, ◌++◌, Result, Ok, Err}
+use Rattle.std.specs.Prelude.{ℕ, Bool, List, [], ◌∷◌, ◌++◌, Ok}
 use Rattle.jn_base.specs.declared.tree.Place.{Place}
 use Rattle.jn_base.specs.declared.tree.Expr.{Expr as ExprTree}
 use Rattle.jn_base.specs.declared.tree.Level.TheVariants.{Or}
