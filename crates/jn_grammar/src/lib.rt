@@ -1,0 +1,18 @@
+//! The theory of reading: names, terms, types and expressions.
+//!
+//! `specs/` has a reader as plain functions on words, and a machine of what is still expected, one step a word.
+//! `proofs/` shows that the reader reads exactly the grammar, and that the machine does what the reader does.
+#![tactic(auto)]
+
+pub mod fault;
+pub mod laws;
+
+#[cfg(test)]
+mod tests {
+    use super::laws::whole_expressions;
+
+    #[test]
+    fn the_laws_are_there() {
+        whole_expressions();
+    }
+}
