@@ -20,3 +20,4 @@ pub mod FirstFault
 pub mod Finish
 pub mod Finishes
 pub mod Whole
+pub mod WholeInners

@@ -9,10 +9,12 @@ pub mod laws;
 
 #[cfg(test)]
 mod tests {
-    use super::laws::whole_expressions;
+    use super::laws::{whole_expressions, whole_types, whole_views};
 
     #[test]
     fn the_laws_are_there() {
         whole_expressions();
+        whole_types();
+        whole_views();
     }
 }
