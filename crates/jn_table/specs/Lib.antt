@@ -1,0 +1,4 @@
+pub mod Flat
+pub mod Gather
+pub mod Level
+pub mod Exact

@@ -1,0 +1,7 @@
+//! The class table.
+#![tactic(auto)]
+
+mod entry;
+mod gather;
+mod level;
+mod spot;
