@@ -90,7 +90,7 @@ module _ (p : Program) (es : List Entry) (n : ℕ) (level : Level) (children : L
         let s = ((r.2.lists).exact j).0 has in
         let y = Each-at (ChildPath level.paths.items) cp j s.super s.at in
         let m = are.sound j s.super s.at in
-        let same = same_some (slice_get level.paths.items (s.0).up) m.0 y.2.up m.1 y.2.up_at in
+        let same = same_some (slice_get level.paths.items (s.super).up) m.0 y.2.up m.1 y.2.up_at in
         let m' = subst (λ (R : Path). Member p R (s.super).name) same m.2 in
         let up = test_sound h.0 s.super r.2.direct r.2.sups h.2.up y.2.up r.2.direct_at r.2.sups_at h.2.up_at y.2.up_at m' s.by in
         (y.0, y.1, subst (λ (R : Path). Direct p R y.0) (sym h.2.is) (subst (Direct p ((h.0).name ∷ h.2.up)) (sym y.2.is) up))

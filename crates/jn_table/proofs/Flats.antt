@@ -1,10 +1,15 @@
 -- How the walk over declarations adds their entries.
-use Rattle.std.proofs.Common.{◌≡◌, ◌<◌, ◌+◌, ℕ, List, [], ◌∷◌, ◌++◌, length, Contains, arith, sym, ◌∙◌, ap, subst, refl, inl, inr, take, get_or, append_assoc, ◌⊎◌, zero, suc}
+use Rattle.std.proofs.Common.{◌≡◌, ◌<◌, ◌+◌, ℕ, List, [], ◌∷◌, ◌++◌, length, Contains, arith, sym, ◌∙◌, ap, subst, refl, inl, inr, take, get_or, append_assoc, ◌⊎◌, zero, suc, ◌≤◌}
 use Rattle.std.proofs.lemmas.List.{take_more, append-nil}
 use Rattle.std.proofs.lemmas.List.Elements.{Contains-push, Contains-append_left, Contains-append_right, Contains-append_cases}
+use Rattle.jn_table.proofs.Places.{take_whole}
 use Rattle.jn_base.specs.declared.tree.Name.{Name}
 use Rattle.jn_base.specs.declared.tree.Decl.{Decl}
+use Rattle.jn_base.specs.declared.tree.Field.{Field}
+use Rattle.jn_base.specs.declared.tree.Method.{Method}
 use Rattle.jn_base.specs.declared.tree.Member.{Member, out-Member}
+use Rattle.jn_base.specs.declared.tree.Member.TheVariants as member
+use Rattle.jn_base.specs.declared.tree.Member.TheVariants.{outs-Inner, outs-Slot, outs-Body}
 use Rattle.jn_base.specs.declared.tree.Member.TheOpen.{Member-F}
 use Rattle.jn_base.specs.declared.tree.Program.{Program}
 use Rattle.jn_base.specs.Paths.{Path, nested, and_nested}
@@ -163,3 +168,39 @@ adds_more ds i x N before mid after l is a b =
 pub adds_flat : (ds all : List Decl) (N : Path) (after : List Entry) → ds ≡ all → AddsFlat ds N [] after → FlatOf all N after
 adds_flat ds all N after same a =
     subst (λ (xs : List Decl). FlatOf xs N after) same (subst (FlatOf ds N) (sym a.is) a.flat)
+
+-- the walk over the members of a declaration
+pub adds_decl : (x : Decl) (N : Path) (before mid after : List Entry) (entry : Entry) (items : List Member) (i : ℕ)
+    → EntryIs entry N x → items ≡ x.members → length items ≤ i → mid ≡ before ++ entry ∷ []
+    → AddsFlat (nested (take i items)) (x.name.name ∷ N) mid after → AddsFlat (x ∷ []) N before after
+adds_decl x N before mid after entry items i is same past pushed a =
+    adds_one x N (x.name.name ∷ N) before after entry items is refl same
+    (subst (λ (m : List Entry). AddsFlat (nested items) (x.name.name ∷ N) m after) pushed
+    (subst (λ (ms : List Member). AddsFlat (nested ms) (x.name.name ∷ N) mid after) (take_whole i items past) a))
+
+inner_nested : (d : Decl) → nested (member.Inner d ∷ []) ≡ d ∷ []
+inner_nested d = simp outs-Inner
+
+slot_nested : (f : Field) → nested (member.Slot f ∷ []) ≡ []
+slot_nested f = simp outs-Slot
+
+body_nested : (m : Method) → nested (member.Body m ∷ []) ≡ []
+body_nested m = simp outs-Body
+
+-- by what a member is
+pub adds_inner : (ms : List Member) (i : ℕ) (m : Member) (d : Decl) (N M : Path) (before mid after : List Entry)
+    → i < length ms → m ≡ get_or ms i m → m ≡ member.Inner d → M ≡ N → AddsFlat (nested (take i ms)) N before mid
+    → AddsFlat (d ∷ []) M mid after → AddsFlat (nested (take (i + 1) ms)) N before after
+adds_inner ms i m d N M before mid after l is one same a b =
+    adds_nested ms i m d N before mid after l is (ap (λ x. nested (x ∷ [])) one ∙ inner_nested d) a
+    (subst (λ (Q : Path). AddsFlat (d ∷ []) Q mid after) same b)
+
+pub adds_slot : (ms : List Member) (i : ℕ) (m : Member) (field : Field) (N : Path) (before after : List Entry) → i < length ms → m ≡ get_or ms i m
+    → m ≡ member.Slot field → AddsFlat (nested (take i ms)) N before after → AddsFlat (nested (take (i + 1) ms)) N before after
+adds_slot ms i m field N before after l is one a =
+    adds_skipped ms i m N before after l is (ap (λ x. nested (x ∷ [])) one ∙ slot_nested field) a
+
+pub adds_body : (ms : List Member) (i : ℕ) (m : Member) (method : Method) (N : Path) (before after : List Entry) → i < length ms → m ≡ get_or ms i m
+    → m ≡ member.Body method → AddsFlat (nested (take i ms)) N before after → AddsFlat (nested (take (i + 1) ms)) N before after
+adds_body ms i m method N before after l is one a =
+    adds_skipped ms i m N before after l is (ap (λ x. nested (x ∷ [])) one ∙ body_nested method) a

@@ -1,3 +1,4 @@
+pub mod Places
 pub mod Flats
 pub mod Gathers
 pub mod DirectNext
@@ -5,3 +6,7 @@ pub mod NextLevel
 pub mod RootLevel
 pub mod LevelRows
 pub mod FlatExact
+pub mod Picked
+pub mod Members
+pub mod Orders
+pub mod DepthSteps

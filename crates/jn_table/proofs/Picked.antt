@@ -2,18 +2,16 @@
 use Rattle.std.proofs.Common.{◌≡◌, ◌<◌, ◌≤◌, ◌+◌, ℕ, List, [], ◌∷◌, ◌++◌, length, slice_get, Some, arith, sym, ◌∙◌, ap, subst, refl, take, get_or, zero, suc, Contains, append_assoc, ◌↔◌, Bool, ◌⊎◌, inl, inr}
 use Rattle.std.specs.declared.vec.Vec.{Vec}
 use Rattle.std.specs.declared.alloc.Global.{Global}
+use Rattle.std.proofs.lemmas.Bool.{cases_lt}
 use Rattle.std.proofs.lemmas.List.{take_more, append-nil}
 use Rattle.jn_reach.proofs.Searches.{same_some}
 use Rattle.jn_base.specs.declared.tree.Name.{Name}
+use Rattle.jn_table.proofs.Places.{same_item, take_none, take_whole}
 use Rattle.jn_table.specs.Gather.{MembersAt}
 use Rattle.jn_table.specs.Children.{Picks, nobody, takes, skips, AddsPicked, MemberOf, AllPicks, no_path, one_path, ChildrenFront}
 use Rattle.jn_table.specs.declared.entry.Entry.{Entry}
 use Rattle.jn_table.specs.declared.level.Child.{Child}
 use Rattle.jn_table.specs.declared.level.Level.{Level}
-
-take_none : {X : Type 0} (r : ℕ) → take r ([] {X}) ≡ []
-take_none zero = refl
-take_none (suc r) = refl
 
 take_push : {X : Type 0} (r : ℕ) (xs : List X) (x : X) → length (take r xs) < r → take r (xs ++ x ∷ []) ≡ take r xs ++ x ∷ []
 take_push zero xs x l = absurd (omega (arith, l))
@@ -29,11 +27,6 @@ pub take_within : {X : Type 0} (r : ℕ) (xs : List X) → length (take r xs) �
 take_within zero xs = omega arith
 take_within (suc r) [] = omega arith
 take_within (suc r) (x ∷ xs) = omega (arith, take_within r xs)
-
-pub take_whole : {X : Type 0} (r : ℕ) (xs : List X) → length xs ≤ r → take r xs ≡ xs
-take_whole r [] l = take_none r
-take_whole zero (x ∷ xs) l = absurd (omega (arith, l))
-take_whole (suc r) (x ∷ xs) l = ap (λ zs. x ∷ zs) (take_whole r xs (omega (arith, l)))
 
 pub take_joined : {X : Type 0} (r : ℕ) (xs ys : List X) → take r (take r xs ++ ys) ≡ take r (xs ++ ys)
 take_joined zero xs ys = refl
@@ -65,7 +58,7 @@ pub adds_nobody : (S : Name → Type 0) (up room : ℕ) (all : List Child) → l
 adds_nobody S up room all l = record { picked = []; picks = nobody; is = sym (take_whole room all l) ∙ ap (take room) (sym (append-nil all)) }
 
 module _ (S : Name → Type 0) (up room : ℕ) (order : List Name) (i : ℕ) (C : Name) (l : i < length order) (at : C ≡ get_or order i C) where
-  -- a member for whom there is room
+  -- a member for which there is room
   pub adds_here : (before all : List Child) → length all < room → S C → AddsPicked S up room (take i order) before all
       → AddsPicked S up room (take (i + 1) order) before (all ++ record { up = up; name = C } ∷ [])
   adds_here before all small s a = record {
@@ -76,7 +69,7 @@ module _ (S : Name → Type 0) (up room : ℕ) (order : List Name) (i : ℕ) (C 
         ∙ ap (take room) (simp append_assoc));
   }
 
-  -- one for whom there is none
+  -- one for which there is none
   pub adds_beyond : (before all : List Child) → room ≤ length all → S C → AddsPicked S up room (take i order) before all
       → AddsPicked S up room (take (i + 1) order) before all
   adds_beyond before all large s a = record {
@@ -95,6 +88,39 @@ module _ (S : Name → Type 0) (up room : ℕ) (order : List Name) (i : ℕ) (C 
     picks = subst (λ (ns : List Name). Picks S up ns a.picked) (sym (taken order i C l at)) (picks_skip C a.picks none);
     is = a.is;
   }
+
+names_differ : (a b : Name) → (a ≡ b) ⊎ (a ≡ b → ⊥)
+names_differ a b = elim (cases_lt a.0 b.0) [
+  | inl below ↦ inr (λ e. let n : a.0 ≡ b.0 = ap (λ (x : Name). x.0) e in omega (arith, below, n))
+  | inr past ↦ elim (cases_lt b.0 a.0) [
+    | inl above ↦ inr (λ e. let n : a.0 ≡ b.0 = ap (λ (x : Name). x.0) e in omega (arith, above, n))
+    | inr same ↦ let n : a.0 ≡ b.0 = omega (arith, past, same) in inl (ap (λ (k : ℕ). record { 0 = k }) n)
+  ]
+]
+
+pub named_or_not : (names : List Name) (C : Name) → Contains names C ⊎ (Contains names C → ⊥)
+named_or_not [] C = inr (λ c. omega (arith, c.1))
+named_or_not (D ∷ ns) C = elim (names_differ D C) [
+  | inl same ↦ inl (0, omega arith, same)
+  | inr other ↦ elim (named_or_not ns C) [
+    | inl c ↦ inl (suc c.0, omega (arith, c.1), c.2)
+    | inr none ↦ inr (λ c. not_here D ns C other none c)
+  ]
+] where
+  not_here : (D : Name) (ns : List Name) (C : Name) → (D ≡ C → ⊥) → (Contains ns C → ⊥) → Contains (D ∷ ns) C → ⊥
+  not_here D ns C other none (zero, l, e) = other e
+  not_here D ns C other none (suc k, l, e) = none (k, omega (arith, l), e)
+
+-- where there is no room left, whether it is one or not
+pub adds_full : (members : List Name) (up room : ℕ) (order : List Name) (i : ℕ) → i < length order → (before all : List Child) → room ≤ length all
+    → AddsPicked (Contains members) up room (take i order) before all → AddsPicked (Contains members) up room (take (i + 1) order) before all
+adds_full members up room order i l before all large a =
+    let C = get_or order i (record { 0 = 0 }) in
+    let at = same_item order i (record { 0 = 0 }) l in
+    elim (named_or_not members C) [
+      | inl s ↦ adds_beyond (Contains members) up room order i C l at before all large s a
+      | inr none ↦ adds_other (Contains members) up room order i C l at before all none a
+    ]
 
 pub front_none : (es : List Entry) (order : List Name) (level : Level) (room : ℕ) (all : List Child) → all ≡ [] → ChildrenFront es order level 0 room all
 front_none es order level room all none = record { whole = []; all = no_path; front = none ∙ sym (take_none room) }

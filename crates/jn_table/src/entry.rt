@@ -82,8 +82,10 @@ fn flatten(
     entries.push(entry)?;
     let inner = namespace.down(alloc, decl.name.name)?;
     for member in decl.members.as_slice() {
-        if let Member::Inner(nested) = member {
-            flatten(alloc, &inner, nested, entries)?;
+        match member {
+            Member::Inner(nested) => flatten(alloc, &inner, nested, entries)?,
+            Member::Slot(_) => {}
+            Member::Body(_) => {}
         }
     }
     Ok(())

@@ -3,4 +3,4 @@ use Rattle.jn_table.specs.Flat.{AddsFlat}
 use Rattle.jn_table.proofs.entry.entries.Given as goal
 
 abbrev pub invariant-loop-decl : goal.invariant-loop-decl
-invariant-loop-decl l = AddsFlat (take l.decl-index l.as_slice) l.root [] l.all.items
+invariant-loop-decl l = AddsFlat (take l.decl-index l.decl-items) [] [] l.all.items
