@@ -27,6 +27,10 @@ pub record Stage (es : List Entry) (levels : List Level) (level : Level) : Type 
   pub shaped : IsShaped level
   pub reaches : (p : Program) → IsFlat p es → Reaches p levels level
 
+pub no_items : {X : Type 0} (xs : List X) → length xs ≡ 0 → xs ≡ []
+no_items [] l = refl
+no_items (x ∷ xs) l = absurd (omega (arith, l))
+
 take_short : {X : Type 0} (r : ℕ) (xs : List X) → length (take r xs) < r → take r xs ≡ xs
 take_short zero xs l = absurd (omega (arith, l))
 take_short (suc r) [] l = refl

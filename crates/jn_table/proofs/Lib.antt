@@ -10,3 +10,4 @@ pub mod Picked
 pub mod Members
 pub mod Orders
 pub mod DepthSteps
+pub mod Universes

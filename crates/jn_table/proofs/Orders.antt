@@ -9,7 +9,8 @@ use Rattle.std.specs.Ordering.{nat_cmp, eq_by_cmp, ordering_then, ordering_rever
 use Rattle.std.specs.Cmp.{eq_by_cmp_equiv}
 use Rattle.std.specs.Cmp.Lexicographic.{slice_cmp}
 use Rattle.std.proofs.lemmas.Bool.{cases_lt}
-use Rattle.std.proofs.lemmas.Option.{slice_get_within, slice_get_read}
+use Rattle.std.proofs.lemmas.Option.{slice_get_within, slice_get_read, get_or_from_slice_get}
+use Rattle.std.proofs.lemmas.Map.Keys.{Less-from_sorted}
 use Rattle.std.proofs.lemmas.List.Filters.{dedup_is}
 use Rattle.std.proofs.lemmas.List.Kept.{Contains-dedup, Contains-from_dedup, IsStrictlySortedBy-dedup}
 use Rattle.std.proofs.lemmas.List.Sorted.{Contains-permutation, IsPermutation-sym}
@@ -19,6 +20,9 @@ use Rattle.jn_reach.specs.Each.{Each, none, more}
 use Rattle.jn_table.proofs.Places.{take_whole}
 use Rattle.jn_base.specs.declared.tree.Name.{Name}
 use Rattle.jn_base.specs.declared.tree.Text.{Text}
+use Rattle.jn_base.specs.Paths.{Path}
+use Rattle.jn_table.specs.Gather.{DeclaresIn}
+use Rattle.jn_table.specs.Depths.{IsOrdered}
 use Rattle.jn_table.specs.Order.{spelled_cmp, spelled_total, spelled_name, spelling, SpelledOf, order_cmp, IsOrderOf}
 use Rattle.jn_table.specs.declared.entry.Entry.{Entry}
 use Rattle.jn_table.specs.declared.order.Spelled.{Spelled}
@@ -146,3 +150,24 @@ no_less texts C e =
 
 pub each_all : {A B : Type 0} (R : A → B → Type 0) (xs : List A) (ys : List B) (i : ℕ) → length xs ≤ i → Each R (take i xs) ys → Each R xs ys
 each_all R xs ys i past e = subst (λ zs. Each R zs ys) (take_whole i xs past) e
+
+pub ordered : (texts : List Text) (es : List Entry) (order : List Name) → IsOrderOf texts es order → IsOrdered es order
+ordered texts es order o = record { distinct = distinct; declared = declared } where
+  apart : (i j : ℕ) (C : Name) → slice_get order i ≡ Some C → slice_get order j ≡ Some C → i < j → ⊥
+  apart i j C a b l =
+      let less = Less-from_sorted (order_cmp texts) order i j C o.in_order l (slice_get_within order j C b) in
+      no_less texts C (rw (get_or_from_slice_get order i C C a, get_or_from_slice_get order j C C b) at less)
+
+  distinct : (i j : ℕ) (C : Name) → slice_get order i ≡ Some C → slice_get order j ≡ Some C → i ≡ j
+  distinct i j C a b = elim (cases_lt i j) [
+    | inl below ↦ absurd (apart i j C a b below)
+    | inr past ↦ elim (cases_lt j i) [
+      | inl above ↦ absurd (apart j i C b a above)
+      | inr same ↦ omega (arith, past, same)
+    ]
+  ]
+
+  declared : (P : Path) (C : Name) → DeclaresIn es P C → (j : ℕ) × (slice_get order j ≡ Some C)
+  declared P C a =
+      let c = (o.exact C).1 (a.0, a.1, a.2, a.3, a.4.0) in
+      (c.0, slice_get_read order (length order) c.0 C refl c.1 (sym c.2))

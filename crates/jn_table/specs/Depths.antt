@@ -30,3 +30,8 @@ pub record AreDepths (p : Program) (levels : List Level) : Type 0 where
 abbrev pub Answers : List Entry → Found → Type 0
 Answers es (found.Whole levels) = (p : Program) → IsFlat p es → AreDepths p levels.items
 Answers es (found.Over R) = (p : Program) → IsFlat p es → InUniverse p R
+
+-- of the program
+abbrev pub IsUniverse : Program → Found → Type 0
+IsUniverse p (found.Whole levels) = AreDepths p levels.items
+IsUniverse p (found.Over R) = InUniverse p R

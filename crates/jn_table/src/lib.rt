@@ -8,3 +8,9 @@ mod gather;
 mod level;
 mod order;
 mod spot;
+mod universe;
+
+pub use depths::Found;
+pub use level::Level;
+pub use spot::Spot;
+pub use universe::universe;
