@@ -1,5 +1,5 @@
 -- How the loop goes from one depth to the next.
-use Rattle.std.proofs.Common.{◌≡◌, ◌<◌, ◌≤◌, ◌+◌, ℕ, List, [], ◌∷◌, ◌++◌, length, slice_get, Some, arith, sym, ◌∙◌, ap, subst, refl, zero, suc, take, get_or, ◌⊎◌, inl, inr, length-append, All}
+use Rattle.std.proofs.Common.{◌≡◌, ◌<◌, ◌≤◌, ◌+◌, ℕ, List, [], ◌∷◌, ◌++◌, length, slice_get, Some, arith, sym, ◌∙◌, ap, subst, refl, zero, suc, take, get_or, ◌⊎◌, inl, inr, length-append, All, Bool, true, nat_eq}
 use Rattle.std.proofs.lemmas.Bool.{cases_lt}
 use Rattle.std.proofs.lemmas.Option.{slice_get-get_or, slice_get_read}
 use Rattle.jn_reach.proofs.Rows.{slice_get-push_cases}
@@ -30,6 +30,12 @@ pub record Stage (es : List Entry) (levels : List Level) (level : Level) : Type 
 pub no_items : {X : Type 0} (xs : List X) → length xs ≡ 0 → xs ≡ []
 no_items [] l = refl
 no_items (x ∷ xs) l = absurd (omega (arith, l))
+
+is_zero : (n : ℕ) → nat_eq n 0 ≡ true → n ≡ 0
+is_zero n h = grind arith
+
+pub no_length : (b : Bool) (n : ℕ) → b ≡ nat_eq n 0 → b ≡ true → n ≡ 0
+no_length b n e t = is_zero n (sym e ∙ t)
 
 take_short : {X : Type 0} (r : ℕ) (xs : List X) → length (take r xs) < r → take r xs ≡ xs
 take_short zero xs l = absurd (omega (arith, l))

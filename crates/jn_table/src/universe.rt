@@ -8,7 +8,7 @@ use jn_base::tree::Program;
 use std::alloc::{AllocError, Global};
 
 /// The depths of a program's universe with the supers of each path, or one path more than there may be.
-pub fn universe(alloc: Global, program: &Program) -> Result<Found, AllocError>
+pub fn universe_of(alloc: Global, program: &Program) -> Result<Found, AllocError>
     ensures { IfOk result (λ found. IsUniverse program.now found) }
 {
     let entries = entries(alloc, program)?;

@@ -2,7 +2,7 @@ use Rattle.std.proofs.Common.{◌<◌, ◌-◌, arith, refl, length}
 use Rattle.std.proofs.lemmas.Option.{slice_get_read}
 use Rattle.jn_reach.proofs.Eachs.{All_here}
 use Rattle.jn_table.specs.declared.level.Child.{Child}
-use Rattle.jn_table.proofs.DepthSteps.{stage_root, stage_next, stage_last, stage_over, front_within, no_items}
+use Rattle.jn_table.proofs.DepthSteps.{stage_root, stage_next, stage_last, stage_over, front_within, no_items, no_length}
 use Rattle.jn_table.proofs.depths.depths.Goals as goal
 
 pub loop-level-init : goal.loop-level-init
@@ -30,7 +30,7 @@ returns-then-is_empty c =
     rw c.in_ok-push.ensures.items
     (stage_last c.args.entries.now c.args.order.now _ _ c.loop-level.room _ c.requires c.loop-level.invariant.0 c.in_ok-members.ensures
     (omega (arith, c.if-len-room.false, c.len.ensures, c.in_ok-members.members.ok.0))
-    (no_items _ (omega (arith, c.if-is_empty.ensures, c.if-is_empty.true, c.is_empty.ensures, c.in_ok-members.members.ok.0))))
+    (no_items _ (omega (arith, no_length _ _ c.is_empty.ensures c.if-is_empty.true, c.in_ok-members.members.ok.0))))
 
 pub next-requires-clause-children : goal.next-requires-clause-children
 next-requires-clause-children c = rw c.deref.ensures.value (front_within _ _ _ _ _ _ c.in_ok-members.ensures)
