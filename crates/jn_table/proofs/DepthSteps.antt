@@ -1,7 +1,7 @@
 -- How the loop goes from one depth to the next.
-use Rattle.std.proofs.Common.{◌≡◌, ◌<◌, ◌≤◌, ◌+◌, ℕ, List, [], ◌∷◌, ◌++◌, length, slice_get, Some, arith, sym, ◌∙◌, ap, subst, refl, zero, suc, take, get_or, ◌⊎◌, inl, inr, length-append, All, Bool, true, nat_eq}
+use Rattle.std.proofs.Common.{◌≡◌, ◌<◌, ◌+◌, ℕ, List, [], ◌∷◌, ◌++◌, length, slice_get, Some, arith, sym, ◌∙◌, ap, subst, refl, zero, suc, take, get_or, inl, inr, length-append, All, Bool, true, nat_eq}
 use Rattle.std.proofs.lemmas.Bool.{cases_lt}
-use Rattle.std.proofs.lemmas.Option.{slice_get-get_or, slice_get_read}
+use Rattle.std.proofs.lemmas.Option.{slice_get-get_or}
 use Rattle.jn_reach.proofs.Rows.{slice_get-push_cases}
 use Rattle.jn_reach.proofs.Searches.{same_some}
 use Rattle.jn_base.specs.declared.tree.Name.{Name}
@@ -12,7 +12,7 @@ use Rattle.jn_base.specs.Universe.{IsNamespace, InUniverse}
 use Rattle.jn_table.specs.Level.{IsShaped}
 use Rattle.jn_table.specs.Exact.{IsFlat, IsLevel, AreChildren, IsNextOf, IsRoot}
 use Rattle.jn_table.specs.Children.{ChildrenFront, AllPicks}
-use Rattle.jn_table.specs.Depths.{IsOrdered, AreLevels, AreDepths, Answers}
+use Rattle.jn_table.specs.Depths.{IsOrdered, AreLevels, AreDepths}
 use Rattle.jn_table.specs.declared.entry.Entry.{Entry}
 use Rattle.jn_table.specs.declared.level.Child.{Child}
 use Rattle.jn_table.specs.declared.level.Level.{Level}
@@ -124,6 +124,6 @@ pub stage_over : (es : List Entry) (order : List Name) (levels : List Level) (le
 stage_over es order levels level room k children c P o s f at up_at p flat =
     let r = s.reaches p flat in
     let m = picked_sound p es order (length levels) level flat r.here s.shaped o.distinct o.declared f.whole f.all k c
-        (in_whole es order level (length level.paths.items) room children f k c at) in
+    (in_whole es order level (length level.paths.items) room children f k c at) in
     let same = same_some (slice_get level.paths.items c.up) m.0 P m.1 up_at in
     ((r.here.paths_sound c.up P up_at).0, subst (λ (Q : Path). Member p Q c.name) same m.2)

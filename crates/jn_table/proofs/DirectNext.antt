@@ -1,17 +1,17 @@
 -- The direct supers of the paths of the next depth.
-use Rattle.std.proofs.Common.{◌≡◌, ◌<◌, ℕ, List, ◌∷◌, length, slice_get, Some, arith, sym, ◌∙◌, ap, inl, inr, subst, refl, Contains}
+use Rattle.std.proofs.Common.{◌≡◌, ℕ, List, ◌∷◌, slice_get, Some, sym, ◌∙◌, ap, subst, refl, Contains}
 use Rattle.std.specs.declared.vec.Vec.{Vec}
 use Rattle.std.specs.declared.alloc.Global.{Global}
-use Rattle.jn_reach.specs.Graph.{HasEdge, Graph, Lists}
+use Rattle.jn_reach.specs.Graph.{HasEdge, Graph}
 use Rattle.jn_reach.specs.Numbers.{Numbers}
-use Rattle.jn_reach.proofs.Eachs.{Each-at, Each-back, Each-length}
+use Rattle.jn_reach.proofs.Eachs.{Each-at, Each-back}
 use Rattle.jn_reach.proofs.Searches.{same_some}
 use Rattle.jn_base.specs.declared.tree.Name.{Name}
 use Rattle.jn_base.specs.declared.tree.Program.{Program}
 use Rattle.jn_base.specs.Paths.{Path, Extends}
 use Rattle.jn_base.specs.Supers.{Direct, inherited, written, Sup, Member, Above, by_heir, by_text}
 use Rattle.jn_table.specs.Gather.{IsPart}
-use Rattle.jn_table.specs.Level.{DirectChild, writes, inherits, DirectChildAt, DirectRow, DirectRows, ChildPath, ChildPaths}
+use Rattle.jn_table.specs.Level.{DirectChild, writes, inherits, DirectRow, DirectRows, ChildPath, ChildPaths}
 use Rattle.jn_table.specs.Exact.{IsFlat, IsLevel, AreChildren}
 use Rattle.jn_table.specs.declared.entry.Entry.{Entry}
 use Rattle.jn_table.specs.declared.gather.Part.TheVariants as part

@@ -1,7 +1,6 @@
 -- The entries of a program are its declarations.
-use Rattle.std.proofs.Common.{◌≡◌, ◌<◌, ℕ, List, [], ◌∷◌, length, Contains, arith, sym, ◌∙◌, ap, subst, refl, get_or, map, zero, suc}
+use Rattle.std.proofs.Common.{◌≡◌, List, [], ◌∷◌, Contains, arith, sym, ◌∙◌, ap, subst, refl, map, zero, suc}
 use Rattle.jn_base.specs.declared.tree.Name.{Name}
-use Rattle.jn_base.specs.declared.tree.Named.{Named}
 use Rattle.jn_base.specs.declared.tree.Decl.{Decl}
 use Rattle.jn_base.specs.declared.tree.Program.{Program}
 use Rattle.jn_base.specs.Paths.{Path, StandsIn, nested, Declared, Extends}

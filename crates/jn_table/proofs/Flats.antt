@@ -1,9 +1,8 @@
 -- How the walk over declarations adds their entries.
 use Rattle.std.proofs.Common.{◌≡◌, ◌<◌, ◌+◌, ℕ, List, [], ◌∷◌, ◌++◌, length, Contains, arith, sym, ◌∙◌, ap, subst, refl, inl, inr, take, get_or, append_assoc, ◌⊎◌, zero, suc, ◌≤◌}
 use Rattle.std.proofs.lemmas.List.{take_more, append-nil}
-use Rattle.std.proofs.lemmas.List.Elements.{Contains-push, Contains-append_left, Contains-append_right, Contains-append_cases}
+use Rattle.std.proofs.lemmas.List.Elements.{Contains-append_left, Contains-append_right, Contains-append_cases}
 use Rattle.jn_table.proofs.Places.{take_whole}
-use Rattle.jn_base.specs.declared.tree.Name.{Name}
 use Rattle.jn_base.specs.declared.tree.Decl.{Decl}
 use Rattle.jn_base.specs.declared.tree.Field.{Field}
 use Rattle.jn_base.specs.declared.tree.Method.{Method}
@@ -11,9 +10,8 @@ use Rattle.jn_base.specs.declared.tree.Member.{Member, out-Member}
 use Rattle.jn_base.specs.declared.tree.Member.TheVariants as member
 use Rattle.jn_base.specs.declared.tree.Member.TheVariants.{outs-Inner, outs-Slot, outs-Body}
 use Rattle.jn_base.specs.declared.tree.Member.TheOpen.{Member-F}
-use Rattle.jn_base.specs.declared.tree.Program.{Program}
 use Rattle.jn_base.specs.Paths.{Path, nested, and_nested}
-use Rattle.jn_table.specs.Flat.{Under, at_top, deeper, EntryIs, FlatOf, AddsFlat, IsFlattened}
+use Rattle.jn_table.specs.Flat.{Under, at_top, deeper, EntryIs, FlatOf, AddsFlat}
 use Rattle.jn_table.specs.declared.entry.Entry.{Entry}
 
 under_none : {A : Type 0} {N P : Path} {d : Decl} → Under [] N P d → A

@@ -1,5 +1,5 @@
 -- The rows of direct supers, by tests.
-use Rattle.std.proofs.Common.{◌≡◌, ℕ, List, length, slice_get, Some, get_or, refl, sym, ◌↔◌, ◌<◌, subst, Contains}
+use Rattle.std.proofs.Common.{◌≡◌, ℕ, List, length, slice_get, Some, get_or, refl, ◌↔◌, ◌<◌, subst, Contains}
 use Rattle.std.specs.List.{Any}
 use Rattle.std.specs.declared.vec.Vec.{Vec}
 use Rattle.std.specs.declared.alloc.Global.{Global}
@@ -8,7 +8,6 @@ use Rattle.jn_reach.specs.Graph.{Lists}
 use Rattle.jn_reach.proofs.Listing.{Lists-same}
 use Rattle.jn_reach.proofs.Searches.{same_some}
 use Rattle.jn_base.specs.declared.tree.Name.{Name}
-use Rattle.jn_base.specs.Paths.{Path}
 use Rattle.jn_table.specs.Gather.{PartAt}
 use Rattle.jn_table.specs.Level.{DirectBy, writes_it, inherits_it, DirectByAt, DirectChild, writes, inherits, DirectChildAt, DirectRow}
 use Rattle.jn_table.specs.declared.entry.Entry.{Entry}

@@ -1,17 +1,15 @@
 -- What is picked are the members of the paths, each once.
-use Rattle.std.proofs.Common.{◌≡◌, ◌<◌, ◌≤◌, ◌+◌, ℕ, List, [], ◌∷◌, ◌++◌, length, slice_get, Some, arith, sym, ◌∙◌, ap, subst, refl, zero, suc, Contains, ◌⊎◌, inl, inr, length-append}
-use Rattle.std.specs.declared.vec.Vec.{Vec}
-use Rattle.std.specs.declared.alloc.Global.{Global}
+use Rattle.std.proofs.Common.{◌≡◌, ◌<◌, ◌+◌, ℕ, List, [], ◌∷◌, ◌++◌, length, slice_get, Some, arith, sym, ◌∙◌, ap, subst, refl, zero, suc, inl, inr}
 use Rattle.std.proofs.lemmas.Bool.{cases_lt}
-use Rattle.std.proofs.lemmas.Option.{slice_get_within, slice_get_read, slice_get_cases}
+use Rattle.std.proofs.lemmas.Option.{slice_get_within, slice_get_cases}
 use Rattle.jn_reach.specs.Graph.{HasEdge}
 use Rattle.jn_reach.specs.Numbers.{AreDistinct}
 use Rattle.jn_reach.proofs.Searches.{same_some}
 use Rattle.jn_base.specs.declared.tree.Name.{Name}
 use Rattle.jn_base.specs.declared.tree.Program.{Program}
-use Rattle.jn_base.specs.Paths.{Path, Declared}
+use Rattle.jn_base.specs.Paths.{Path}
 use Rattle.jn_base.specs.Supers.{Sup, Member}
-use Rattle.jn_table.specs.Gather.{MembersAt, DeclaresIn}
+use Rattle.jn_table.specs.Gather.{DeclaresIn}
 use Rattle.jn_table.specs.Level.{IsShaped}
 use Rattle.jn_table.specs.Exact.{IsFlat, IsLevel, AreChildren}
 use Rattle.jn_table.specs.Children.{Picks, nobody, takes, skips, MemberOf, AllPicks, no_path, one_path}
@@ -131,12 +129,12 @@ all_distinct : {es : List Entry} {order : List Name} {level : Level} {n : ℕ} {
 all_distinct no_path u k l a b at_k at_l e f = absurd (cc at_k)
 all_distinct {es} {order} {level} (one_path {n = n} {cs = cs} {ds = ds} ps q) u k l a b at_k at_l e f =
     sides (λ x y. all_distinct ps u k l a b x y e f) (λ j c x. (all_sound ps j c x).within) (side cs ds k a at_k) (side cs ds l b at_l) where
-  sides : (slice_get cs k ≡ Some a → slice_get cs l ≡ Some b → k ≡ l) → ((j : ℕ) (c : Child) → slice_get cs j ≡ Some c → c.up < n)
-      → Side cs ds k a → Side cs ds l b → k ≡ l
-  sides below within (front x) (front y) = below x y
-  sides below within (front x) (back j h y) = absurd (omega (arith, within k a x, (picks_sound q j b y).up_is, e))
-  sides below within (back i g x) (front y) = absurd (omega (arith, within l b y, (picks_sound q i a x).up_is, e))
-  sides below within (back i g x) (back j h y) = let r = picks_distinct q u i j a b x y f in omega (arith, g, h, r)
+      sides : (slice_get cs k ≡ Some a → slice_get cs l ≡ Some b → k ≡ l) → ((j : ℕ) (c : Child) → slice_get cs j ≡ Some c → c.up < n)
+          → Side cs ds k a → Side cs ds l b → k ≡ l
+      sides below within (front x) (front y) = below x y
+      sides below within (front x) (back j h y) = absurd (omega (arith, within k a x, (picks_sound q j b y).up_is, e))
+      sides below within (back i g x) (front y) = absurd (omega (arith, within l b y, (picks_sound q i a x).up_is, e))
+      sides below within (back i g x) (back j h y) = let r = picks_distinct q u i j a b x y f in omega (arith, g, h, r)
 
 -- the order has each declared name
 abbrev pub HasDeclared : List Entry → List Name → Type 0

@@ -1,5 +1,5 @@
 -- The declared names in order.
-use Rattle.std.proofs.Common.{◌≡◌, ◌<◌, ℕ, List, [], ◌∷◌, Bool, true, Contains, ◌↔◌, refl, ap, subst, sym, ◌∙◌, IsPermutation, length, slice_get, Some, map, arith, zero, suc, get_or, ◌⊎◌, inl, inr, take, ◌≤◌}
+use Rattle.std.proofs.Common.{◌≡◌, ◌<◌, ℕ, List, [], ◌∷◌, Contains, ◌↔◌, refl, ap, subst, sym, ◌∙◌, IsPermutation, length, slice_get, Some, map, arith, zero, suc, inl, inr, take, ◌≤◌}
 use Rattle.std.specs.List.{Any, AllByRecursion}
 use Rattle.std.specs.declared.cmp.Ordering.{Ordering}
 use Rattle.std.specs.declared.cmp.Ordering.TheVariants.{Less, Equal, Greater}
@@ -14,7 +14,7 @@ use Rattle.std.proofs.lemmas.Map.Keys.{Less-from_sorted}
 use Rattle.std.proofs.lemmas.List.Filters.{dedup_is}
 use Rattle.std.proofs.lemmas.List.Kept.{Contains-dedup, Contains-from_dedup, IsStrictlySortedBy-dedup}
 use Rattle.std.proofs.lemmas.List.Sorted.{Contains-permutation, IsPermutation-sym}
-use Rattle.std.proofs.lemmas.Map.Lookups.{exact_bytes, exact_unsigned, CmpEqualImpliesEq}
+use Rattle.std.proofs.lemmas.Map.Lookups.{exact_bytes, exact_unsigned}
 use Rattle.std.proofs.lemmas.Map.Views.{tells_apart}
 use Rattle.jn_reach.specs.Each.{Each, none, more}
 use Rattle.jn_table.proofs.Places.{take_whole}
@@ -74,7 +74,7 @@ less_named : (texts : List Text) (s : Spelled) (xs : List Spelled) → AreSpelle
 less_named texts s [] are is all = tt
 less_named texts s (x ∷ xs) are is (now, rest) = (
   subst (λ (y : Spelled). spelled_cmp (spelling texts (spelled_name s)) y ≡ Less) (are x (first x xs))
-  (subst (λ (y : Spelled). spelled_cmp y x ≡ Less) is now),
+      (subst (λ (y : Spelled). spelled_cmp y x ≡ Less) is now),
   less_named texts s xs (λ y c. are y (later x xs y c)) is rest,
 )
 

@@ -1,5 +1,5 @@
 -- How the members of the paths of a depth are picked, as far as there is room.
-use Rattle.std.proofs.Common.{◌≡◌, ◌<◌, ◌≤◌, ◌+◌, ℕ, List, [], ◌∷◌, ◌++◌, length, slice_get, Some, arith, sym, ◌∙◌, ap, subst, refl, take, get_or, zero, suc, Contains, append_assoc, ◌↔◌, Bool, ◌⊎◌, inl, inr}
+use Rattle.std.proofs.Common.{◌≡◌, ◌<◌, ◌≤◌, ◌+◌, ℕ, List, [], ◌∷◌, ◌++◌, length, slice_get, Some, arith, sym, ◌∙◌, ap, subst, refl, take, get_or, zero, suc, Contains, append_assoc, ◌↔◌, ◌⊎◌, inl, inr}
 use Rattle.std.specs.declared.vec.Vec.{Vec}
 use Rattle.std.specs.declared.alloc.Global.{Global}
 use Rattle.std.proofs.lemmas.Bool.{cases_lt}
@@ -8,7 +8,7 @@ use Rattle.jn_reach.proofs.Searches.{same_some}
 use Rattle.jn_base.specs.declared.tree.Name.{Name}
 use Rattle.jn_table.proofs.Places.{same_item, take_none, take_whole}
 use Rattle.jn_table.specs.Gather.{MembersAt}
-use Rattle.jn_table.specs.Children.{Picks, nobody, takes, skips, AddsPicked, MemberOf, AllPicks, no_path, one_path, ChildrenFront}
+use Rattle.jn_table.specs.Children.{Picks, nobody, takes, skips, AddsPicked, MemberOf, no_path, one_path, ChildrenFront}
 use Rattle.jn_table.specs.declared.entry.Entry.{Entry}
 use Rattle.jn_table.specs.declared.level.Child.{Child}
 use Rattle.jn_table.specs.declared.level.Level.{Level}

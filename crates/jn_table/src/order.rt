@@ -84,11 +84,7 @@ fn spell(alloc: Global, names: &[Text], name: Name) -> Result<Spelled, AllocErro
 }
 
 /// The names of the entries with their bytes.
-fn all_spelled(
-    alloc: Global,
-    names: &[Text],
-    entries: &[Entry],
-) -> Result<Vec<Spelled>, AllocError>
+fn all_spelled(alloc: Global, names: &[Text], entries: &[Entry]) -> Result<Vec<Spelled>, AllocError>
     ensures { IfOk result (λ all. Each (λ entry s. SpelledOf names.now entry.name s) entries.now all.items) }
 {
     let mut all = Vec::new(alloc);

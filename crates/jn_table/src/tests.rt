@@ -53,7 +53,12 @@ fn two_families(alloc: Global) -> Result<Program, AllocError> {
     })
 }
 
-fn shown(rt: &impl Abort, alloc: Global, levels: &[Level], want: &[&str]) -> Result<(), AllocError> {
+fn shown(
+    rt: &impl Abort,
+    alloc: Global,
+    levels: &[Level],
+    want: &[&str],
+) -> Result<(), AllocError> {
     assert_eq!(rt; levels.len(), want.len());
     for (level, want) in levels.iter().zip(want) {
         let direct = level.direct.as_slice();

@@ -1,4 +1,4 @@
-use Rattle.std.proofs.Common.{arith, inl, inr}
+use Rattle.std.proofs.Common.{arith}
 use Rattle.jn_reach.proofs.Searches.{not_when}
 use Rattle.jn_table.proofs.Places.{same_item}
 use Rattle.jn_table.proofs.Picked.{adds_nobody, adds_here, adds_full, adds_other}

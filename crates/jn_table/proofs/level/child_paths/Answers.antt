@@ -1,8 +1,7 @@
-use Rattle.std.proofs.Common.{◌<◌, length, refl}
+use Rattle.std.proofs.Common.{refl}
 use Rattle.std.proofs.lemmas.Option.{slice_get_read}
-use Rattle.jn_reach.proofs.Eachs.{Each-more, Each-none, All_here}
+use Rattle.jn_reach.proofs.Eachs.{Each-more, Each-none}
 use Rattle.jn_table.specs.Level.{ChildPath}
-use Rattle.jn_table.specs.declared.level.Child.{Child}
 use Rattle.jn_table.proofs.Places.{same_item}
 use Rattle.jn_table.proofs.level.child_paths.Goals as goal
 
