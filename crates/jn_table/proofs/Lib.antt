@@ -1,0 +1,13 @@
+pub mod Places
+pub mod Flats
+pub mod Gathers
+pub mod DirectNext
+pub mod NextLevel
+pub mod RootLevel
+pub mod LevelRows
+pub mod FlatExact
+pub mod Picked
+pub mod Members
+pub mod Orders
+pub mod DepthSteps
+pub mod Universes

@@ -1,0 +1,173 @@
+-- The declared names in order.
+use Rattle.std.proofs.Common.{◌≡◌, ◌<◌, ℕ, List, [], ◌∷◌, Contains, ◌↔◌, refl, ap, subst, sym, ◌∙◌, IsPermutation, length, slice_get, Some, map, arith, zero, suc, inl, inr, take, ◌≤◌}
+use Rattle.std.specs.List.{Any, AllByRecursion}
+use Rattle.std.specs.declared.cmp.Ordering.{Ordering}
+use Rattle.std.specs.declared.cmp.Ordering.TheVariants.{Less, Equal, Greater}
+use Rattle.std.specs.List.Sorted.{IsSorted, IsStrictlySortedBy}
+use Rattle.std.specs.List.Retain.{IsFiltered, DiffersFromLast}
+use Rattle.std.specs.Ordering.{nat_cmp, eq_by_cmp, ordering_then, ordering_reverse}
+use Rattle.std.specs.Cmp.{eq_by_cmp_equiv}
+use Rattle.std.specs.Cmp.Lexicographic.{slice_cmp}
+use Rattle.std.proofs.lemmas.Bool.{cases_lt}
+use Rattle.std.proofs.lemmas.Option.{slice_get_within, slice_get_read, get_or_from_slice_get}
+use Rattle.std.proofs.lemmas.Map.Keys.{Less-from_sorted}
+use Rattle.std.proofs.lemmas.List.Filters.{dedup_is}
+use Rattle.std.proofs.lemmas.List.Kept.{Contains-dedup, Contains-from_dedup, IsStrictlySortedBy-dedup}
+use Rattle.std.proofs.lemmas.List.Sorted.{Contains-permutation, IsPermutation-sym}
+use Rattle.std.proofs.lemmas.Map.Lookups.{exact_bytes, exact_unsigned}
+use Rattle.std.proofs.lemmas.Map.Views.{tells_apart}
+use Rattle.jn_reach.specs.Each.{Each, none, more}
+use Rattle.jn_table.proofs.Places.{take_whole}
+use Rattle.jn_base.specs.declared.tree.Name.{Name}
+use Rattle.jn_base.specs.declared.tree.Text.{Text}
+use Rattle.jn_base.specs.Paths.{Path}
+use Rattle.jn_table.specs.Gather.{DeclaresIn}
+use Rattle.jn_table.specs.Depths.{IsOrdered}
+use Rattle.jn_table.specs.Order.{spelled_cmp, spelled_total, spelled_name, spelling, SpelledOf, order_cmp, IsOrderOf}
+use Rattle.jn_table.specs.declared.entry.Entry.{Entry}
+use Rattle.jn_table.specs.declared.order.Spelled.{Spelled}
+
+then_second : (r s : Ordering) → ordering_then r s ≡ Equal → s ≡ Equal
+then_second Less s e = cc
+then_second Equal s e = e
+then_second Greater s e = cc
+
+then_first : (r s : Ordering) → ordering_then r s ≡ Equal → r ≡ Equal
+then_first Less s e = cc
+then_first Equal s e = refl
+then_first Greater s e = cc
+
+-- what ties is the same
+spelled_exact : (x y : Spelled) → spelled_cmp x y ≡ Equal → x ≡ y
+spelled_exact x y e =
+    let b = exact_bytes x.bytes y.bytes (then_first (slice_cmp nat_cmp x.bytes y.bytes) (nat_cmp x.number y.number) e) in
+    let n = exact_unsigned x.number y.number (then_second (slice_cmp nat_cmp x.bytes y.bytes) (nat_cmp x.number y.number) e) in
+    ap (λ (bs : List ℕ). record { bytes = bs; number = x.number }) b ∙ ap (λ (k : ℕ). record { bytes = y.bytes; number = k }) n
+
+deduped_same : (xs ys zs : List Spelled) → IsPermutation xs ys → IsFiltered (DiffersFromLast (eq_by_cmp spelled_cmp)) [] ys zs
+    → (n : Spelled) → Contains zs n ↔ Contains xs n
+deduped_same xs ys zs p f n =
+    let e = dedup_is (eq_by_cmp spelled_cmp) ys zs f in (
+      λ h. Contains-permutation ys xs n (IsPermutation-sym xs ys p) (Contains-from_dedup (eq_by_cmp spelled_cmp) ys n (subst (λ (l : List Spelled). Contains l n) e h)),
+      λ h. subst (λ (l : List Spelled). Contains l n) (sym e)
+          (Contains-dedup (eq_by_cmp_equiv spelled_total) (tells_apart spelled_exact) ys n (Contains-permutation xs ys n p h)),
+    )
+
+deduped_sorted : (ys zs : List Spelled) → IsSorted spelled_cmp ys → IsFiltered (DiffersFromLast (eq_by_cmp spelled_cmp)) [] ys zs
+    → IsStrictlySortedBy spelled_cmp zs
+deduped_sorted ys zs s f =
+    subst (IsStrictlySortedBy spelled_cmp) (sym (dedup_is (eq_by_cmp spelled_cmp) ys zs f))
+    (IsStrictlySortedBy-dedup spelled_total (λ x y. refl) ys s)
+
+-- each is the spelling of its name
+abbrev AreSpelled : List Text → List Spelled → Type 0
+AreSpelled texts xs = (s : Spelled) → Contains xs s → s ≡ spelling texts (spelled_name s)
+
+first : {X : Type 0} (x : X) (xs : List X) → Contains (x ∷ xs) x
+first x xs = (0, omega arith, refl)
+
+later : {X : Type 0} (y : X) (xs : List X) (x : X) → Contains xs x → Contains (y ∷ xs) x
+later y xs x (k, l, e) = (suc k, omega (arith, l), e)
+
+less_named : (texts : List Text) (s : Spelled) (xs : List Spelled) → AreSpelled texts xs → s ≡ spelling texts (spelled_name s)
+    → AllByRecursion (λ y. spelled_cmp s y ≡ Less) xs → AllByRecursion (λ n. order_cmp texts (spelled_name s) n ≡ Less) (map spelled_name xs)
+less_named texts s [] are is all = tt
+less_named texts s (x ∷ xs) are is (now, rest) = (
+  subst (λ (y : Spelled). spelled_cmp (spelling texts (spelled_name s)) y ≡ Less) (are x (first x xs))
+      (subst (λ (y : Spelled). spelled_cmp y x ≡ Less) is now),
+  less_named texts s xs (λ y c. are y (later x xs y c)) is rest,
+)
+
+names_sorted : (texts : List Text) (xs : List Spelled) → AreSpelled texts xs → IsStrictlySortedBy spelled_cmp xs
+    → IsStrictlySortedBy (order_cmp texts) (map spelled_name xs)
+unfolding IsStrictlySortedBy
+names_sorted texts [] are s = tt
+names_sorted texts (x ∷ xs) are (now, rest) = (
+  less_named texts x xs (λ y c. are y (later x xs y c)) (are x (first x xs)) now,
+  names_sorted texts xs (λ y c. are y (later x xs y c)) rest,
+)
+
+in_map : (xs : List Spelled) (s : Spelled) (C : Name) → Contains xs s → spelled_name s ≡ C → Contains (map spelled_name xs) C
+in_map [] s C c is = absurd (omega (arith, c.1))
+in_map (y ∷ ys) s C (zero, l, e) is = (0, omega arith, ap spelled_name e ∙ is)
+in_map (y ∷ ys) s C (suc k, l, e) is =
+    let c = in_map ys s C (k, omega (arith, l), e) is in
+    (suc c.0, omega (arith, c.1), c.2)
+
+map_in : (xs : List Spelled) (C : Name) → Contains (map spelled_name xs) C → (s : Spelled) × Contains xs s × (spelled_name s ≡ C)
+map_in [] C c = absurd (omega (arith, c.1))
+map_in (y ∷ ys) C (zero, l, e) = (y, first y ys, e)
+map_in (y ∷ ys) C (suc k, l, e) =
+    let r = map_in ys C (k, omega (arith, l), e) in
+    (r.0, later y ys r.0 r.1, r.2)
+
+-- the entries and their spellings
+each_spelled : (texts : List Text) {es : List Entry} {xs : List Spelled} → Each (λ (e : Entry) (s : Spelled). SpelledOf texts e.name s) es xs
+    → (s : Spelled) → Contains xs s → (e : Entry) × Contains es e × (s ≡ spelling texts e.name)
+each_spelled texts none s c = absurd (omega (arith, c.1))
+each_spelled texts (more {x = e} {y = t} {xs = es} {ys = xs} r rest) s (zero, l, h) = (e, first e es, sym h ∙ r)
+each_spelled texts (more {x = e} {y = t} {xs = es} {ys = xs} r rest) s (suc k, l, h) =
+    let f = each_spelled texts rest s (k, omega (arith, l), h) in
+    (f.0, later e es f.0 f.1, f.2)
+
+spelled_each : (texts : List Text) {es : List Entry} {xs : List Spelled} → Each (λ (e : Entry) (s : Spelled). SpelledOf texts e.name s) es xs
+    → (e : Entry) → Contains es e → Contains xs (spelling texts e.name)
+spelled_each texts none e c = absurd (omega (arith, c.1))
+spelled_each texts (more {x = d} {y = t} {xs = es} {ys = xs} r rest) e (zero, l, h) =
+    subst (λ (f : Entry). Contains (t ∷ xs) (spelling texts f.name)) h (subst (Contains (t ∷ xs)) r (first t xs))
+spelled_each texts (more {x = d} {y = t} {xs = es} {ys = xs} r rest) e (suc k, l, h) =
+    later t xs (spelling texts e.name) (spelled_each texts rest e (k, omega (arith, l), h))
+
+pub order_is : (texts : List Text) (es : List Entry) (xs ys zs : List Spelled) (order : List Name)
+    → Each (λ (e : Entry) (s : Spelled). SpelledOf texts e.name s) es xs → IsPermutation xs ys → IsSorted spelled_cmp ys
+    → IsFiltered (DiffersFromLast (eq_by_cmp spelled_cmp)) [] ys zs → order ≡ map spelled_name zs → IsOrderOf texts es order
+order_is texts es xs ys zs order each p s f is = record {
+  exact = λ C. (to C, from C);
+  in_order = subst (IsStrictlySortedBy (order_cmp texts)) (sym is) (names_sorted texts zs are (deduped_sorted ys zs s f));
+} where
+  are : AreSpelled texts zs
+  are t c =
+      let e = each_spelled texts each t ((deduped_same xs ys zs p f t).0 c) in
+      e.2 ∙ ap (λ (n : Name). spelling texts n) (sym (ap spelled_name e.2))
+
+  to : (C : Name) → Contains order C → Any (λ (e : Entry). e.name ≡ C) es
+  to C c =
+      let m = map_in zs C (subst (λ (ns : List Name). Contains ns C) is c) in
+      let e = each_spelled texts each m.0 ((deduped_same xs ys zs p f m.0).0 m.1) in
+      (e.1.0, e.0, e.1.1, e.1.2, sym (ap spelled_name e.2) ∙ m.2)
+
+  from : (C : Name) → Any (λ (e : Entry). e.name ≡ C) es → Contains order C
+  from C a =
+      let c = spelled_each texts each a.1 (a.0, a.2, a.3) in
+      subst (λ (ns : List Name). Contains ns C) (sym is) (in_map zs (spelling texts (a.1).name) C ((deduped_same xs ys zs p f (spelling texts (a.1).name)).1 c) a.4)
+
+-- none comes before itself, so that none is there twice
+no_less : (texts : List Text) (C : Name) → order_cmp texts C C ≡ Less → ⊥
+no_less texts C e =
+    let s = spelling texts C in
+    let c : Less ≡ Greater = sym e ∙ (spelled_total.antisymm s s ∙ ap ordering_reverse e) in
+    cc c
+
+pub each_all : {A B : Type 0} (R : A → B → Type 0) (xs : List A) (ys : List B) (i : ℕ) → length xs ≤ i → Each R (take i xs) ys → Each R xs ys
+each_all R xs ys i past e = subst (λ zs. Each R zs ys) (take_whole i xs past) e
+
+pub ordered : (texts : List Text) (es : List Entry) (order : List Name) → IsOrderOf texts es order → IsOrdered es order
+ordered texts es order o = record { distinct = distinct; declared = declared } where
+  apart : (i j : ℕ) (C : Name) → slice_get order i ≡ Some C → slice_get order j ≡ Some C → i < j → ⊥
+  apart i j C a b l =
+      let less = Less-from_sorted (order_cmp texts) order i j C o.in_order l (slice_get_within order j C b) in
+      no_less texts C (rw (get_or_from_slice_get order i C C a, get_or_from_slice_get order j C C b) at less)
+
+  distinct : (i j : ℕ) (C : Name) → slice_get order i ≡ Some C → slice_get order j ≡ Some C → i ≡ j
+  distinct i j C a b = elim (cases_lt i j) [
+    | inl below ↦ absurd (apart i j C a b below)
+    | inr past ↦ elim (cases_lt j i) [
+      | inl above ↦ absurd (apart j i C b a above)
+      | inr same ↦ omega (arith, past, same)
+    ]
+  ]
+
+  declared : (P : Path) (C : Name) → DeclaresIn es P C → (j : ℕ) × (slice_get order j ≡ Some C)
+  declared P C a =
+      let c = (o.exact C).1 (a.0, a.1, a.2, a.3, a.4.0) in
+      (c.0, slice_get_read order (length order) c.0 C refl c.1 (sym c.2))

@@ -1,0 +1,61 @@
+-- One depth of the table, as lists.
+use Rattle.std.specs.Prelude.{◌≡◌, ◌<◌, ℕ, List, ◌∷◌, Contains, length, slice_get, Some, All, Any}
+use Rattle.std.specs.declared.vec.Vec.{Vec}
+use Rattle.std.specs.declared.alloc.Global.{Global}
+use Rattle.jn_reach.specs.Each.{Each}
+use Rattle.jn_reach.specs.Graph.{Lists}
+use Rattle.jn_base.specs.declared.tree.Name.{Name}
+use Rattle.jn_base.specs.Paths.{Path}
+use Rattle.jn_table.specs.Gather.{PartAt}
+use Rattle.jn_table.specs.declared.entry.Entry.{Entry}
+use Rattle.jn_table.specs.declared.gather.Part.TheVariants as part
+use Rattle.jn_table.specs.declared.level.Child.{Child}
+use Rattle.jn_table.specs.declared.level.Level.{Level}
+
+-- by the names that the declarations of the heir extend, and the numbers of the direct supers of its namespace
+pub data DirectBy (written : List Name) (direct : List ℕ) (heir super : Child) : Type 0 where
+  writes_it : heir.up ≡ super.up → Contains written super.name → DirectBy written direct heir super
+  inherits_it : heir.name ≡ super.name → Contains direct super.up → DirectBy written direct heir super
+
+-- the path of that number is one
+pub record DirectByAt (written : List Name) (direct : List ℕ) (children : List Child) (heir : Child) (k : ℕ) : Type 0 where
+  pub super : Child
+  pub at : slice_get children k ≡ Some super
+  pub by : DirectBy written direct heir super
+
+-- by the numbers of the direct supers and of the supers of the heir's namespace
+pub data DirectChild (es : List Entry) (paths : List Path) (direct sups : List ℕ) (heir super : Child) : Type 0 where
+  writes : heir.up ≡ super.up → Any (PartAt es paths heir.name part.Extends super.name) sups → DirectChild es paths direct sups heir super
+  inherits : heir.name ≡ super.name → Contains direct super.up → DirectChild es paths direct sups heir super
+
+-- the path of that number is one
+pub record DirectChildAt (es : List Entry) (paths : List Path) (direct sups : List ℕ) (children : List Child) (heir : Child) (k : ℕ) : Type 0 where
+  pub super : Child
+  pub at : slice_get children k ≡ Some super
+  pub by : DirectChild es paths direct sups heir super
+
+-- the numbers of the direct supers of a path of the next depth, in order
+pub record DirectRow (es : List Entry) (level : Level) (children : List Child) (heir : Child) (row : List ℕ) : Type 0 where
+  pub direct : Vec ℕ Global
+  pub direct_at : slice_get level.direct.items heir.up ≡ Some direct
+  pub sups : Vec ℕ Global
+  pub sups_at : slice_get level.sups.items heir.up ≡ Some sups
+  pub lists : Lists (DirectChildAt es level.paths.items direct.items sups.items children heir) row
+
+-- the rows of a level fit its paths
+pub record IsShaped (level : Level) : Type 0 where
+  pub direct : length level.direct.items ≡ length level.paths.items
+  pub sups : length level.sups.items ≡ length level.paths.items
+  pub sups_in : All (λ row. All (λ j. j < length level.paths.items) row.items) level.sups.items
+
+abbrev pub DirectRows : List Entry → Level → List Child → List Child → List (Vec ℕ Global) → Type 0
+DirectRows es level children heirs rows = Each (λ heir row. DirectRow es level children heir row.items) heirs rows
+
+-- the path of a child is its name under the path of that number
+pub record ChildPath (paths : List Path) (child : Child) (path : Path) : Type 0 where
+  pub up : Path
+  pub up_at : slice_get paths child.up ≡ Some up
+  pub is : path ≡ child.name ∷ up
+
+abbrev pub ChildPaths : List Path → List Child → List Path → Type 0
+ChildPaths paths children all = Each (ChildPath paths) children all

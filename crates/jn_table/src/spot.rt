@@ -1,0 +1,87 @@
+ghost use Rattle.std.specs.Prelude.{◌≡◌, ◌↔◌, [], ◌∷◌, reverse, IsTrue, IfOk, length};
+
+use jn_base::path::Path;
+use jn_base::tree::Name;
+use sqlite_items::Items;
+use std::alloc::{AllocError, Global};
+use std::marker::Model;
+
+/// A path, which contracts see as its names, the innermost first.
+#[derive(Drop)]
+pub struct Spot {
+    names: Items<Name>,
+}
+
+impl Model for Spot {
+    ghost use Rattle.std.specs.Prelude.{List, reverse};
+    ghost use Rattle.jn_base.specs.declared.tree.Name.{Name as AName};
+
+    ghost Value = { List AName };
+
+    ghost view = { λ spot. reverse spot.names };
+}
+
+/// Whether the two are one name.
+pub fn is_name(a: Name, b: Name) -> bool
+    ensures { IsTrue result ↔ (a ≡ b) }
+{
+    a.0 == b.0
+}
+
+/// Whether two lists have the same names.
+fn same(names: &[Name], others: &[Name]) -> bool
+    ensures { IsTrue result ↔ (names.now ≡ others.now) }
+{
+    if names.len() != others.len() {
+        return false;
+    }
+    for i in 0..names.len() {
+        if !is_name(names[i], others[i]) {
+            return false;
+        }
+    }
+    true
+}
+
+impl Spot {
+    /// The program itself, the namespace of the top-level names.
+    pub fn root(alloc: Global) -> Spot
+        ensures { result ≡ [] }
+    {
+        Spot {
+            names: Items::new(alloc),
+        }
+    }
+
+    /// Whether both are one path.
+    pub fn is(&self, other: &Spot) -> bool
+        ensures { IsTrue result ↔ (self.now ≡ other.now) }
+    {
+        same(self.names.as_slice(), other.names.as_slice())
+    }
+
+    /// The same path.
+    pub fn copy(&self, alloc: Global) -> Result<Spot, AllocError>
+        ensures { IfOk result (λ spot. spot ≡ self.now) }
+    {
+        let names = Items::from_slice(alloc, self.names.as_slice())?;
+        Ok(Spot { names })
+    }
+
+    /// The path with one more name behind its last one.
+    pub fn down(&self, alloc: Global, name: Name) -> Result<Spot, AllocError>
+        ensures { IfOk result (λ spot. spot ≡ name ∷ self.now) }
+    {
+        let mut names = Items::from_slice(alloc, self.names.as_slice())?;
+        names.push(name)?;
+        Ok(Spot { names })
+    }
+
+    /// The path with the outermost name first.
+    pub fn shown(&self, alloc: Global) -> Result<Path, AllocError>
+        ensures { IfOk result (λ path. path.names ≡ reverse self.now) }
+    {
+        let names = Items::from_slice(alloc, self.names.as_slice())?;
+        Ok(Path { names })
+    }
+}

@@ -1,0 +1,18 @@
+ghost use Rattle.std.specs.Prelude.{IfOk};
+ghost use Rattle.jn_table.specs.Depths.{IsUniverse};
+
+use crate::depths::{Found, depths};
+use crate::entry::entries;
+use crate::order::name_order;
+use jn_base::tree::Program;
+use std::alloc::{AllocError, Global};
+
+/// The depths of a program's universe with the supers of each path, or one path more than there may be.
+pub fn universe_of(alloc: Global, program: &Program) -> Result<Found, AllocError>
+    ensures { IfOk result (λ found. IsUniverse program.now found) }
+{
+    let entries = entries(alloc, program)?;
+    let order = name_order(alloc, program.names.as_slice(), &entries)?;
+    let found = depths(alloc, &entries, &order)?;
+    Ok(found)
+}
