@@ -1,0 +1,75 @@
+-- Declarations and programs as they are written: each without its indentation and the line feed at its end.
+use Rattle.std.specs.Prelude.{ℕ, Bool, true, false, List, [], ◌∷◌, ◌++◌, map, Option, Some, None, codes}
+use Rattle.jn_base.specs.declared.tree.Text.{Text}
+use Rattle.jn_base.specs.declared.tree.Named.{Named}
+use Rattle.jn_base.specs.declared.tree.Kind.{Kind}
+use Rattle.jn_base.specs.declared.tree.Kind.TheVariants as kind
+use Rattle.jn_base.specs.declared.tree.TypeTerm.{TypeTerm}
+use Rattle.jn_base.specs.declared.tree.Param.{Param}
+use Rattle.jn_base.specs.declared.tree.Constraint.{Constraint}
+use Rattle.jn_base.specs.declared.tree.Field.{Field}
+use Rattle.jn_base.specs.declared.tree.Method.{Method}
+use Rattle.jn_base.specs.declared.tree.Program.{Program}
+use Rattle.jn_base.specs.declared.tree.Decl.{Decl, fold-Decl}
+use Rattle.jn_base.specs.declared.tree.Member.{Member, fold-Member}
+use Rattle.jn_base.specs.declared.tree.Member.TheOpen.{Member-F, Decl-F}
+use Rattle.jn_printer.specs.Pieces.{text_if, joined, name_text, names_text, type_text, view_text}
+use Rattle.jn_printer.specs.StmtText.{Indented, lines, braced, body_text}
+
+abbrev pub kind_text : Kind → List ℕ
+kind_text kind.Class = codes "class "
+kind_text kind.Package = codes "package "
+
+-- a list of names behind its word; left out where there are none
+abbrev pub list_text : List Text → List ℕ → List Named → List ℕ
+list_text ns word [] = []
+list_text ns word (x ∷ xs) = word ++ names_text ns (x ∷ xs)
+
+-- T f;
+abbrev pub field_text : List Text → Field → List ℕ
+field_text ns f = type_text ns f.ty ++ (codes " " ++ (name_text ns f.name.name ++ codes ";"))
+
+abbrev pub result_text : List Text → Option TypeTerm → List ℕ
+result_text ns None = codes "void"
+result_text ns (Some ty) = type_text ns ty
+
+-- final T a
+abbrev pub param_text : List Text → Param → List ℕ
+param_text ns p = text_if p.fixed (codes "final ") ++ (type_text ns p.ty ++ (codes " " ++ name_text ns p.name.name))
+
+-- S -> T
+abbrev pub constraint_text : List Text → Constraint → List ℕ
+constraint_text ns c = view_text ns c.from ++ (codes " -> " ++ view_text ns c.to)
+
+abbrev pub sharing_text : List Text → List Constraint → List ℕ
+sharing_text ns [] = []
+sharing_text ns (c ∷ cs) = codes " sharing " ++ joined (constraint_text ns) (codes ", ") false (c ∷ cs)
+
+-- R m(final T a, T b) sharing S -> T, S -> T { .. }
+abbrev pub method_text : (names texts : List Text) → Method → Indented
+method_text ns ts m indent =
+    result_text ns m.result ++ (codes " " ++ (name_text ns m.name.name ++ (codes "("
+    ++ (joined (param_text ns) (codes ", ") false m.params ++ (codes ")"
+    ++ (sharing_text ns m.sharing ++ (codes " " ++ body_text ns ts m.body indent)))))))
+
+abbrev pub member_step : (names texts : List Text) → Member-F Indented Indented → Indented
+member_step ns ts (Member-F.Inner d) indent = d indent
+member_step ns ts (Member-F.Slot f) indent = field_text ns f
+member_step ns ts (Member-F.Body m) indent = method_text ns ts m indent
+
+-- class N extends A & B shares X adapts Y { .. }
+abbrev pub decl_step : (names texts : List Text) → Decl-F Indented Indented → Indented
+decl_step ns ts d indent =
+    kind_text d.kind ++ (name_text ns d.name.name ++ (list_text ns (codes " extends ") d.extends
+    ++ (list_text ns (codes " shares ") d.shares ++ (list_text ns (codes " adapts ") d.adapts
+    ++ (codes " " ++ braced indent d.members)))))
+
+abbrev pub member_text : (names texts : List Text) → Member → Indented
+member_text ns ts = fold-Member Indented Indented (member_step ns ts) (decl_step ns ts)
+
+abbrev pub decl_text : (names texts : List Text) → Decl → Indented
+decl_text ns ts = fold-Decl Indented Indented (member_step ns ts) (decl_step ns ts)
+
+-- The canonical text of a program: its declarations, each on lines of its own.
+abbrev pub program_text : Program → List ℕ
+program_text p = lines [] (map (decl_text p.names p.texts) p.decls)
