@@ -1,3 +1,4 @@
 pub mod Bare
-pub mod Shown
 pub mod EscapeProof
+pub mod StmtTexts
+pub mod DeclTexts

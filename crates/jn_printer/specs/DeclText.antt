@@ -64,10 +64,10 @@ decl_step ns ts d indent =
     ++ (list_text ns (codes " shares ") d.shares ++ (list_text ns (codes " adapts ") d.adapts
     ++ (codes " " ++ braced indent d.members)))))
 
-abbrev pub member_text : (names texts : List Text) → Member → Indented
+unfoldable pub member_text : (names texts : List Text) → Member → Indented
 member_text ns ts = fold-Member Indented Indented (member_step ns ts) (decl_step ns ts)
 
-abbrev pub decl_text : (names texts : List Text) → Decl → Indented
+unfoldable pub decl_text : (names texts : List Text) → Decl → Indented
 decl_text ns ts = fold-Decl Indented Indented (member_step ns ts) (decl_step ns ts)
 
 -- The canonical text of a program: its declarations, each on lines of its own.

@@ -1,5 +1,5 @@
 -- Expressions as they are written.
-use Rattle.std.specs.Prelude.{ℕ, Bool, true, false, List, [], ◌∷◌, ◌++◌, Option, Some, None, codes, not, nat_le}
+use Rattle.std.specs.Prelude.{ℕ, Bool, true, false, List, [], ◌∷◌, ◌++◌, map, Option, Some, None, codes, not, nat_le}
 use Rattle.std.specs.Fmt.{signed_decimal}
 use Rattle.jn_base.specs.declared.tree.Text.{Text}
 use Rattle.jn_base.specs.declared.tree.Level.{Level}
@@ -147,14 +147,19 @@ link_step ns l asked = op_text l.op ++ l.right asked
 abbrev pub suffix_step : List Text → Suffix-F Bare Writer Writer (List ℕ) → List ℕ
 suffix_step ns s = codes "." ++ (name_text ns s.name.name ++ given_args s.args)
 
-abbrev pub node_bare : List Text → Node → Bare
+unfoldable pub node_bare : List Text → Node → Bare
 node_bare ns = fold-Node Bare Writer Writer (List ℕ) (node_step ns) (expr_step ns) (link_step ns) (suffix_step ns)
 
-abbrev pub expr_text : List Text → Expr → Writer
+unfoldable pub expr_text : List Text → Expr → Writer
 expr_text ns = fold-Expr Bare Writer Writer (List ℕ) (node_step ns) (expr_step ns) (link_step ns) (suffix_step ns)
 
-abbrev pub link_text : List Text → Link → Writer
+unfoldable pub link_text : List Text → Link → Writer
 link_text ns = fold-Link Bare Writer Writer (List ℕ) (node_step ns) (expr_step ns) (link_step ns) (suffix_step ns)
 
-abbrev pub suffix_text : List Text → Suffix → List ℕ
+unfoldable pub suffix_text : List Text → Suffix → List ℕ
 suffix_text ns = fold-Suffix Bare Writer Writer (List ℕ) (node_step ns) (expr_step ns) (link_step ns) (suffix_step ns)
+
+-- the arguments of a suffix, where there are any
+abbrev pub map_args : List Text → Option (List Expr) → Option (List Writer)
+map_args ns None = None
+map_args ns (Some es) = Some (map (expr_text ns) es)

@@ -63,13 +63,13 @@ abbrev pub ends_text : List Text → Bool → (exact names : List Name) → List
 ends_text ns later [] names = dotted ns later names
 ends_text ns later (x ∷ xs) names = dotted ns later (x ∷ xs) ++ (codes "!" ++ dotted ns true names)
 
-abbrev pub term_text : List Text → Term → List ℕ
+unfoldable pub term_text : List Text → Term → List ℕ
 term_text ns t = head_text ns t.head ++ ends_text ns (has_head t.head) t.exact t.names
 
-abbrev pub view_text : List Text → ViewTerm → List ℕ
+unfoldable pub view_text : List Text → ViewTerm → List ℕ
 view_text ns v = term_text ns v.term ++ masks_text ns v.masks
 
-abbrev pub type_text : List Text → TypeTerm → List ℕ
+unfoldable pub type_text : List Text → TypeTerm → List ℕ
 type_text ns type.Int = codes "int"
 type_text ns type.Bool = codes "boolean"
 type_text ns (type.Class terms masks) = joined (term_text ns) (codes " & ") false terms ++ masks_text ns masks

@@ -62,7 +62,7 @@ stmt_step ns ts (Stmt-F.Print e at) indent = codes "print(" ++ (expr_text ns e s
 stmt_step ns ts (Stmt-F.PrintText text at) indent =
     codes "print(\"" ++ (escaped (bytes_of (slice_get ts text)) ++ codes "\");")
 
-abbrev pub stmt_text : (names texts : List Text) → Stmt → Indented
+unfoldable pub stmt_text : (names texts : List Text) → Stmt → Indented
 stmt_text ns ts = fold-Stmt Indented (stmt_step ns ts)
 
 -- the statements of a body

@@ -140,6 +140,7 @@ fn print_method(
 }
 
 #[cycle(decl)]
+#[tactic(auto, using(std::proofs::lemmas::Grind::common_steps, crate::proofs::DeclTexts::inner_text, crate::proofs::DeclTexts::slot_text, crate::proofs::DeclTexts::body_member))]
 fn print_member(
     alloc: Global,
     out: &mut Vec<u8>,
@@ -181,6 +182,7 @@ fn print_members(
 
 /// Writes a declaration.
 #[cycle(decl)]
+#[tactic(auto, using(std::proofs::lemmas::Grind::common_steps, crate::proofs::DeclTexts::decl_parts))]
 pub fn print_decl(
     alloc: Global,
     out: &mut Vec<u8>,

@@ -2,7 +2,7 @@
 
 ghost use Rattle.std.specs.Prelude.{◌≡◌, ◌++◌, map, OnOk};
 ghost use Rattle.std.specs.Fmt.{signed_decimal};
-ghost use Rattle.jn_printer.specs.ExprText.{op_text, truth, node_bare, args_text, given_args, all_at, all_of, expr_text, link_text, suffix_text};
+ghost use Rattle.jn_printer.specs.ExprText.{op_text, truth, node_bare, args_text, all_at, all_of, expr_text, link_text, suffix_text};
 
 use crate::pieces::{print_name, print_term, print_view, put, put_if};
 use crate::symbol::{Symbol, is_instance, operand_symbol, symbol_of};
@@ -49,7 +49,7 @@ fn print_number(out: &mut Vec<u8>, n: i64) -> Result<(), AllocError>
 
 /// Writes an expression at a place that asks for a symbol: in parentheses exactly where it is no instance.
 #[cycle(print)]
-#[tactic(auto, using(crate::proofs::Bare::placed_text))]
+#[tactic(auto, using(std::proofs::lemmas::Grind::common_steps, crate::proofs::Bare::placed_text))]
 pub fn print_expr(
     out: &mut Vec<u8>,
     names: &[Text],
@@ -66,6 +66,10 @@ pub fn print_expr(
 
 // Without parentheses round it.
 #[cycle(print)]
+#[tactic(auto, using(
+    crate::proofs::Bare::bare_number, crate::proofs::Bare::bare_truth, crate::proofs::Bare::bare_null,
+    crate::proofs::Bare::bare_this, crate::proofs::Bare::bare_variable,
+))]
 fn print_node(out: &mut Vec<u8>, names: &[Text], node: &Node) -> Result<(), AllocError>
     ensures { OnOk result (out.new.items ≡ out.old.items ++ (node_bare names.now node.now).text) }
 {
@@ -128,6 +132,7 @@ fn print_args(out: &mut Vec<u8>, names: &[Text], args: &[Expr]) -> Result<(), Al
 }
 
 #[cycle(print)]
+#[tactic(auto, using(std::proofs::lemmas::Grind::common_steps, crate::proofs::Bare::link_placed))]
 fn print_links(
     out: &mut Vec<u8>,
     names: &[Text],
@@ -144,15 +149,24 @@ fn print_links(
 }
 
 #[cycle(print)]
+#[tactic(auto, using(std::proofs::lemmas::Grind::common_steps, crate::proofs::Bare::suffix_parts))]
+fn print_suffix(out: &mut Vec<u8>, names: &[Text], s: &Suffix) -> Result<(), AllocError>
+    ensures { OnOk result (out.new.items ≡ out.old.items ++ suffix_text names.now s.now) }
+{
+    put(out, b".")?;
+    print_name(out, names, s.name.name)?;
+    match &s.args {
+        None => Ok(()),
+        Some(args) => print_args(out, names, args.as_slice()),
+    }
+}
+
+#[cycle(print)]
 fn print_suffixes(out: &mut Vec<u8>, names: &[Text], suffixes: &[Suffix]) -> Result<(), AllocError>
     ensures { OnOk result (out.new.items ≡ out.old.items ++ all_of (map (suffix_text names.now) suffixes.now)) }
 {
     for s in suffixes {
-        put(out, b".")?;
-        print_name(out, names, s.name.name)?;
-        if let Some(args) = &s.args {
-            print_args(out, names, args.as_slice())?;
-        }
+        print_suffix(out, names, s)?;
     }
     Ok(())
 }

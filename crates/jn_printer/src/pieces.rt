@@ -124,6 +124,7 @@ fn print_ends(
     print_dotted(out, names, true, others)
 }
 
+#[tactic(auto, unfolding(crate::specs::Pieces::term_text))]
 pub fn print_term(out: &mut Vec<u8>, names: &[Text], t: &Term) -> Result<(), AllocError>
     ensures { OnOk result (out.new.items ≡ out.old.items ++ term_text names.now t.now) }
 {
@@ -131,6 +132,7 @@ pub fn print_term(out: &mut Vec<u8>, names: &[Text], t: &Term) -> Result<(), All
     print_ends(out, names, has_head(&t.head), t.exact.as_slice(), t.names.as_slice())
 }
 
+#[tactic(auto, unfolding(crate::specs::Pieces::view_text))]
 pub fn print_view(out: &mut Vec<u8>, names: &[Text], v: &ViewTerm) -> Result<(), AllocError>
     ensures { OnOk result (out.new.items ≡ out.old.items ++ view_text names.now v.now) }
 {
@@ -150,6 +152,7 @@ fn print_terms(out: &mut Vec<u8>, names: &[Text], terms: &[Term]) -> Result<(), 
     Ok(())
 }
 
+#[tactic(auto, unfolding(crate::specs::Pieces::type_text))]
 pub fn print_type(out: &mut Vec<u8>, names: &[Text], ty: &TypeTerm) -> Result<(), AllocError>
     ensures { OnOk result (out.new.items ≡ out.old.items ++ type_text names.now ty.now) }
 {

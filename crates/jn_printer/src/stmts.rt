@@ -27,7 +27,7 @@ fn print_escape(out: &mut Vec<u8>, byte: u8) -> Result<(), AllocError>
         b'"' => put(out, b"\\\""),
         b'\\' => put(out, b"\\\\"),
         b'\n' => put(out, b"\\n"),
-        _ => out.push(byte),
+        _ => put(out, &[byte]),
     }
 }
 
@@ -62,6 +62,7 @@ fn print_given(out: &mut Vec<u8>, names: &[Text], e: &Option<Expr>) -> Result<()
 }
 
 #[cycle(stmt)]
+#[tactic(auto, using(std::proofs::lemmas::Grind::common_steps, crate::proofs::StmtTexts::block_text))]
 fn print_stmt(
     alloc: Global,
     out: &mut Vec<u8>,
