@@ -10,14 +10,11 @@ use Rattle.jn_base.specs.declared.tree.Member.TheOpen.{Member-F}
 use Rattle.jn_base.specs.declared.tree.Member.TheFolds.{map-Member, fold_out-Member, fold_out-Decl}
 use Rattle.jn_base.specs.declared.tree.Member.TheVariants as member
 use Rattle.jn_base.specs.declared.tree.Member.TheVariants.{outs-Inner, outs-Slot, outs-Body}
-use Rattle.jn_printer.specs.Pieces.{name_text}
 use Rattle.jn_printer.specs.StmtText.{Indented, braced}
-use Rattle.jn_printer.specs.DeclText.{kind_text, list_text, field_text, method_text, member_step, decl_step, member_text, decl_text}
+use Rattle.jn_printer.specs.DeclText.{heading_text, field_text, method_text, member_step, decl_step, member_text, decl_text}
 
 pub decl_parts : (ns ts : List Text) (d : Decl) (indent : List ℕ) → decl_text ns ts d indent
-    ≡ kind_text d.kind ++ (name_text ns d.name.name ++ (list_text ns (codes " extends ") d.extends
-    ++ (list_text ns (codes " shares ") d.shares ++ (list_text ns (codes " adapts ") d.adapts
-    ++ (codes " " ++ braced indent (map (member_text ns ts) d.members))))))
+    ≡ heading_text ns d.kind d.name d.extends d.shares d.adapts ++ (codes " " ++ braced indent (map (member_text ns ts) d.members))
 unfolding decl_text member_text
 decl_parts ns ts d indent = ap (λ (w : Indented). w indent) (fold_out-Decl Indented Indented (member_step ns ts) (decl_step ns ts) d)
 

@@ -45,24 +45,32 @@ abbrev pub sharing_text : List Text → List Constraint → List ℕ
 sharing_text ns [] = []
 sharing_text ns (c ∷ cs) = codes " sharing " ++ joined (constraint_text ns) (codes ", ") false (c ∷ cs)
 
--- R m(final T a, T b) sharing S -> T, S -> T { .. }
+-- (final T a, T b)
+unfoldable pub params_text : List Text → List Param → List ℕ
+params_text ns ps = codes "(" ++ (joined (param_text ns) (codes ", ") false ps ++ codes ")")
+
+-- R m(final T a, T b) sharing S -> T, S -> T
+unfoldable pub signature_text : List Text → Method → List ℕ
+signature_text ns m =
+    result_text ns m.result ++ (codes " " ++ (name_text ns m.name.name ++ (params_text ns m.params ++ sharing_text ns m.sharing)))
+
 abbrev pub method_text : (names texts : List Text) → Method → Indented
-method_text ns ts m indent =
-    result_text ns m.result ++ (codes " " ++ (name_text ns m.name.name ++ (codes "("
-    ++ (joined (param_text ns) (codes ", ") false m.params ++ (codes ")"
-    ++ (sharing_text ns m.sharing ++ (codes " " ++ body_text ns ts m.body indent)))))))
+method_text ns ts m indent = signature_text ns m ++ (codes " " ++ body_text ns ts m.body indent)
+
+-- class N extends A & B shares X adapts Y
+unfoldable pub heading_text : List Text → Kind → Named → (extended shared adapted : List Named) → List ℕ
+heading_text ns k x extended shared adapted =
+    kind_text k ++ (name_text ns x.name ++ (list_text ns (codes " extends ") extended
+    ++ (list_text ns (codes " shares ") shared ++ list_text ns (codes " adapts ") adapted)))
 
 abbrev pub member_step : (names texts : List Text) → Member-F Indented Indented → Indented
 member_step ns ts (Member-F.Inner d) indent = d indent
 member_step ns ts (Member-F.Slot f) indent = field_text ns f
 member_step ns ts (Member-F.Body m) indent = method_text ns ts m indent
 
--- class N extends A & B shares X adapts Y { .. }
 abbrev pub decl_step : (names texts : List Text) → Decl-F Indented Indented → Indented
 decl_step ns ts d indent =
-    kind_text d.kind ++ (name_text ns d.name.name ++ (list_text ns (codes " extends ") d.extends
-    ++ (list_text ns (codes " shares ") d.shares ++ (list_text ns (codes " adapts ") d.adapts
-    ++ (codes " " ++ braced indent d.members)))))
+    heading_text ns d.kind d.name d.extends d.shares d.adapts ++ (codes " " ++ braced indent d.members)
 
 unfoldable pub member_text : (names texts : List Text) → Member → Indented
 member_text ns ts = fold-Member Indented Indented (member_step ns ts) (decl_step ns ts)

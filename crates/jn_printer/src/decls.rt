@@ -3,7 +3,7 @@
 ghost use Rattle.std.specs.Prelude.{◌≡◌, ◌++◌, codes, map, false, OnOk};
 ghost use Rattle.jn_printer.specs.Pieces.{joined};
 ghost use Rattle.jn_printer.specs.StmtText.{braced, lines};
-ghost use Rattle.jn_printer.specs.DeclText.{kind_text, list_text, field_text, result_text, param_text, constraint_text, sharing_text, method_text, member_text, decl_text};
+ghost use Rattle.jn_printer.specs.DeclText.{kind_text, list_text, field_text, result_text, param_text, params_text, constraint_text, sharing_text, signature_text, method_text, heading_text, member_text, decl_text};
 
 use crate::pieces::{print_name, print_names, print_type, print_view, put, put_if};
 use crate::stmts::{deeper, print_body};
@@ -68,16 +68,18 @@ fn print_param(out: &mut Vec<u8>, names: &[Text], p: &Param) -> Result<(), Alloc
     print_name(out, names, p.name.name)
 }
 
+#[tactic(auto, unfolding(crate::specs::DeclText::params_text))]
 fn print_params(out: &mut Vec<u8>, names: &[Text], params: &[Param]) -> Result<(), AllocError>
-    ensures { OnOk result (out.new.items ≡ out.old.items ++ joined (param_text names.now) (codes ", ") false params.now) }
+    ensures { OnOk result (out.new.items ≡ out.old.items ++ params_text names.now params.now) }
 {
+    put(out, b"(")?;
     let mut later = false;
     for p in params {
         put_if(out, later, b", ")?;
         print_param(out, names, p)?;
         later = true;
     }
-    Ok(())
+    put(out, b")")
 }
 
 fn print_constraint(out: &mut Vec<u8>, names: &[Text], c: &Constraint) -> Result<(), AllocError>
@@ -118,6 +120,18 @@ fn print_sharing(
     print_constraints(out, names, sharing)
 }
 
+#[tactic(auto, using(std::proofs::lemmas::Grind::common_steps), unfolding(crate::specs::DeclText::signature_text))]
+fn print_signature(out: &mut Vec<u8>, names: &[Text], m: &Method) -> Result<(), AllocError>
+    ensures { OnOk result (out.new.items ≡ out.old.items ++ signature_text names.now m.now) }
+{
+    print_result(out, names, &m.result)?;
+    put(out, b" ")?;
+    print_name(out, names, m.name.name)?;
+    print_params(out, names, m.params.as_slice())?;
+    print_sharing(out, names, m.sharing.as_slice())
+}
+
+#[tactic(auto, using(std::proofs::lemmas::Grind::common_steps))]
 fn print_method(
     alloc: Global,
     out: &mut Vec<u8>,
@@ -128,15 +142,20 @@ fn print_method(
 ) -> Result<(), AllocError>
     ensures { OnOk result (out.new.items ≡ out.old.items ++ method_text names.now texts.now m.now indent.now) }
 {
-    print_result(out, names, &m.result)?;
-    put(out, b" ")?;
-    print_name(out, names, m.name.name)?;
-    put(out, b"(")?;
-    print_params(out, names, m.params.as_slice())?;
-    put(out, b")")?;
-    print_sharing(out, names, m.sharing.as_slice())?;
+    print_signature(out, names, m)?;
     put(out, b" ")?;
     print_body(alloc, out, names, texts, m.body.as_slice(), indent)
+}
+
+#[tactic(auto, using(std::proofs::lemmas::Grind::common_steps), unfolding(crate::specs::DeclText::heading_text))]
+fn print_heading(out: &mut Vec<u8>, names: &[Text], d: &Decl) -> Result<(), AllocError>
+    ensures { OnOk result (out.new.items ≡ out.old.items ++ heading_text names.now d.now.kind d.now.name d.now.extends d.now.shares d.now.adapts) }
+{
+    print_kind(out, d.kind)?;
+    print_name(out, names, d.name.name)?;
+    print_list(out, names, b" extends ", d.extends.as_slice())?;
+    print_list(out, names, b" shares ", d.shares.as_slice())?;
+    print_list(out, names, b" adapts ", d.adapts.as_slice())
 }
 
 #[cycle(decl)]
@@ -193,11 +212,7 @@ pub fn print_decl(
 ) -> Result<(), AllocError>
     ensures { OnOk result (out.new.items ≡ out.old.items ++ decl_text names.now texts.now d.now indent.now) }
 {
-    print_kind(out, d.kind)?;
-    print_name(out, names, d.name.name)?;
-    print_list(out, names, b" extends ", d.extends.as_slice())?;
-    print_list(out, names, b" shares ", d.shares.as_slice())?;
-    print_list(out, names, b" adapts ", d.adapts.as_slice())?;
+    print_heading(out, names, d)?;
     put(out, b" ")?;
     print_members(alloc, out, names, texts, d.members.as_slice(), indent)
 }

@@ -5,4 +5,4 @@ use Rattle.jn_printer.specs.DeclText.{param_text}
 use Rattle.jn_printer.proofs.decls.print_params.Given as goal
 
 abbrev pub invariant-loop-p : goal.invariant-loop-p
-invariant-loop-p l = l.out.items ++ joined (param_text l.names) (codes ", ") l.later (drop l.p-index l.params) ≡ l.fn.out.items ++ joined (param_text l.names) (codes ", ") false l.params
+invariant-loop-p l = l.out.items ++ joined (param_text l.names) (codes ", ") l.later (drop l.p-index l.params) ≡ l.fn.out.items ++ (codes "(" ++ joined (param_text l.names) (codes ", ") false l.params)
