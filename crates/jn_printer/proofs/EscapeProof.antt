@@ -4,7 +4,7 @@ use Rattle.std.proofs.lemmas.Bool.{eqb-true}
 use Rattle.std.proofs.lemmas.List.Elements.{All-head, All-tail}
 use Rattle.std.proofs.lemmas.Bool.Decides.{eqb_tells}
 use Rattle.std.specs.Prelude.{codes}
-use Rattle.jn_base.specs.Tokens.{quote, backslash, line_feed, carriage_return, is_plain}
+use Rattle.jn_base.specs.Tokens.{quote, backslash, line_feed, carriage_return}
 use Rattle.jn_base.specs.Words.{Reads, nothing, plain, escaped_quote, escaped_backslash, escaped_line_feed}
 use Rattle.jn_printer.specs.StmtText.{escape, escaped}
 

@@ -1,9 +1,8 @@
 -- Expressions and statements worked out.
-use Rattle.std.specs.Prelude.{ℕ, ◌≡◌, Bool, true, false, List, [], ◌∷◌, codes, Option, Some, None, pos}
+use Rattle.std.specs.Prelude.{ℕ, ◌≡◌, List, [], ◌∷◌, codes, Some, None, pos}
 use Rattle.jn_base.specs.declared.tree.Name.{Name}
 use Rattle.jn_base.specs.declared.tree.Text.{Text}
 use Rattle.jn_base.specs.declared.tree.Place.{Place}
-use Rattle.jn_base.specs.declared.tree.Named.{Named}
 use Rattle.jn_base.specs.declared.tree.Term.{Term}
 use Rattle.jn_base.specs.declared.tree.ViewTerm.{ViewTerm}
 use Rattle.jn_base.specs.declared.tree.Head.TheVariants as head
@@ -13,7 +12,6 @@ use Rattle.jn_base.specs.declared.tree.Op.{Op}
 use Rattle.jn_base.specs.declared.tree.Op.TheVariants as op
 use Rattle.jn_base.specs.declared.tree.Expr.{Expr}
 use Rattle.jn_base.specs.declared.tree.Suffix.{Suffix}
-use Rattle.jn_base.specs.declared.tree.Node.{Node}
 use Rattle.jn_base.specs.declared.tree.Node.TheVariants as node
 use Rattle.jn_base.specs.Parts.{named, term, expr, suffix, link}
 use Rattle.jn_printer.specs.declared.symbol.Symbol.TheVariants as symbol

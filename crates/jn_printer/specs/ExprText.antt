@@ -13,7 +13,7 @@ use Rattle.jn_base.specs.declared.tree.Suffix.{Suffix, fold-Suffix}
 use Rattle.jn_base.specs.declared.tree.Node.TheOpen.{Node-F, Expr-F, Link-F, Suffix-F}
 use Rattle.jn_printer.specs.declared.symbol.Symbol.{Symbol}
 use Rattle.jn_printer.specs.declared.symbol.Symbol.TheVariants as symbol
-use Rattle.jn_printer.specs.Pieces.{text_if, joined, name_text, named_text, term_text, view_text}
+use Rattle.jn_printer.specs.Pieces.{text_if, joined, name_text, term_text, view_text}
 
 -- The symbols of the grammar by how tightly they bind. Each rule may take one operand of the next symbol alone, so an
 -- instance of a symbol is an instance of each looser one, and of no tighter one.

@@ -1,5 +1,5 @@
 -- Statements as they are written: each without its indentation and the line feed at its end.
-use Rattle.std.specs.Prelude.{ℕ, Bool, true, false, List, [], ◌∷◌, ◌++◌, map, Option, Some, None, codes, slice_get, ◌==◌, if◌then◌else◌}
+use Rattle.std.specs.Prelude.{ℕ, List, [], ◌∷◌, ◌++◌, map, Option, Some, None, codes, slice_get, ◌==◌, if◌then◌else◌}
 use Rattle.jn_base.specs.declared.tree.Text.{Text}
 use Rattle.jn_base.specs.declared.tree.Expr.{Expr}
 use Rattle.jn_base.specs.declared.tree.Stmt.{Stmt, fold-Stmt}
@@ -7,7 +7,7 @@ use Rattle.jn_base.specs.declared.tree.Stmt.TheOpen.{Stmt-F}
 use Rattle.jn_base.specs.Tokens.{quote, backslash, line_feed}
 use Rattle.jn_printer.specs.declared.symbol.Symbol.TheVariants as symbol
 use Rattle.jn_printer.specs.Pieces.{text_if, bytes_of, name_text, type_text}
-use Rattle.jn_printer.specs.ExprText.{expr_text, whole}
+use Rattle.jn_printer.specs.ExprText.{expr_text}
 
 -- what is written with an indentation in front of its lines
 abbrev pub Indented : Type 0

@@ -7,9 +7,7 @@ ghost use Rattle.jn_printer.specs.DeclText.{kind_text, list_text, field_text, re
 
 use crate::pieces::{print_name, print_names, print_type, print_view, put, put_if};
 use crate::stmts::{deeper, print_body};
-use jn_base::tree::{
-    Constraint, Decl, Field, Kind, Member, Method, Named, Param, Text, TypeTerm,
-};
+use jn_base::tree::{Constraint, Decl, Field, Kind, Member, Method, Named, Param, Text, TypeTerm};
 use std::alloc::{AllocError, Global};
 
 fn print_kind(out: &mut Vec<u8>, kind: Kind) -> Result<(), AllocError>
@@ -46,11 +44,7 @@ fn print_field(out: &mut Vec<u8>, names: &[Text], f: &Field) -> Result<(), Alloc
     put(out, b";")
 }
 
-fn print_result(
-    out: &mut Vec<u8>,
-    names: &[Text],
-    ty: &Option<TypeTerm>,
-) -> Result<(), AllocError>
+fn print_result(out: &mut Vec<u8>, names: &[Text], ty: &Option<TypeTerm>) -> Result<(), AllocError>
     ensures { OnOk result (out.new.items ≡ out.old.items ++ result_text names.now ty.now) }
 {
     match ty {

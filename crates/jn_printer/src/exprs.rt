@@ -66,10 +66,7 @@ pub fn print_expr(
 
 // Without parentheses round it.
 #[cycle(print)]
-#[tactic(auto, using(
-    crate::proofs::Bare::bare_number, crate::proofs::Bare::bare_truth, crate::proofs::Bare::bare_null,
-    crate::proofs::Bare::bare_this, crate::proofs::Bare::bare_variable,
-))]
+#[tactic(auto, using(crate::proofs::Bare::bare_number, crate::proofs::Bare::bare_truth, crate::proofs::Bare::bare_null, crate::proofs::Bare::bare_this, crate::proofs::Bare::bare_variable,))]
 fn print_node(out: &mut Vec<u8>, names: &[Text], node: &Node) -> Result<(), AllocError>
     ensures { OnOk result (out.new.items ≡ out.old.items ++ (node_bare names.now node.now).text) }
 {

@@ -129,7 +129,13 @@ pub fn print_term(out: &mut Vec<u8>, names: &[Text], t: &Term) -> Result<(), All
     ensures { OnOk result (out.new.items ≡ out.old.items ++ term_text names.now t.now) }
 {
     print_head(out, names, &t.head)?;
-    print_ends(out, names, has_head(&t.head), t.exact.as_slice(), t.names.as_slice())
+    print_ends(
+        out,
+        names,
+        has_head(&t.head),
+        t.exact.as_slice(),
+        t.names.as_slice(),
+    )
 }
 
 #[tactic(auto, unfolding(crate::specs::Pieces::view_text))]

@@ -1,4 +1,3 @@
-use Rattle.std.proofs.Common.{rules}
 use Rattle.jn_base.specs.declared.tree.Node.TheVariants.{outs-Chain, outs-Var}
 use Rattle.jn_printer.proofs.Bare.{placed_text, link_placed, bare_chain, bare_variable}
 use Rattle.jn_printer.proofs.examples.chains.Goals as goal

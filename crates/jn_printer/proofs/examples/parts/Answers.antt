@@ -1,4 +1,3 @@
-use Rattle.std.proofs.Common.{rules}
 use Rattle.std.specs.Fmt.{digits}
 use Rattle.jn_base.specs.declared.tree.Node.TheVariants.{outs-Chain, outs-Var, outs-Int, outs-Neg, outs-Not, outs-View, outs-Post, outs-New, outs-Super}
 use Rattle.jn_printer.specs.Pieces.{term_text, view_text}

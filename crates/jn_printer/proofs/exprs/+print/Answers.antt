@@ -1,4 +1,4 @@
-use Rattle.std.proofs.Common.{rules, arith}
+use Rattle.std.proofs.Common.{arith}
 use Rattle.std.proofs.lemmas.Grind.{common_steps}
 use Rattle.jn_printer.proofs.Bare.{bare_new, bare_super, bare_post, bare_inverse, bare_negative, bare_view, bare_chain}
 use Rattle.jn_printer.proofs.exprs.+print.Goals as goal

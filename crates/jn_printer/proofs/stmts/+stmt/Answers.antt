@@ -1,4 +1,4 @@
-use Rattle.std.proofs.Common.{rules, arith}
+use Rattle.std.proofs.Common.{arith}
 use Rattle.std.proofs.lemmas.Grind.{common_steps}
 use Rattle.jn_printer.proofs.StmtTexts.{local_text, assign_text, set_text, do_text, if_text, while_text, return_text, print_text, string_text}
 use Rattle.jn_printer.proofs.stmts.+stmt.Goals as goal
