@@ -1,0 +1,4 @@
+pub mod Bare
+pub mod EscapeProof
+pub mod StmtTexts
+pub mod DeclTexts

@@ -1,0 +1,6 @@
+pub mod Pieces
+pub mod ExprText
+pub mod StmtText
+pub mod DeclText
+pub mod Examples
+pub mod EscapeLaw

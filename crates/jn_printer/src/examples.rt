@@ -1,0 +1,24 @@
+//! Expressions and texts worked out by the definitions.
+
+ghost use Rattle.jn_printer.specs.EscapeLaw.{EscapedReads};
+ghost use Rattle.jn_printer.specs.Examples.{ChainExamples, PartExamples, EscapeExample};
+
+/// Chains as operands of chains.
+pub fn chains()
+    ensures { ChainExamples }
+{}
+
+/// Prefix operators, views, and what stands behind a dot.
+pub fn parts()
+    ensures { PartExamples }
+{}
+
+/// The escapes of a text.
+pub fn escapes()
+    ensures { EscapeExample }
+{}
+
+/// What is written between the quotes of a text reads as the text.
+pub fn escapes_read()
+    ensures { EscapedReads }
+{}

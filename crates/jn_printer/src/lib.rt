@@ -1,0 +1,41 @@
+//! The canonical text of a program.
+//!
+//! What it is, the definitions in specs/ say: `program_text` in specs/DeclText.antt, with statements in
+//! specs/StmtText.antt, expressions in specs/ExprText.antt, and names, terms and types in
+//! specs/Pieces.antt. Each line is indented by two spaces for each open brace.
+#![tactic(auto)]
+
+ghost use Rattle.std.specs.Prelude.{◌≡◌, IfOk};
+ghost use Rattle.jn_printer.specs.DeclText.{program_text};
+
+mod decls;
+pub mod examples;
+mod exprs;
+mod pieces;
+mod stmts;
+mod symbol;
+#[cfg(test)]
+mod tests;
+
+use crate::decls::print_decl;
+use crate::pieces::put;
+use jn_base::tree::Program;
+use std::alloc::{AllocError, Global};
+
+/// The canonical text of a program.
+///
+/// A name or a text that the program has not prints nothing, and a number below zero, which no source
+/// has, is printed with its sign.
+pub fn print_program(alloc: Global, p: &Program) -> Result<Vec<u8>, AllocError>
+    ensures { IfOk result (λ r. r.items ≡ program_text p.now) }
+{
+    let names = p.names.as_slice();
+    let texts = p.texts.as_slice();
+    let decls = p.decls.as_slice();
+    let mut out = Vec::new(alloc);
+    for d in decls {
+        print_decl(alloc, &mut out, names, texts, d, b"")?;
+        put(&mut out, b"\n")?;
+    }
+    Ok(out)
+}
