@@ -1,0 +1,76 @@
+-- Output, one part behind another.
+use Rattle.std.proofs.Common.{◌≡◌, refl, sym, ap, ◌∙◌, ℕ, zero, suc, ◌+◌, ◌*◌, List, [], ◌∷◌, ◌++◌, length, take, drop, arith, Option, Some, None, Result, Ok, Err}
+use Rattle.std.specs.Prelude.{OnOk, OnErr}
+use Rattle.std.specs.Io.KnownBytes.{append_known}
+use Rattle.std.proofs.lemmas.List.{append_assoc, append-nil, length-append}
+use Rattle.jn_io.specs.Told.{Takes}
+use Rattle.jn_steps.specs.Laws.{IsPrefix}
+use Rattle.jn_machine.specs.Writes.{Wrote, Cut}
+
+nothing_more : (t : Option (List ℕ)) → t ≡ append_known t []
+nothing_more None = refl
+nothing_more (Some bytes) = ap Some (sym (append-nil bytes))
+
+append_twice : (t : Option (List ℕ)) (xs ys : List ℕ) → append_known (append_known t xs) ys ≡ append_known t (xs ++ ys)
+append_twice None xs ys = refl
+append_twice (Some zs) xs ys = ap Some (append_assoc zs xs ys)
+
+-- the bytes wait
+pub waits : (t : Option (List ℕ)) (b c bytes : List ℕ) → c ≡ b ++ bytes → Wrote t t b c bytes
+waits t b c bytes e = record { gone = []; pieces = 0; whole = refl; took = nothing_more t; same = e }
+
+-- a piece went out
+pub sent : {E : Type 0} (t u : Option (List ℕ)) (b bytes piece : List ℕ) (r : Result Unit E) → piece ≡ b ++ bytes → length piece ≡ 8192 → Takes t u piece r → OnOk r (Wrote t u b [] bytes)
+sent t u b bytes piece (Ok v) e n k = record { gone = piece; pieces = 1; whole = n; took = k; same = append-nil piece ∙ e }
+sent t u b bytes piece (Err x) e n k = tt
+
+take_drop : (n : ℕ) (xs : List ℕ) → take n xs ++ drop n xs ≡ xs
+take_drop zero xs = refl
+take_drop (suc n) [] = refl
+take_drop (suc n) (x ∷ xs) = ap (λ ys. x ∷ ys) (take_drop n xs)
+
+pub broken : {E : Type 0} (t u : Option (List ℕ)) (all piece : List ℕ) (r : Result Unit E) → piece ≡ all → Takes t u piece r → OnErr r (Cut t u all)
+broken t u all piece (Ok v) e k = tt
+broken t u all piece (Err x) e k =
+    record { gone = take k.0 piece; took = k.1; first = (drop k.0 piece, take_drop k.0 piece ∙ e) }
+
+pub both : (r s t : Option (List ℕ)) (a b c xs ys : List ℕ) → Wrote r s a b xs → Wrote s t b c ys → Wrote r t a c (xs ++ ys)
+both r s t a b c xs ys p q =
+    let l = length-append p.gone q.gone in
+    let m = p.whole in
+    let n = q.whole in
+    record {
+      gone = p.gone ++ q.gone;
+      pieces = p.pieces + q.pieces;
+      whole = omega arith;
+      took = q.took ∙ ap (λ z. append_known z q.gone) p.took ∙ append_twice r p.gone q.gone;
+      same =
+        append_assoc p.gone q.gone c ∙ ap (λ (z : List ℕ). p.gone ++ z) q.same ∙ sym (append_assoc p.gone b ys) ∙ ap (λ (z : List ℕ). z ++ ys) p.same ∙ append_assoc a xs ys;
+    }
+
+-- the sink failed behind what it had taken
+pub later_cut : (r s t : Option (List ℕ)) (a b xs ys : List ℕ) → Wrote r s a b xs → Cut s t (b ++ ys) → Cut r t (a ++ (xs ++ ys))
+later_cut r s t a b xs ys p q = record {
+  gone = p.gone ++ q.gone;
+  took = q.took ∙ ap (λ z. append_known z q.gone) p.took ∙ append_twice r p.gone q.gone;
+  first = (
+    q.first.0,
+    append_assoc p.gone q.gone q.first.0 ∙ ap (λ (z : List ℕ). p.gone ++ z) q.first.1 ∙ sym (append_assoc p.gone b ys) ∙ ap (λ (z : List ℕ). z ++ ys) p.same ∙ append_assoc a xs ys,
+  );
+}
+
+-- and more was to come
+pub cut_before : (t u : Option (List ℕ)) (all more : List ℕ) → Cut t u all → Cut t u (all ++ more)
+cut_before t u all more k = record {
+  gone = k.gone;
+  took = k.took;
+  first = (k.first.0 ++ more, sym (append_assoc k.gone k.first.0 more) ∙ ap (λ (z : List ℕ). z ++ more) k.first.1);
+}
+
+pub then_ok : {T E : Type 0} (r : Result T E) (P Q : Type 0) → (P → Q) → OnOk r P → OnOk r Q
+then_ok (Ok v) P Q f p = f p
+then_ok (Err e) P Q f p = p
+
+pub then_err : {T E : Type 0} (r : Result T E) (P Q : Type 0) → (P → Q) → OnErr r P → OnErr r Q
+then_err (Ok v) P Q f p = p
+then_err (Err e) P Q f p = f p

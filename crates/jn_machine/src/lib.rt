@@ -1,0 +1,12 @@
+//! The machine that runs images, in memory that was taken before: frames, operands, cells and output.
+#![tactic(auto)]
+
+mod entries;
+mod frame;
+mod frames;
+mod heap;
+mod locals;
+mod numbers;
+mod operands;
+mod output;
+mod plain;
