@@ -1,8 +1,9 @@
 -- Output, one part behind another.
-use Rattle.std.proofs.Common.{◌≡◌, refl, sym, ap, ◌∙◌, ℕ, zero, suc, ◌+◌, ◌*◌, List, [], ◌∷◌, ◌++◌, length, take, drop, arith, Option, Some, None, Result, Ok, Err}
+use Rattle.std.proofs.Common.{◌≡◌, refl, sym, ap, ◌∙◌, ℕ, zero, suc, ◌+◌, ◌*◌, ◌<◌, List, [], ◌∷◌, ◌++◌, length, take, drop, get_or, subst, arith, Option, Some, None, Result, Ok, Err}
 use Rattle.std.specs.Prelude.{OnOk, OnErr}
 use Rattle.std.specs.Io.KnownBytes.{append_known}
 use Rattle.std.proofs.lemmas.List.{append_assoc, append-nil, length-append}
+use Rattle.std.proofs.lemmas.Grind.{common_steps}
 use Rattle.jn_io.specs.Told.{Takes}
 use Rattle.jn_steps.specs.Laws.{IsPrefix}
 use Rattle.jn_machine.specs.Writes.{Wrote, Cut}
@@ -20,9 +21,10 @@ pub waits : (t : Option (List ℕ)) (b c bytes : List ℕ) → c ≡ b ++ bytes 
 waits t b c bytes e = record { gone = []; pieces = 0; whole = refl; took = nothing_more t; same = e }
 
 -- a piece went out
-pub sent : {E : Type 0} (t u : Option (List ℕ)) (b bytes piece : List ℕ) (r : Result Unit E) → piece ≡ b ++ bytes → length piece ≡ 8192 → Takes t u piece r → OnOk r (Wrote t u b [] bytes)
-sent t u b bytes piece (Ok v) e n k = record { gone = piece; pieces = 1; whole = n; took = k; same = append-nil piece ∙ e }
-sent t u b bytes piece (Err x) e n k = tt
+pub sent : {E : Type 0} (t u : Option (List ℕ)) (b c bytes piece : List ℕ) (r : Result Unit E) → piece ≡ b ++ bytes → length piece ≡ 8192 → c ≡ [] → Takes t u piece r → OnOk r (Wrote t u b c bytes)
+sent t u b c bytes piece (Ok v) e n z k =
+    record { gone = piece; pieces = 1; whole = n; took = k; same = ap (λ (c : List ℕ). piece ++ c) z ∙ append-nil piece ∙ e }
+sent t u b c bytes piece (Err x) e n z k = tt
 
 take_drop : (n : ℕ) (xs : List ℕ) → take n xs ++ drop n xs ≡ xs
 take_drop zero xs = refl
@@ -74,3 +76,23 @@ then_ok (Err e) P Q f p = p
 pub then_err : {T E : Type 0} (r : Result T E) (P Q : Type 0) → (P → Q) → OnErr r P → OnErr r Q
 then_err (Ok v) P Q f p = p
 then_err (Err e) P Q f p = f p
+
+pub one_more : (xs : List ℕ) (k : ℕ) → k < length xs → take (k + 1) xs ≡ take k xs ++ get_or xs k 0 ∷ []
+one_more xs k h = grind (arith, common_steps)
+
+-- the sink failed at byte k
+pub cut_at : (r s t : Option (List ℕ)) (a b bytes : List ℕ) (k : ℕ) → k < length bytes → Wrote r s a b (take k bytes) → Cut s t (b ++ get_or bytes k 0 ∷ []) → Cut r t (a ++ bytes)
+cut_at r s t a b bytes k h p q =
+    let x : List ℕ = get_or bytes k 0 ∷ [] in
+    let w = cut_before r t (a ++ (take k bytes ++ x)) (drop (k + 1) bytes) (later_cut r s t a b (take k bytes) x p q) in
+    let e : (a ++ (take k bytes ++ x)) ++ drop (k + 1) bytes ≡ a ++ bytes =
+        append_assoc a (take k bytes ++ x) (drop (k + 1) bytes) ∙ ap (λ (ys : List ℕ). a ++ ys) (ap (λ (ys : List ℕ). ys ++ drop (k + 1) bytes) (sym (one_more bytes k h)) ∙ take_drop (k + 1) bytes) in
+    subst (λ (ys : List ℕ). Cut r t ys) e w
+
+pub more_written : (r s t : Option (List ℕ)) (a b c bytes : List ℕ) (k : ℕ) → k < length bytes → Wrote r s a b (take k bytes) → Wrote s t b c (get_or bytes k 0 ∷ []) → Wrote r t a c (take (k + 1) bytes)
+more_written r s t a b c bytes k h p q =
+    subst (λ (ys : List ℕ). Wrote r t a c ys) (sym (one_more bytes k h)) (both r s t a b c (take k bytes) (get_or bytes k 0 ∷ []) p q)
+
+pub on_err : {T E : Type 0} (r : Result T E) (P : Type 0) → P → OnErr r P
+on_err (Ok v) P p = tt
+on_err (Err e) P p = p

@@ -25,3 +25,10 @@ Prints x f g bytes = (i : Image) (m : ℕ) (h : List ℤ) → code.obey i m x (f
 -- The instruction ends the run so, whatever the image and the heap.
 abbrev pub Stops : Instr → code.Halt → Frame → Type 0
 Stops x halt f = (i : Image) (m : ℕ) (h : List ℤ) → code.obey i m x (frame_of f) h ≡ Faults halt
+
+-- It obeyed this instruction of that image, whatever the heap, which is as before.
+abbrev pub ActsIn : Image → Instr → Frame → Frame → Type 0
+ActsIn i x f g = (m : ℕ) (h : List ℤ) → code.obey i m x (frame_of f) h ≡ Goes (frame_of g) h []
+
+abbrev pub StopsIn : Image → Instr → code.Halt → Frame → Type 0
+StopsIn i x halt f = (m : ℕ) (h : List ℤ) → code.obey i m x (frame_of f) h ≡ Faults halt

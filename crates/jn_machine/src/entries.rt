@@ -59,15 +59,16 @@ pub fn other_of(row: &ClassRow, family: u16) -> Option<u16>
 }
 
 /// The class above, where there is one.
-pub fn up_of(image: &Image, k: u16) -> Option<u16>
-    ensures { result ≡ up_of image.now k }
+pub fn up_of(image: &Image, k: usize) -> Option<usize>
+    ensures up { result ≡ up_of image.now k }
+    ensures small { IfSome result (λ up. up < 2 ^ 16) }
 {
-    match image.classes.get(k as usize) {
+    match image.classes.get(k) {
         Some(row) => {
             if row.up == 65535 {
                 None
             } else {
-                Some(row.up)
+                Some(row.up as usize)
             }
         }
         None => None,
@@ -75,8 +76,10 @@ pub fn up_of(image: &Image, k: u16) -> Option<u16>
 }
 
 /// The class that many times above.
-pub fn ups_of(image: &Image, n: u8, k: u16) -> Option<u16>
-    ensures { result ≡ ups_of image.now n k }
+pub fn ups_of(image: &Image, n: u8, k: usize) -> Option<usize>
+    requires { k < 2 ^ 63 }
+    ensures up { result ≡ ups_of image.now n k }
+    ensures small { IfSome result (λ up. up < 2 ^ 63) }
 {
     let mut class = k;
     let mut left = n;

@@ -7,6 +7,7 @@ mod frames;
 mod heap;
 mod locals;
 mod numbers;
+mod object;
 mod operands;
 mod output;
 mod plain;

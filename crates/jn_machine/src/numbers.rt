@@ -2,7 +2,7 @@ ghost use Rattle.std.specs.Prelude.{◌≡◌, ◌<◌, ◌≤◌, ◌^◌, not,
 ghost use Rattle.std.specs.Option.{option_map};
 ghost use Rattle.std.specs.Ordering.{int_eq};
 ghost use Rattle.jn_steps.specs.Numbers.{sum_of, difference_of, product_of, negation_of, quotient_of, remainder_of};
-ghost use Rattle.jn_code.specs.Machine.{truth, word_of, ref_in, ref_word, object_in};
+ghost use Rattle.jn_code.specs.Machine.{truth, word_of, ref_in, ref_word, object_in, class_in};
 ghost use Rattle.jn_machine.specs.Views.{ref_of};
 
 /// The class at which an object is viewed, and the first cell of the object.
@@ -118,4 +118,15 @@ pub fn reference_word(view: u16, cell: u32) -> i64
     ensures { result ≡ ref_word view cell }
 {
     (view as u64 * 4294967296 + cell as u64 + 1) as i64
+}
+
+/// The class that a word is.
+pub fn class_in(z: i64) -> usize
+    ensures class { result ≡ class_in z }
+    ensures small { result < 2 ^ 63 }
+{
+    if z < 0 {
+        return 0;
+    }
+    z as usize
 }

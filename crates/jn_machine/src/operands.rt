@@ -1,4 +1,4 @@
-ghost use Rattle.std.specs.Prelude.{◌≡◌, ◌<◌, ◌≤◌, [], ◌∷◌, IfOk, length};
+ghost use Rattle.std.specs.Prelude.{◌≡◌, ◌<◌, ◌≤◌, [], ◌∷◌, IfOk, Some, drop, length, slice_get};
 
 use std::alloc::{AllocError, Global};
 use std::marker::Model;
@@ -46,6 +46,27 @@ impl Operands {
     {
         self.top -= 1;
         self.words[self.top]
+    }
+
+    /// That many back; the latest is number 0.
+    pub fn peek(&self, back: usize) -> i64
+        requires { back < length self.now.words }
+        ensures { slice_get self.now.words back ≡ Some result }
+    {
+        self.words[self.top - 1 - back]
+    }
+
+    /// Drops the latest, that many.
+    pub fn forget(&mut self, count: usize)
+        requires { count ≤ length self.old.words }
+        ensures words { self.new.words ≡ drop count self.old.words }
+        ensures limit { self.new.limit ≡ self.old.limit }
+    {
+        let mut left = count;
+        while left > 0 {
+            left -= 1;
+            self.take();
+        }
     }
 
     pub fn clear(&mut self)

@@ -7,7 +7,7 @@ returns-then-len-eq8192-clause-wrote g c =
     let d : c.deref.result.now ≡ c.push.new.self.items = c.deref.ensures.value in
     let e : c.deref.result.now ≡ c.args.self.now ++ c.args.b ∷ [] = cc (d, c.in-Ok.ensures.items, c.self.view_is) in
     let n : length c.push.new.self.items ≡ 8192 = omega arith in
-    let m : length c.deref.result.now ≡ 8192 = cc (d, n) in sent _ _ _ _ _ _ e m c.put-done.ensures.taken
+    let m : length c.deref.result.now ≡ 8192 = cc (d, n) in sent _ _ _ _ _ _ _ e m c.clear.ensures.items c.put-done.ensures.taken
 
 pub returns-then-len-eq8192-clause-cut : goal.returns-then-len-eq8192-clause-cut
 returns-then-len-eq8192-clause-cut g c =
