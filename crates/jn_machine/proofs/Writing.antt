@@ -47,7 +47,7 @@ both r s t a b c xs ys p q =
       whole = omega arith;
       took = q.took ∙ ap (λ z. append_known z q.gone) p.took ∙ append_twice r p.gone q.gone;
       same =
-        append_assoc p.gone q.gone c ∙ ap (λ (z : List ℕ). p.gone ++ z) q.same ∙ sym (append_assoc p.gone b ys) ∙ ap (λ (z : List ℕ). z ++ ys) p.same ∙ append_assoc a xs ys;
+          append_assoc p.gone q.gone c ∙ ap (λ (z : List ℕ). p.gone ++ z) q.same ∙ sym (append_assoc p.gone b ys) ∙ ap (λ (z : List ℕ). z ++ ys) p.same ∙ append_assoc a xs ys;
     }
 
 -- the sink failed behind what it had taken
@@ -86,7 +86,7 @@ cut_at r s t a b bytes k h p q =
     let x : List ℕ = get_or bytes k 0 ∷ [] in
     let w = cut_before r t (a ++ (take k bytes ++ x)) (drop (k + 1) bytes) (later_cut r s t a b (take k bytes) x p q) in
     let e : (a ++ (take k bytes ++ x)) ++ drop (k + 1) bytes ≡ a ++ bytes =
-        append_assoc a (take k bytes ++ x) (drop (k + 1) bytes) ∙ ap (λ (ys : List ℕ). a ++ ys) (ap (λ (ys : List ℕ). ys ++ drop (k + 1) bytes) (sym (one_more bytes k h)) ∙ take_drop (k + 1) bytes) in
+    append_assoc a (take k bytes ++ x) (drop (k + 1) bytes) ∙ ap (λ (ys : List ℕ). a ++ ys) (ap (λ (ys : List ℕ). ys ++ drop (k + 1) bytes) (sym (one_more bytes k h)) ∙ take_drop (k + 1) bytes) in
     subst (λ (ys : List ℕ). Cut r t ys) e w
 
 pub more_written : (r s t : Option (List ℕ)) (a b c bytes : List ℕ) (k : ℕ) → k < length bytes → Wrote r s a b (take k bytes) → Wrote s t b c (get_or bytes k 0 ∷ []) → Wrote r t a c (take (k + 1) bytes)

@@ -19,11 +19,11 @@ pub struct Frame {
 /// A frame of code 0 with room for that many variables and operands, which has none.
 pub fn make_frame(alloc: Global, wide: usize, high: usize) -> Result<Frame, AllocError>
     ensures { IfOk result (λ f. f ≡ record {
-        code = 0;
-        place = 0;
-        vars = record { limit = wide; words = [] };
-        vals = record { limit = high; words = [] };
-        keeps = true;
+      code = 0;
+      place = 0;
+      vars = record { limit = wide; words = [] };
+      vals = record { limit = high; words = [] };
+      keeps = true;
     }) }
 {
     Ok(Frame {
