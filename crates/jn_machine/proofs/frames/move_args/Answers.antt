@@ -1,4 +1,4 @@
-use Rattle.std.proofs.Common.{◌≡◌, ap, ◌∙◌, refl, length, drop, suc, take, replicate, pos, arith, sym, ◌+◌, subst, ℕ, [], ◌∷◌}
+use Rattle.std.proofs.Common.{◌≡◌, ap, ◌∙◌, refl, length, drop, suc, take, replicate, pos, arith, ◌+◌, ℕ}
 use Rattle.std.proofs.lemmas.List.{length-replicate}
 use Rattle.jn_machine.specs.Sizes.{taken}
 use Rattle.jn_machine.proofs.Pool.{drop_zeros}

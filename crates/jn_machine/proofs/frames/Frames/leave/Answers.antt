@@ -1,4 +1,4 @@
-use Rattle.std.proofs.Common.{arith, ap, sym, ◌∙◌, ◌≡◌, ◌<◌, ◌≤◌, ◌-◌, ◌+◌, length, reverse, take}
+use Rattle.std.proofs.Common.{arith, ap, sym, ◌∙◌, ◌≡◌, ◌<◌, ◌-◌, length, reverse, take}
 use Rattle.jn_machine.specs.declared.frame.Frame.{Frame}
 use Rattle.jn_machine.specs.Sizes.{Sizes}
 use Rattle.jn_machine.proofs.Pool.{sized_set, wide_at, high_at, waiting_long}

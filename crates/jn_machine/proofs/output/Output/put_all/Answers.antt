@@ -1,4 +1,4 @@
-use Rattle.std.proofs.Common.{◌≡◌, ◌∙◌, ◌<◌, length, arith}
+use Rattle.std.proofs.Common.{◌∙◌, ◌<◌, length, arith}
 use Rattle.jn_machine.proofs.Writing.{cut_at, more_written, on_err}
 use Rattle.jn_machine.proofs.output.Output.put_all.Goals as goal
 

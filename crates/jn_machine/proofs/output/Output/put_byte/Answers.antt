@@ -1,4 +1,4 @@
-use Rattle.std.proofs.Common.{arith, ◌≡◌, ◌∷◌, [], ◌++◌, length, ◌∙◌, sym}
+use Rattle.std.proofs.Common.{arith, ◌≡◌, ◌∷◌, [], ◌++◌, length}
 use Rattle.jn_machine.proofs.Writing.{waits, sent, broken}
 use Rattle.jn_machine.proofs.output.Output.put_byte.Goals as goal
 
