@@ -1,0 +1,43 @@
+use Rattle.std.proofs.Common.{arith, ap, sym, ◌∙◌, ◌≡◌, ◌<◌, length, reverse, take}
+use Rattle.jn_machine.specs.declared.frame.Frame.{Frame}
+use Rattle.jn_machine.specs.Sizes.{Sizes}
+use Rattle.jn_machine.proofs.Pool.{sized_set, wide_at, high_at, waiting_long}
+use Rattle.jn_machine.proofs.frames.Frames.enter.Goals as goal
+
+pub invariant_of-self : goal.invariant_of-self
+invariant_of-self c =
+    let v = c.self.view_is in
+    let w = waiting_long c.self.inside.live c.self.inside.pool.items (omega arith) in
+    let n : length (reverse (take c.self.inside.live c.self.inside.pool.items)) ≡ length c.args.self.now.waiting = ap (λ (v : Sizes). length v.waiting) v in
+    let m : c.self.inside.pool.len ≡ c.args.self.now.limit = ap (λ (v : Sizes). v.limit) v in
+    let a : c.swap.new.y.vars.limit ≡ c.self.inside.wide = ap (λ (f : Frame). f.vars.limit) c.swap.ensures.y_after ∙ ap (λ (f : Frame). f.vars.limit) c.settle.ensures ∙ c.requires.wide ∙ sym (ap (λ (v : Sizes). v.wide) v) in
+    let b : c.swap.new.y.vals.limit ≡ c.self.inside.high = ap (λ (f : Frame). f.vals.limit) c.swap.ensures.y_after ∙ ap (λ (f : Frame). f.vals.limit) c.settle.ensures ∙ (c.move_args.ensures.limit ∙ c.requires.high) ∙ sym (ap (λ (v : Sizes). v.high) v) in
+    (omega arith, sized_set c.self.inside.wide c.self.inside.high c.self.inside.pool.items c.self.inside.live c.swap.new.y c.self.invariant.1 (record { vars = a; vals = b }))
+
+pub returns-clause-now_wide : goal.returns-clause-now_wide
+returns-clause-now_wide c =
+    let v = c.self.view_is in
+    let w = waiting_long c.self.inside.live c.self.inside.pool.items (omega arith) in
+    let n : length (reverse (take c.self.inside.live c.self.inside.pool.items)) ≡ length c.args.self.now.waiting = ap (λ (v : Sizes). length v.waiting) v in
+    let m : c.self.inside.pool.len ≡ c.args.self.now.limit = ap (λ (v : Sizes). v.limit) v in
+    let b : c.self.inside.live < length c.self.inside.pool.items = omega arith in
+    ap (λ (f : Frame). f.vars.limit) c.swap.ensures.x_after ∙ c.set.ensures.limit ∙ c.move_args.ensures.next_limit ∙ ap (λ (f : Frame). f.vars.limit) c.index_mut-next.ensures.value ∙ wide_at c.self.inside.wide c.self.inside.high c.self.inside.pool.items c.self.inside.live _ c.self.invariant.1 b ∙ ap (λ (v : Sizes). v.wide) v
+
+pub returns-clause-now_high : goal.returns-clause-now_high
+returns-clause-now_high c =
+    let v = c.self.view_is in
+    let w = waiting_long c.self.inside.live c.self.inside.pool.items (omega arith) in
+    let n : length (reverse (take c.self.inside.live c.self.inside.pool.items)) ≡ length c.args.self.now.waiting = ap (λ (v : Sizes). length v.waiting) v in
+    let m : c.self.inside.pool.len ≡ c.args.self.now.limit = ap (λ (v : Sizes). v.limit) v in
+    let b : c.self.inside.live < length c.self.inside.pool.items = omega arith in
+    ap (λ (f : Frame). f.vals.limit) c.swap.ensures.x_after ∙ c.clear.ensures.limit ∙ ap (λ (f : Frame). f.vals.limit) c.index_mut-next.ensures.value ∙ high_at c.self.inside.wide c.self.inside.high c.self.inside.pool.items c.self.inside.live _ c.self.invariant.1 b ∙ ap (λ (v : Sizes). v.high) v
+
+pub move_args-requires-clause-wide : goal.move_args-requires-clause-wide
+move_args-requires-clause-wide c =
+    let v = c.self.view_is in
+    let w = waiting_long c.self.inside.live c.self.inside.pool.items (omega arith) in
+    let n : length (reverse (take c.self.inside.live c.self.inside.pool.items)) ≡ length c.args.self.now.waiting = ap (λ (v : Sizes). length v.waiting) v in
+    let m : c.self.inside.pool.len ≡ c.args.self.now.limit = ap (λ (v : Sizes). v.limit) v in
+    let b : c.self.inside.live < length c.self.inside.pool.items = omega arith in
+    let e : c.index_mut-next.result.now.vars.limit ≡ c.args.self.now.wide = ap (λ (f : Frame). f.vars.limit) c.index_mut-next.ensures.value ∙ wide_at c.self.inside.wide c.self.inside.high c.self.inside.pool.items c.self.inside.live _ c.self.invariant.1 b ∙ ap (λ (v : Sizes). v.wide) v in
+    omega arith
