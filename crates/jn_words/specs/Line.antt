@@ -89,7 +89,7 @@ abbrev pub member_text : List Text → Option Name → List ℕ
 member_text ns None = []
 member_text ns (Some m) = codes " " ++ name_text ns m
 
--- The class, then the member. Where there is a limit, its word behind a space stands in their place.
+-- The class, then the member. Where there is a limit, which E04 alone has, its word behind a space stands in their place.
 abbrev pub shown_text : List Text → Option Limit → Option Path → Option Name → List ℕ
 shown_text ns (Some l) class member = codes " " ++ limit_word l
 shown_text ns None class member = class_text ns class ++ member_text ns member

@@ -1,7 +1,8 @@
 //! The line that tells a refusal.
 //!
 //! What it is, the definition `line_of` in specs/Line.antt says: the place, the rule's number and
-//! name, then the class and the member where the refusal has them, or its limit in their place.
+//! name, then the class and the member where the refusal has them, for E04 the limit's word in their
+//! place, and a line feed.
 #![tactic(auto)]
 
 ghost use Rattle.std.specs.Prelude.{◌≡◌, ◌++◌, decimal, false, option_copied, IfOk, OnOk};
