@@ -21,13 +21,16 @@ pub record AtomsFit (s : Scope) (xs : List Atom) : Type 0 where
   pub depth : (x : Atom) → Among xs x → length (bound s x) ≡ length (bound s one)
   pub shallow : length (bound s one) ≤ 255
 
--- A type fits where it is a class type whose atoms do, or any other type.
-abbrev pub TypeFits : Scope → Ty → Type 0
-TypeFits s (ty.Class xs m) = AtomsFit s (atoms_in (ty.Class xs m))
-TypeFits s ty.Int = Unit {0}
-TypeFits s ty.Bool = Unit {0}
-TypeFits s ty.Null = Unit {0}
-TypeFits s ty.Void = Unit {0}
+abbrev pub IsClass : Ty → Type 0
+IsClass (ty.Class xs m) = Unit {0}
+IsClass ty.Int = ⊥
+IsClass ty.Bool = ⊥
+IsClass ty.Null = ⊥
+IsClass ty.Void = ⊥
+
+-- a type fits where its atoms do, if it is a class type
+pub record TypeFits (s : Scope) (t : Ty) : Type 0 where
+  pub atoms : IsClass t → AtomsFit s (atoms_in t)
 
 -- the paths are distinct, and each type fits the binds before its own
 abbrev pub BindsFit : Scope → Type 0
