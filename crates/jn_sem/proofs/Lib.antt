@@ -1,1 +1,9 @@
 pub mod Under
+pub mod Widenings
+pub mod Substitutions
+pub mod Normals
+pub mod Searches
+pub mod Seeking
+pub mod Endings
+pub mod FirstAtoms
+pub mod Levels

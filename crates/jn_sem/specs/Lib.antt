@@ -4,3 +4,4 @@ pub mod Widening
 pub mod Below
 pub mod RootClosure
 pub mod Normal
+pub mod Search
