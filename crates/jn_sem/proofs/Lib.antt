@@ -7,3 +7,4 @@ pub mod Seeking
 pub mod Endings
 pub mod FirstAtoms
 pub mod Levels
+pub mod TypeSets

@@ -5,3 +5,4 @@ pub mod Below
 pub mod RootClosure
 pub mod Normal
 pub mod Search
+pub mod LawsOfTypes
