@@ -8,3 +8,4 @@ pub mod Endings
 pub mod FirstAtoms
 pub mod Levels
 pub mod TypeSets
+pub mod BelowProof

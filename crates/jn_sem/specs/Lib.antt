@@ -6,3 +6,4 @@ pub mod RootClosure
 pub mod Normal
 pub mod Search
 pub mod LawsOfTypes
+pub mod BelowExample

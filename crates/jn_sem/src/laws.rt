@@ -20,3 +20,16 @@ pub fn normal_form()
 pub fn searching()
     ensures { Searching }
 {}
+
+#[cfg(test)]
+mod tests {
+    use super::*;
+
+    #[test]
+    fn each_law_holds() {
+        widening();
+        substitution();
+        normal_form();
+        searching();
+    }
+}
