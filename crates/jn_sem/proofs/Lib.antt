@@ -9,3 +9,4 @@ pub mod FirstAtoms
 pub mod Levels
 pub mod TypeSets
 pub mod BelowProof
+pub mod NormalTypes
