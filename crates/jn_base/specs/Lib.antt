@@ -3,6 +3,8 @@ pub mod Duplicates
 pub mod DuplicatesExample
 pub mod ExampleTrees
 pub mod FamiliesExample
+pub mod Forms
+pub mod FormTests
 pub mod LawsOfSupers
 pub mod LawsOfTable
 pub mod Members

@@ -10,6 +10,7 @@
 #![tactic(auto)]
 
 pub mod examples;
+pub mod forms;
 pub mod laws;
 pub mod path;
 pub mod refusal;
