@@ -1,3 +1,4 @@
+pub mod Atoms
 pub mod ClassOrder
 pub mod Duplicates
 pub mod DuplicatesExample
@@ -15,6 +16,8 @@ pub mod TableRules
 pub mod Twice
 pub mod Universe
 pub mod VerdictExamples
+pub mod Fits
+pub mod Scopes
 pub mod GrammarDecl
 pub mod GrammarExpr
 pub mod GrammarStmt

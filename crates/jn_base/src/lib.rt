@@ -16,4 +16,5 @@ pub mod path;
 pub mod refusal;
 pub mod token;
 pub mod tree;
+pub mod types;
 pub mod word;

@@ -1,0 +1,6 @@
+//! What types, sharing and programs mean, as definitions, and their laws.
+//!
+//! Nothing here computes: `specs/` has the definitions, and `laws` carries what is proved of them.
+#![tactic(auto)]
+
+pub mod laws;
