@@ -10,6 +10,9 @@ pub mod LawsOfSupers
 pub mod LawsOfTable
 pub mod Members
 pub mod Paths
+pub mod Resolve
+pub mod ResolveLaws
+pub mod ResolveTypes
 pub mod SmallExamples
 pub mod Supers
 pub mod TableRules

@@ -12,6 +12,7 @@
 pub mod examples;
 pub mod forms;
 pub mod laws;
+pub mod names;
 pub mod path;
 pub mod refusal;
 pub mod token;
