@@ -25,3 +25,4 @@ pub mod ExampleFaults
 pub mod ExampleSource
 pub mod FormEquations
 pub mod FormsFound
+pub mod ResolveOnce

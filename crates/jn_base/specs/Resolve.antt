@@ -65,15 +65,22 @@ pub record FoundOut (p : Program) (Q : Path) (N : Name) (k : ℕ) : Type 0 where
 abbrev pub FoundNowhere : Program → Path → Name → Type 0
 FoundNowhere p Q N = (k : ℕ) → k ≤ length Q → Member p (drop k Q) N → ⊥
 
+-- the first name is found, and then the others are or aren't
+abbrev pub sought_gives : ℕ → Option Name → Result ℕ Name
+sought_gives k None = Ok k
+sought_gives k (Some M) = Err M
+
+-- The first name N in the class Q, with the names behind it.
+pub data FirstSought (p : Program) (Q : Path) (N : Name) (ns : List Name) (o : Result ℕ Name) : Type 0 where
+  nowhere : FoundNowhere p Q N → o ≡ Err N → FirstSought p Q N ns o
+  found : (k : ℕ) (u : Option Name) → FoundOut p Q N k → FirstUnknown p (N ∷ drop k Q) ns u → o ≡ sought_gives k u
+      → FirstSought p Q N ns o
+
 -- Names in the class Q: how many of Q's last names are taken off where the first name is found, or the first name that is
 -- unknown. Each further name is a member of the bound before it. (No name at all is of the program itself.)
-pub data Sought (p : Program) (Q : Path) (ns : List Name) (o : Result ℕ Name) : Type 0 where
-  no_name : ns ≡ [] → o ≡ Ok (length Q) → Sought p Q ns o
-  nowhere : (N : Name) (rest : List Name) → ns ≡ N ∷ rest → FoundNowhere p Q N → o ≡ Err N → Sought p Q ns o
-  unknown_behind : (N M : Name) (rest : List Name) (k : ℕ) → ns ≡ N ∷ rest → FoundOut p Q N k
-      → FirstUnknown p (N ∷ drop k Q) rest (Some M) → o ≡ Err M → Sought p Q ns o
-  found : (N : Name) (rest : List Name) (k : ℕ) → ns ≡ N ∷ rest → FoundOut p Q N k
-      → FirstUnknown p (N ∷ drop k Q) rest None → o ≡ Ok k → Sought p Q ns o
+abbrev pub Sought : Program → Path → List Name → Result ℕ Name → Type 0
+Sought p Q [] o = o ≡ Ok (length Q)
+Sought p Q (N ∷ ns) o = FirstSought p Q N ns o
 
 -- the anchor where k names of the class Q are taken off: `Up(this, k)`, and `Root` where none is left
 abbrev pub anchor_out : Path → ℕ → Anchor
@@ -136,45 +143,53 @@ IsAbove p (Some B) V = Sup p V B
 abbrev pub names_of : Term → List Name
 names_of t = t.exact ++ t.names
 
--- The anchor of a term with the path r, and what stands before the bracket, or the first refusal:
--- E06 where r is not in scope, E14 where it is no path, E15 where it has fewer names than what stands before the bracket,
--- E06 for a name behind `class` that is no member of the bound before it, E15 where the names before the bracket don't
--- stand for a super.
-pub data PathGives (p : Program) (spot : Spot) (vars : Vars) (t : Term) (front : Option Path) (r : Ref) (o : Result Anchor Refusal) : Type 0 where
-  not_in_scope : (x : Name) → path_before spot.role vars r ≡ NotInScope x → o ≡ Err (unknown spot t x)
-      → PathGives p spot vars t front r o
-  no_path : path_before spot.role vars r ≡ NoPath → o ≡ Err (at_term rule.E14 spot t) → PathGives p spot vars t front r o
-  too_short : (q : ℕ) → path_before spot.role vars r ≡ IsPath q → taken_off front (bound_of (scope_at spot vars) q) ≡ None
-      → o ≡ Err (at_term rule.E15 spot t) → PathGives p spot vars t front r o
-  unknown_name : (q k : ℕ) (N : Name) → path_before spot.role vars r ≡ IsPath q
-      → taken_off front (bound_of (scope_at spot vars) q) ≡ Some k
-      → FirstUnknown p (drop k (bound_of (scope_at spot vars) q)) (names_of t) (Some N)
-      → o ≡ Err (unknown spot t N) → PathGives p spot vars t front r o
-  not_above : (q k : ℕ) → path_before spot.role vars r ≡ IsPath q
-      → taken_off front (bound_of (scope_at spot vars) q) ≡ Some k
-      → FirstUnknown p (drop k (bound_of (scope_at spot vars) q)) (names_of t) None
-      → (IsAbove p front (drop k (bound_of (scope_at spot vars) q)) → ⊥)
-      → o ≡ Err (at_term rule.E15 spot t) → PathGives p spot vars t front r o
-  is : (q k : ℕ) → path_before spot.role vars r ≡ IsPath q
-      → taken_off front (bound_of (scope_at spot vars) q) ≡ Some k
-      → FirstUnknown p (drop k (bound_of (scope_at spot vars) q)) (names_of t) None
-      → IsAbove p front (drop k (bound_of (scope_at spot vars) q))
-      → o ≡ Ok (Up q k) → PathGives p spot vars t front r o
+-- The names behind `class`, where V is left of p's bound: E06 for the first that is no member of the bound before it, then
+-- E15 where the names before the bracket stand for no super of V.
+pub data Behind (p : Program) (spot : Spot) (t : Term) (front : Option Path) (V : Path) (a : Anchor) (o : Result Anchor Refusal) : Type 0 where
+  unknown_name : (N : Name) → FirstUnknown p V (names_of t) (Some N) → o ≡ Err (unknown spot t N) → Behind p spot t front V a o
+  not_above : FirstUnknown p V (names_of t) None → (IsAbove p front V → ⊥) → o ≡ Err (at_term rule.E15 spot t)
+      → Behind p spot t front V a o
+  above : FirstUnknown p V (names_of t) None → IsAbove p front V → o ≡ Ok a → Behind p spot t front V a o
+
+-- The path q has the bound V: E15 where V has fewer names than what stands before the bracket; then nothing else is asked.
+abbrev pub BoundGives : Program → Spot → Term → Option Path → ℕ → Path → Option ℕ → Result Anchor Refusal → Type 0
+BoundGives p spot t front q V None o = o ≡ Err (at_term rule.E15 spot t)
+BoundGives p spot t front q V (Some k) o = Behind p spot t front (drop k V) (Up q k) o
+
+-- E06 where the path is not in scope, E14 where it is none; then nothing else is asked.
+abbrev pub PathGives : Program → Spot → Scope → Term → Option Path → Before → Result Anchor Refusal → Type 0
+PathGives p spot s t front (NotInScope x) o = o ≡ Err (unknown spot t x)
+PathGives p spot s t front NoPath o = o ≡ Err (at_term rule.E14 spot t)
+PathGives p spot s t front (IsPath q) o = BoundGives p spot t front q (bound_of s q) (taken_off front (bound_of s q)) o
 
 -- ---- the anchor of a term
 
--- `N.t`: the first name is sought from the class outwards. `p.class.t`: no names are taken off. `P[p.class].t`: P is
--- resolved as `N.t` is, and stands for its bound.
-pub data AnchorGiven (p : Program) (spot : Spot) (vars : Vars) (t : Term) (o : Result Anchor Refusal) : Type 0 where
-  plain : (k : ℕ) → t.head ≡ head.Plain → Sought p (class_of spot) (names_of t) (Ok k) → o ≡ Ok (anchor_out (class_of spot) k)
-      → AnchorGiven p spot vars t o
-  plain_unknown : (N : Name) → t.head ≡ head.Plain → Sought p (class_of spot) (names_of t) (Err N) → o ≡ Err (unknown spot t N)
-      → AnchorGiven p spot vars t o
-  own : (r : Ref) → t.head ≡ head.Own r → PathGives p spot vars t None r o → AnchorGiven p spot vars t o
-  prefix_unknown : (P : List Name) (r : Ref) (N : Name) → t.head ≡ head.Prefix P r → Sought p (class_of spot) P (Err N)
-      → o ≡ Err (unknown spot t N) → AnchorGiven p spot vars t o
-  prefix : (P : List Name) (r : Ref) (k : ℕ) → t.head ≡ head.Prefix P r → Sought p (class_of spot) P (Ok k)
-      → PathGives p spot vars t (Some (reverse P ++ drop k (class_of spot))) r o → AnchorGiven p spot vars t o
+abbrev pub plain_gives : Spot → Term → Result ℕ Name → Result Anchor Refusal
+plain_gives spot t (Ok k) = Ok (anchor_out (class_of spot) k)
+plain_gives spot t (Err N) = Err (unknown spot t N)
+
+-- `N.t`: the first name is sought from the class outwards
+pub record PlainGiven (p : Program) (spot : Spot) (t : Term) (o : Result Anchor Refusal) : Type 0 where
+  pub found : Result ℕ Name
+  pub sought : Sought p (class_of spot) (names_of t) found
+  pub gives : o ≡ plain_gives spot t found
+
+abbrev pub PrefixGives : Program → Spot → Vars → Term → List Name → Ref → Result ℕ Name → Result Anchor Refusal → Type 0
+PrefixGives p spot vars t P r (Err N) o = o ≡ Err (unknown spot t N)
+PrefixGives p spot vars t P r (Ok k) o =
+    PathGives p spot (scope_at spot vars) t (Some (reverse P ++ drop k (class_of spot))) (path_before spot.role vars r) o
+
+-- `P[p.class].t`: P is resolved as `N.t` is, and stands for its bound
+pub record PrefixGiven (p : Program) (spot : Spot) (vars : Vars) (t : Term) (P : List Name) (r : Ref) (o : Result Anchor Refusal) : Type 0 where
+  pub found : Result ℕ Name
+  pub sought : Sought p (class_of spot) P found
+  pub gives : PrefixGives p spot vars t P r found o
+
+-- `p.class.t` takes no names off
+abbrev pub AnchorGiven : Program → Spot → Vars → Term → Head → Result Anchor Refusal → Type 0
+AnchorGiven p spot vars t head.Plain o = PlainGiven p spot t o
+AnchorGiven p spot vars t (head.Own r) o = PathGives p spot (scope_at spot vars) t None (path_before spot.role vars r) o
+AnchorGiven p spot vars t (head.Prefix P r) o = PrefixGiven p spot vars t P r o
 
 -- ---- the whole term
 
@@ -214,14 +229,22 @@ atom_with a t = record { anchor = a; exact = t.exact; names = t.names }
 abbrev pub bound_at : Spot → Vars → ShownAtom → Path
 bound_at spot vars x = bound (scope_at spot vars) (atom_of x)
 
+-- E22 where the bound is of no class
+pub data ClassGives (p : Program) (spot : Spot) (t : Term) (B : Path) (x : ShownAtom) (o : Result ShownAtom Refusal) : Type 0 where
+  no_class : (IsOfClass p spot.role B → ⊥) → o ≡ Err (at_term rule.E22 spot t) → ClassGives p spot t B x o
+  in_class : IsOfClass p spot.role B → o ≡ Ok x → ClassGives p spot t B x o
+
+-- E15 where the role asks for another atom
+abbrev pub SuitGives : Program → Spot → Vars → Term → ShownAtom → Bool → Result ShownAtom Refusal → Type 0
+SuitGives p spot vars t x false o = o ≡ Err (at_term rule.E15 spot t)
+SuitGives p spot vars t x true o = ClassGives p spot t (bound_at spot vars x) x o
+
+abbrev pub AtomGives : Program → Spot → Vars → Term → Result Anchor Refusal → Result ShownAtom Refusal → Type 0
+AtomGives p spot vars t (Err r) o = o ≡ Err r
+AtomGives p spot vars t (Ok a) o = SuitGives p spot vars t (atom_with a t) (suits spot.role (atom_with a t)) o
+
 -- What a term stands for. Within it the refusals come in the order E06, E14, E15, E22.
-pub data Resolve (p : Program) (spot : Spot) (vars : Vars) (t : Term) (o : Result ShownAtom Refusal) : Type 0 where
-  no_anchor : (r : Refusal) → AnchorGiven p spot vars t (Err r) → o ≡ Err r → Resolve p spot vars t o
-  unsuited : (a : Anchor) → AnchorGiven p spot vars t (Ok a) → suits spot.role (atom_with a t) ≡ false
-      → o ≡ Err (at_term rule.E15 spot t) → Resolve p spot vars t o
-  no_class : (a : Anchor) → AnchorGiven p spot vars t (Ok a) → suits spot.role (atom_with a t) ≡ true
-      → (IsOfClass p spot.role (bound_at spot vars (atom_with a t)) → ⊥)
-      → o ≡ Err (at_term rule.E22 spot t) → Resolve p spot vars t o
-  is : (a : Anchor) → AnchorGiven p spot vars t (Ok a) → suits spot.role (atom_with a t) ≡ true
-      → IsOfClass p spot.role (bound_at spot vars (atom_with a t))
-      → o ≡ Ok (atom_with a t) → Resolve p spot vars t o
+pub record Resolve (p : Program) (spot : Spot) (vars : Vars) (t : Term) (o : Result ShownAtom Refusal) : Type 0 where
+  pub anchor : Result Anchor Refusal
+  pub given : AnchorGiven p spot vars t t.head anchor
+  pub gives : AtomGives p spot vars t anchor o

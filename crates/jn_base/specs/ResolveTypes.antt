@@ -78,14 +78,17 @@ FirstUnfit p bounds seen (m ∷ ms) o =
 
 -- ---- the terms of a type
 
+abbrev pub before_all : ShownAtom → Result (List ShownAtom) Refusal → Result (List ShownAtom) Refusal
+before_all x (Err r) = Err r
+before_all x (Ok xs) = Ok (x ∷ xs)
+
 -- the atoms of the terms, in order, or the first refusal of the first term that has one
 pub data ResolveAll (p : Program) (spot : Spot) (vars : Vars) : List Term → Result (List ShownAtom) Refusal → Type 0 where
-  none : ResolveAll p spot vars [] (Ok [])
-  refused : {t : Term} {ts : List Term} {r : Refusal} → Resolve p spot vars t (Err r) → ResolveAll p spot vars (t ∷ ts) (Err r)
-  refused_later : {t : Term} {ts : List Term} {r : Refusal} (x : ShownAtom) → Resolve p spot vars t (Ok x)
-      → ResolveAll p spot vars ts (Err r) → ResolveAll p spot vars (t ∷ ts) (Err r)
-  more : {t : Term} {ts : List Term} {x : ShownAtom} {xs : List ShownAtom} → Resolve p spot vars t (Ok x)
-      → ResolveAll p spot vars ts (Ok xs) → ResolveAll p spot vars (t ∷ ts) (Ok (x ∷ xs))
+  none : {o : Result (List ShownAtom) Refusal} → o ≡ Ok [] → ResolveAll p spot vars [] o
+  refused : {t : Term} {ts : List Term} {o : Result (List ShownAtom) Refusal} (r : Refusal) → Resolve p spot vars t (Err r)
+      → o ≡ Err r → ResolveAll p spot vars (t ∷ ts) o
+  first : {t : Term} {ts : List Term} {o : Result (List ShownAtom) Refusal} (x : ShownAtom) (others : Result (List ShownAtom) Refusal)
+      → Resolve p spot vars t (Ok x) → ResolveAll p spot vars ts others → o ≡ before_all x others → ResolveAll p spot vars (t ∷ ts) o
 
 abbrev pub bounds_at : Spot → Vars → List ShownAtom → List Path
 bounds_at spot vars [] = []
@@ -112,27 +115,47 @@ masks_forbidden spot m = record { rule = rule.E15; at = m.at; class = Some spot.
 abbrev pub mask_unfit : Spot → Named → Refusal
 mask_unfit spot m = record { rule = rule.E27; at = m.at; class = Some spot.class; member = Some m.name; limit = None }
 
--- The terms of a class type with its masks. After the terms' own refusals come E15 on depths, at the second term; E15 on
--- the masks of a field type, at the first mask; then E27.
-pub data ResolveClass (p : Program) (names : List Name) (spot : Spot) (vars : Vars) (ts : List Term) (ms : List Named) (o : Result Ty Refusal) : Type 0 where
-  term : (r : Refusal) → ResolveAll p spot vars ts (Err r) → o ≡ Err r → ResolveClass p names spot vars ts ms o
-  depths : (xs : List ShownAtom) (one two : Term) (rest : List Term) → ResolveAll p spot vars ts (Ok xs)
-      → (OneDepth (bounds_at spot vars xs) → ⊥) → ts ≡ one ∷ two ∷ rest
-      → o ≡ Err (at_term rule.E15 spot two) → ResolveClass p names spot vars ts ms o
-  forbidden : (xs : List ShownAtom) (m : Named) (rest : List Named) → ResolveAll p spot vars ts (Ok xs)
-      → OneDepth (bounds_at spot vars xs) → may_mask spot.role ≡ false → ms ≡ m ∷ rest
-      → o ≡ Err (masks_forbidden spot m) → ResolveClass p names spot vars ts ms o
-  unfit : (xs : List ShownAtom) (m : Named) → ResolveAll p spot vars ts (Ok xs)
-      → OneDepth (bounds_at spot vars xs) → may_mask spot.role ≡ true
-      → FirstUnfit p (bounds_at spot vars xs) [] ms (Some m)
-      → o ≡ Err (mask_unfit spot m) → ResolveClass p names spot vars ts ms o
-  plain : (xs : List ShownAtom) (m : Masks) → ResolveAll p spot vars ts (Ok xs)
-      → OneDepth (bounds_at spot vars xs) → may_mask spot.role ≡ false → ms ≡ [] → MasksAre names ms m
-      → o ≡ Ok (ty.Class xs m) → ResolveClass p names spot vars ts ms o
-  masked : (xs : List ShownAtom) (m : Masks) → ResolveAll p spot vars ts (Ok xs)
-      → OneDepth (bounds_at spot vars xs) → may_mask spot.role ≡ true
-      → FirstUnfit p (bounds_at spot vars xs) [] ms None → MasksAre names ms m
-      → o ≡ Ok (ty.Class xs m) → ResolveClass p names spot vars ts ms o
+-- the atoms with the set of the masks
+pub record Taken (names : List Name) (xs : List ShownAtom) (ms : List Named) (o : Result Ty Refusal) : Type 0 where
+  pub masks : Masks
+  pub are : MasksAre names ms masks
+  pub gives : o ≡ Ok (ty.Class xs masks)
+
+-- E27 at the first mask that doesn't fit
+abbrev pub UnfitGives : List Name → Spot → List ShownAtom → List Named → Option Named → Result Ty Refusal → Type 0
+UnfitGives names spot xs ms (Some m) o = o ≡ Err (mask_unfit spot m)
+UnfitGives names spot xs ms None o = Taken names xs ms o
+
+pub record MaskedGives (p : Program) (names : List Name) (spot : Spot) (bounds : List Path) (xs : List ShownAtom) (ms : List Named) (o : Result Ty Refusal) : Type 0 where
+  pub first : Option Named
+  pub unfit : FirstUnfit p bounds [] ms first
+  pub gives : UnfitGives names spot xs ms first o
+
+-- E15 at the first mask of a field type
+abbrev pub UnmaskedGives : List Name → Spot → List ShownAtom → List Named → Result Ty Refusal → Type 0
+UnmaskedGives names spot xs [] o = Taken names xs [] o
+UnmaskedGives names spot xs (m ∷ ms) o = o ≡ Err (masks_forbidden spot m)
+
+abbrev pub MasksGive : Program → List Name → Spot → List Path → List ShownAtom → List Named → Bool → Result Ty Refusal → Type 0
+MasksGive p names spot bounds xs ms true o = MaskedGives p names spot bounds xs ms o
+MasksGive p names spot bounds xs ms false o = UnmaskedGives names spot xs ms o
+
+-- E15 on depths at the second term, then the masks
+pub data DepthsGive (p : Program) (names : List Name) (spot : Spot) (ts : List Term) (ms : List Named) (bounds : List Path) (xs : List ShownAtom) (o : Result Ty Refusal) : Type 0 where
+  many : (one two : Term) (others : List Term) → (OneDepth bounds → ⊥) → ts ≡ one ∷ two ∷ others
+      → o ≡ Err (at_term rule.E15 spot two) → DepthsGive p names spot ts ms bounds xs o
+  one : OneDepth bounds → MasksGive p names spot bounds xs ms (may_mask spot.role) o → DepthsGive p names spot ts ms bounds xs o
+
+abbrev pub AtomsGive : Program → List Name → Spot → Vars → List Term → List Named → Result (List ShownAtom) Refusal → Result Ty Refusal → Type 0
+AtomsGive p names spot vars ts ms (Err r) o = o ≡ Err r
+AtomsGive p names spot vars ts ms (Ok xs) o = DepthsGive p names spot ts ms (bounds_at spot vars xs) xs o
+
+-- The terms of a class type with its masks: first the terms, in order; then E15 on depths, E15 on the masks of a field
+-- type, and E27.
+pub record ResolveClass (p : Program) (names : List Name) (spot : Spot) (vars : Vars) (ts : List Term) (ms : List Named) (o : Result Ty Refusal) : Type 0 where
+  pub atoms : Result (List ShownAtom) Refusal
+  pub all : ResolveAll p spot vars ts atoms
+  pub gives : AtomsGive p names spot vars ts ms atoms o
 
 -- A type as it is written.
 abbrev pub ResolveType : Program → List Name → Spot → Vars → TypeTerm → Result Ty Refusal → Type 0
