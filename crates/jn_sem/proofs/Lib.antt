@@ -10,3 +10,4 @@ pub mod Levels
 pub mod TypeSets
 pub mod BelowProof
 pub mod NormalTypes
+pub mod AtomOrder

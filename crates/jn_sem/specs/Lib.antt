@@ -7,3 +7,4 @@ pub mod Normal
 pub mod Search
 pub mod LawsOfTypes
 pub mod BelowExample
+pub mod NormalFunction
