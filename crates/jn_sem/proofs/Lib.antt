@@ -11,3 +11,4 @@ pub mod TypeSets
 pub mod BelowProof
 pub mod NormalTypes
 pub mod AtomOrder
+pub mod Closures
