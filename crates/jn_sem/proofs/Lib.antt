@@ -12,3 +12,4 @@ pub mod BelowProof
 pub mod NormalTypes
 pub mod AtomOrder
 pub mod Closures
+pub mod TypesProof
