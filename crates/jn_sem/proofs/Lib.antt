@@ -13,3 +13,4 @@ pub mod NormalTypes
 pub mod AtomOrder
 pub mod Closures
 pub mod TypesProof
+pub mod Climbing

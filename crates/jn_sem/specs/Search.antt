@@ -1,7 +1,7 @@
 -- How chains of widening steps go: first steps of kinds 1 and 2, then one of kind 4 or none, then one of kind 3, and again.
 --
 -- These are no rules of the language. They are the forms by whose induction "below" is decided, proved equal to its chains.
-use Rattle.std.specs.Prelude.{◌≡◌, ◌<◌, ◌+◌, ℕ, List, [], ◌∷◌, ◌++◌, suc, length, cond, nat_eq}
+use Rattle.std.specs.Prelude.{◌≡◌, ◌<◌, ◌≤◌, ◌+◌, ◌-◌, ℕ, List, [], ◌∷◌, ◌++◌, suc, length, take, drop, cond, nat_eq}
 use Rattle.jn_reach.specs.Chain.{Chain}
 use Rattle.jn_base.specs.declared.tree.Name.{Name}
 use Rattle.jn_base.specs.declared.tree.Program.{Program}
@@ -10,7 +10,7 @@ use Rattle.jn_base.specs.declared.types.Anchor.TheVariants.{Root, Up}
 use Rattle.jn_base.specs.Paths.{Path}
 use Rattle.jn_base.specs.Supers.{Sup}
 use Rattle.jn_base.specs.Universe.{InUniverse}
-use Rattle.jn_base.specs.Atoms.{Atom, atom, atoms_in, anchor_at, Among}
+use Rattle.jn_base.specs.Atoms.{Atom, atom, atoms_in, anchor_at, lifted, Among}
 use Rattle.jn_base.specs.Scopes.{Bind, Scope, bound_of, bound}
 use Rattle.jn_sem.specs.Widening.{replaced, Widens}
 
@@ -61,6 +61,23 @@ rank_of (b ∷ s) q = cond (nat_eq q b.path) (suc (length s)) (rank_of s q)
 abbrev pub rank : Scope → Anchor → ℕ
 rank s Root = 0
 rank s (Up q k) = rank_of s q
+
+-- The atom after i names have been moved, from the innermost exact one outwards and on into the anchor's bound: they become
+-- inexact, and are taken off the exact names and then off the anchor.
+abbrev pub climbed : Scope → Atom → ℕ → Atom
+climbed s x i =
+    atom (lifted (i - length x.exact) x.anchor) (drop i x.exact) (x.names ++ take i (x.exact ++ anchor_at (bound_of s) x.anchor))
+
+-- i names can be moved: as many as are exact, and in the universe all but the outermost of the path's bound
+pub data CanClimb (p : Program) (s : Scope) (x : Atom) (i : ℕ) : Type 0 where
+  in_exact : i ≤ length x.exact → CanClimb p s x i
+  in_bound : (q k : ℕ) → x.anchor ≡ Up q k → k + (i - length x.exact) < length (bound_of s q) → InUniverse p (bound s x) → CanClimb p s x i
+
+-- z is reached by steps of kinds 1 and 2
+pub record IsClimbed (p : Program) (s : Scope) (x z : Atom) : Type 0 where
+  pub moved_names : ℕ
+  pub can : CanClimb p s x moved_names
+  pub is : z ≡ climbed s x moved_names
 
 -- y is reached without an atom of a path's type
 pub record EndsAt (p : Program) (s : Scope) (x y : Atom) : Type 0 where
