@@ -14,3 +14,4 @@ pub mod AtomOrder
 pub mod Closures
 pub mod TypesProof
 pub mod Climbing
+pub mod Turning

@@ -1,5 +1,5 @@
 -- The laws of types: widening, the root closure, substitution and the normal form, in every state that respects a scope.
-use Rattle.std.specs.Prelude.{◌≡◌, ◌∷◌, ◌↔◌, ◌<◌, ℕ, List, Bool, IsTrue, drop, suc}
+use Rattle.std.specs.Prelude.{◌≡◌, ◌∷◌, ◌↔◌, ◌⊎◌, ◌<◌, ℕ, List, Bool, IsTrue, drop, suc}
 use Rattle.jn_reach.specs.Chain.{Chain}
 use Rattle.jn_base.specs.declared.tree.Name.{Name}
 use Rattle.jn_base.specs.declared.tree.Program.{Program}
@@ -16,7 +16,7 @@ use Rattle.jn_sem.specs.Below.{Below}
 use Rattle.jn_sem.specs.RootClosure.{InClosure, InRootClosure}
 use Rattle.jn_sem.specs.Normal.{normal, moved, after, TypeSubst, NormalType, MovedFits, EndsWith}
 use Rattle.jn_sem.specs.NormalFunction.{subst_type}
-use Rattle.jn_sem.specs.Search.{Found, Seeks, Enters, EndsAt, EndsPlainly, rank}
+use Rattle.jn_sem.specs.Search.{Found, Seeks, Enters, EndsAt, EndsPlainly, TurnsTo, IsTurn, rank}
 
 -- the slots that a test says to have values
 abbrev pub Passes : (ℕ → Path → Name → Bool) → ℕ → Path → Name → Type 0
@@ -76,6 +76,10 @@ pub record SearchOf (p : Program) (s : Scope) : Type 0 where
   pub turn : (x y : Atom) → Chain (Widens p s) x y ↔ Seeks p s x y
   pub found : (x y : Atom) → Chain (Widens p s) x y ↔ Found p s x y
   pub ends : (x y : Atom) → EndsAt p s x y ↔ EndsPlainly p s x y
+  pub turns : (x t : Atom) → TurnsTo p s x t ↔ IsTurn p s x t
+  -- so a chain ends at once, or goes on from a turn
+  pub decided : (x y : Atom) → Chain (Widens p s) x y ↔ (EndsPlainly p s x y ⊎ ((t : Atom) × IsTurn p s x t × Chain (Widens p s) t y))
+  pub turns_older : BindsFit s → (x t : Atom) → IsTurn p s x t → rank s t.anchor < rank s x.anchor
   pub older : BindsFit s → (x y : Atom) → Enters p s x y → rank s y.anchor < rank s x.anchor
 
 abbrev pub Searching : Type 0

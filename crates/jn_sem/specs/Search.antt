@@ -73,6 +73,10 @@ pub data CanClimb (p : Program) (s : Scope) (x : Atom) (i : ℕ) : Type 0 where
   in_exact : i ≤ length x.exact → CanClimb p s x i
   in_bound : (q k : ℕ) → x.anchor ≡ Up q k → k + (i - length x.exact) < length (bound_of s q) → InUniverse p (bound s x) → CanClimb p s x i
 
+-- the atom with the inexact names of this path
+abbrev pub spread : Atom → Path → Atom
+spread z R = atom z.anchor z.exact (take (length z.names) R)
+
 -- z is reached by steps of kinds 1 and 2
 pub record IsClimbed (p : Program) (s : Scope) (x z : Atom) : Type 0 where
   pub moved_names : ℕ
@@ -92,6 +96,23 @@ pub record TurnsTo (p : Program) (s : Scope) (x t : Atom) : Type 0 where
   pub climbs : Chain (Climbs p s) x climbed
   pub spreads : Spreads p s climbed spread
   pub enters : Enters p s spread t
+
+-- TurnsTo without its steps: i names are moved, the inexact names become those of a super of x's bound that has the same
+-- outer names, and an atom of the path's type stands for the path.
+pub record IsTurn (p : Program) (s : Scope) (x t : Atom) : Type 0 where
+  pub moved_names : ℕ
+  pub can : CanClimb p s x moved_names
+  pub above : Path
+  pub super : Sup p (bound s x) above
+  pub outer : drop (length (climbed s x moved_names).names) above ≡ drop (length (climbed s x moved_names).names) (bound s x)
+  pub bind : Bind
+  pub levels : ℕ
+  pub by : Atom
+  pub bound_in : Among s bind
+  pub anchor : (climbed s x moved_names).anchor ≡ Up bind.path levels
+  pub among : Among (atoms_in bind.ty) by
+  pub is : t ≡ replaced by levels (spread (climbed s x moved_names) above)
+  pub universe : InUniverse p (bound s t)
 
 -- EndsAt without its steps: at the same anchor some exact names have become inexact, or at a higher one all have
 pub data EndsPlainly (p : Program) (s : Scope) (x y : Atom) : Type 0 where
