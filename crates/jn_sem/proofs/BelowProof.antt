@@ -82,19 +82,19 @@ both_lit = both_has Lit (0, omega arith, refl)
 to_both_exp : Sup families (Lit ∷ both ∷ []) (Exp ∷ both ∷ [])
 to_both_exp = (lit_supers (Exp ∷ both ∷ [])).1 (record { C = Exp; A = both; is = refl; class = (1, omega arith, refl); package_in = (0, omega arith, refl) })
 
-to_base_lit : Sup families (Lit ∷ both ∷ []) (Lit ∷ base ∷ [])
+pub to_base_lit : Sup families (Lit ∷ both ∷ []) (Lit ∷ base ∷ [])
 to_base_lit = (lit_supers (Lit ∷ base ∷ [])).1 (record { C = Lit; A = base; is = refl; class = (0, omega arith, refl); package_in = (3, omega arith, refl) })
 
 to_base_exp : Sup families (Lit ∷ both ∷ []) (Exp ∷ base ∷ [])
 to_base_exp = (lit_supers (Exp ∷ base ∷ [])).1 (record { C = Exp; A = base; is = refl; class = (1, omega arith, refl); package_in = (3, omega arith, refl) })
 
-base_lit : InUniverse families (Lit ∷ base ∷ [])
+pub base_lit : InUniverse families (Lit ∷ base ∷ [])
 base_lit = sup_namespace to_base_lit both_lit
 
-base_exp : InUniverse families (Exp ∷ base ∷ [])
+pub base_exp : InUniverse families (Exp ∷ base ∷ [])
 base_exp = sup_namespace to_base_exp both_lit
 
-lit_exp : Sup families (Lit ∷ base ∷ []) (Exp ∷ base ∷ [])
+pub lit_exp : Sup families (Lit ∷ base ∷ []) (Exp ∷ base ∷ [])
 lit_exp = inner_above families base base Lit Exp itself (simp outs-Inner) base_exp.1
 
 -- the answers

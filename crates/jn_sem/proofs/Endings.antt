@@ -15,7 +15,7 @@ use Rattle.jn_base.specs.Fits.{Anchored, AtomsFit, TypeFits, BindsFit}
 use Rattle.jn_sem.specs.Search.{Climbs, loosens, raises, Spreads, EndsAt, EndsPlainly, level, higher}
 use Rattle.jn_sem.proofs.Searches.{raised_bound, loosened_bound}
 
-anchor_of : (s : Scope) (q k : ℕ) (c d : Name) (B : Path) → anchor_at (bound_of s) (Up q k) ≡ c ∷ d ∷ B → suc k < length (bound_of s q)
+pub anchor_of : (s : Scope) (q k : ℕ) (c d : Name) (B : Path) → anchor_at (bound_of s) (Up q k) ≡ c ∷ d ∷ B → suc k < length (bound_of s q)
 anchor_of s q k c d B e = omega (arith, length-drop k (bound_of s q), ap length e)
 
 path_of : Anchor → ℕ
@@ -81,7 +81,7 @@ loosen {p} {s} (e ∷ front) x y f a l u =
     record { climbed = r.climbed; climbs = step (loosens e (front ++ y.exact) f refl) r.climbs; spreads = r.spreads }
 
 -- a path with more than n + 1 names, at n
-two_more : (n : ℕ) (B : Path) → suc n < length B → (c : Name) × (d : Name) × (D : Path) × (drop n B ≡ c ∷ d ∷ D)
+pub two_more : (n : ℕ) (B : Path) → suc n < length B → (c : Name) × (d : Name) × (D : Path) × (drop n B ≡ c ∷ d ∷ D)
 two_more zero [] l = absurd (omega (arith, l))
 two_more zero (c ∷ []) l = absurd (omega (arith, l))
 two_more zero (c ∷ d ∷ D) l = (c, d, D, refl)

@@ -17,7 +17,7 @@ use Rattle.jn_sem.proofs.Under.{bound_depth, fits_whole, type_anchored}
 use Rattle.jn_sem.proofs.Widenings.{lifted_at}
 use Rattle.jn_sem.proofs.Normals.{Turns, turned, left, rewritten_is}
 
-reduced_anchored : {s : Scope} {b : Bind} → BindsFit s → Among s b → (z : Atom) → Among (atoms_in b.ty) z → (k : ℕ) → k < length (bound_of s b.path) → (x : Atom)
+pub reduced_anchored : {s : Scope} {b : Bind} → BindsFit s → Among s b → (z : Atom) → Among (atoms_in b.ty) z → (k : ℕ) → k < length (bound_of s b.path) → (x : Atom)
     → Anchored s (reduced z k x).anchor
 reduced_anchored {s} {b} f m z a k l x =
     at z.anchor refl (type_anchored (fits_whole m f) z a) (omega (arith, l, bound_depth m f z a)) where

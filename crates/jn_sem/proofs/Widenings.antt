@@ -49,7 +49,7 @@ view_namespace : {p : Program} {v : Views} {s : Scope} → Respects p v s → (q
 view_namespace {p} {v} r q seen = universe_namespace p (view_at v q) (r.universe q seen)
 
 -- a namespace that has something declared in it, and one that has a direct super, is in the universe
-declared_namespace : (p : Program) (P : Path) (d : Decl) → StandsIn p P d → IsNamespace p P
+pub declared_namespace : (p : Program) (P : Path) (d : Decl) → StandsIn p P d → IsNamespace p P
 declared_namespace p [] d h = tt
 declared_namespace p (C ∷ P) d h = (declared_namespace p P h.0 h.1, record { at = P; super = itself; declared = record { decl = h.0; stands = (h.1, h.2) } })
 

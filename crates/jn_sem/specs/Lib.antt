@@ -7,3 +7,5 @@ pub mod Normal
 pub mod Search
 pub mod LawsOfTypes
 pub mod BelowExample
+pub mod NormalFunction
+pub mod TypesExample
