@@ -1,5 +1,5 @@
 -- What a view has in common with its path's bound, level by level.
-use Rattle.std.proofs.Common.{◌≡◌, ℕ, List, [], ◌∷◌, ◌++◌, ◌<◌, ◌≤◌, length, refl, sym, ap, ◌∙◌, zero, suc, drop, arith, subst, cond, ne_eqb, eq-eqb}
+use Rattle.std.proofs.Common.{◌≡◌, ℕ, List, [], ◌∷◌, ◌++◌, ◌<◌, ◌≤◌, length, refl, sym, ap, ◌∙◌, zero, suc, drop, arith, subst, cond, Bool, true, false, nat_eq, ne_eqb, eq-eqb}
 use Rattle.jn_base.specs.declared.tree.Name.{Name}
 use Rattle.jn_base.specs.declared.tree.Program.{Program}
 use Rattle.jn_base.specs.declared.types.Anchor.{Anchor}
@@ -132,6 +132,30 @@ bound_is (later {x = b} {y = c} {xs = s} m) f =
     bound_older f b.path (record { bind = b; among = m; is = refl }) ∙ bound_is m f.0
     ∙ sym (first_older f (atoms_in b.ty) (type_anchored (fits_whole m f.0)))
 
+pub first_of : {A : Type 0} (xs : List A) (x : A) → Among xs x → (y : A) × (ys : List A) × (xs ≡ y ∷ ys)
+first_of [] x a = elim a [ ]
+first_of (y ∷ ys) x a = (y, ys, refl)
+
+-- the bounds of all atoms of a path's type have its depth, which is at most 255
+pub bound_depth : {s : Scope} {b : Bind} → Among s b → BindsFit s → (z : Atom) → Among (atoms_in b.ty) z → length (bound_of s b.path) ≡ length (bound s z)
+bound_depth {s} {b} m f z a =
+    let t = atoms_fit (fits_whole m f) z a in
+    let o = first_of (atoms_in b.ty) z a in
+    let among : Among (atoms_in b.ty) o.0 = subst (λ (xs : List Atom). Among xs o.0) (sym o.2) first in
+    ap length (bound_is m f ∙ ap (first_at (bound_of s)) o.2) ∙ t.depth o.0 among ∙ sym (t.depth z a)
+
+first_shallow : (s : Scope) (xs : List Atom) → ((x : Atom) → Among xs x → AtomsFit s xs) → length (first_at (bound_of s) xs) ≤ 255
+first_shallow s [] f = omega arith
+first_shallow s (x ∷ xs) f = let t = f x first in omega (arith, t.depth x first, t.shallow)
+
+pub bound_shallow : (s : Scope) → BindsFit s → (q : ℕ) → length (bound_of s q) ≤ 255
+bound_shallow [] f q = omega arith
+bound_shallow (b ∷ s) f q = at (nat_eq q b.path) (first_shallow s (atoms_in b.ty) (atoms_fit f.2)) (bound_shallow s f.0 q) where
+  at : (t : Bool) → length (first_at (bound_of s) (atoms_in b.ty)) ≤ 255 → length (bound_of s q) ≤ 255
+      → length (cond t (first_at (bound_of s) (atoms_in b.ty)) (bound_of s q)) ≤ 255
+  at true g h = g
+  at false g h = h
+
 -- a class is in class types alone, and there in each atom
 pub type_atoms : {p : Program} {v : Views} {V : Path} (t : Ty) → InType p v t V → IsClass t × InAtoms p v (atoms_in t) V
 type_atoms (ty.Class xs m) i = (tt, i)
@@ -139,10 +163,6 @@ type_atoms ty.Int i = absurd i
 type_atoms ty.Bool i = absurd i
 type_atoms ty.Null i = absurd i
 type_atoms ty.Void i = absurd i
-
-pub first_of : {A : Type 0} (xs : List A) (x : A) → Among xs x → (y : A) × (ys : List A) × (xs ≡ y ∷ ys)
-first_of [] x a = elim a [ ]
-first_of (y ∷ ys) x a = (y, ys, refl)
 
 -- in each state that respects the scope, a path's view stands under its bound
 pub view_under : {p : Program} {s : Scope} (v : Views) → BindsFit s → Respects p v s → (q : ℕ) → Binds s q → Seen v q → Under p (view_at v q) (bound_of s q)

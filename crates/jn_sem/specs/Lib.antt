@@ -4,3 +4,7 @@ pub mod Widening
 pub mod Below
 pub mod RootClosure
 pub mod Normal
+pub mod Search
+pub mod LawsOfTypes
+pub mod BelowExample
+pub mod NormalFunction
