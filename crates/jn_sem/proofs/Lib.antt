@@ -15,3 +15,4 @@ pub mod Closures
 pub mod TypesProof
 pub mod Climbing
 pub mod Turning
+pub mod Growth
