@@ -16,3 +16,5 @@ pub mod TypesProof
 pub mod Climbing
 pub mod Turning
 pub mod Growth
+pub mod BelowOrder
+pub mod Codes
