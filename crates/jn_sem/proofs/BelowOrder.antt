@@ -1,6 +1,5 @@
 -- "Below" is reflexive on the types that values have, and transitive.
-use Rattle.std.proofs.Common.{◌≡◌, refl, subst}
-use Rattle.jn_reach.specs.Chain.{Chain, here, step}
+use Rattle.jn_reach.specs.Chain.{here}
 use Rattle.jn_reach.proofs.Chains.{Chain-joined}
 use Rattle.jn_base.specs.declared.tree.Program.{Program}
 use Rattle.jn_base.specs.declared.types.Ty.{Ty}

@@ -1,13 +1,12 @@
 -- From lists as the code keeps them, the outermost name or the oldest bind first, to those of the definitions.
-use Rattle.std.proofs.Common.{◌≡◌, ◌↔◌, ◌<◌, ◌≤◌, ◌+◌, ◌-◌, ◌++◌, Bool, true, false, nat_le, leb-true, leb-false, ℕ, List, [], ◌∷◌, zero, suc, length, map, take, drop, reverse, get_or, Contains, refl, sym, ap, ◌∙◌, subst, arith, take-append-drop, length-drop, drop_of_length-le}
+use Rattle.std.proofs.Common.{◌≡◌, ◌<◌, ◌+◌, ◌-◌, ◌++◌, Bool, true, false, nat_le, leb-true, leb-false, ℕ, List, [], ◌∷◌, zero, suc, length, take, drop, reverse, get_or, Contains, refl, sym, ap, ◌∙◌, subst, arith, take-append-drop, length-drop, drop_of_length-le}
 use Rattle.std.proofs.lemmas.List.{reverse-append, length-reverse, get_or-reverse}
-use Rattle.std.proofs.lemmas.List.Elements.{Contains-get_or}
 use Rattle.jn_base.specs.declared.tree.Name.{Name}
 use Rattle.jn_base.specs.declared.types.Anchor.{Anchor}
 use Rattle.jn_base.specs.declared.types.Anchor.TheVariants.{Root, Up}
 use Rattle.jn_base.specs.declared.types.Atom.{Atom as ShownAtom}
 use Rattle.jn_base.specs.Atoms.{Atom, atom, atom_of, lifted, levels, Among, first, later}
-use Rattle.jn_base.specs.Scopes.{Bind, Scope, bound_of}
+use Rattle.jn_base.specs.Scopes.{Bind, Scope}
 use Rattle.jn_base.specs.Fits.{Anchored, BindsFit}
 use Rattle.jn_sem.specs.Widening.{reduced}
 use Rattle.jn_sem.specs.Normal.{normal, rewritten}

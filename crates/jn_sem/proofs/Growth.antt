@@ -1,21 +1,19 @@
 -- What is said in a scope stays so where a bind is added.
-use Rattle.std.proofs.Common.{◌≡◌, ◌↔◌, ◌<◌, ℕ, List, [], ◌∷◌, ◌++◌, length, suc, drop, refl, sym, ap, ◌∙◌, subst}
+use Rattle.std.proofs.Common.{◌≡◌, ◌↔◌, ℕ, ◌∷◌, suc, sym, ap, ◌∙◌, subst}
 use Rattle.jn_reach.specs.Chain.{Chain, here, step}
 use Rattle.jn_base.specs.declared.tree.Name.{Name}
 use Rattle.jn_base.specs.declared.tree.Program.{Program}
 use Rattle.jn_base.specs.declared.types.Anchor.{Anchor}
-use Rattle.jn_base.specs.declared.types.Anchor.TheVariants.{Root, Up}
-use Rattle.jn_base.specs.declared.types.Masks.{Masks}
+use Rattle.jn_base.specs.declared.types.Anchor.TheVariants.{Up}
 use Rattle.jn_base.specs.declared.types.Ty.{Ty}
-use Rattle.jn_base.specs.declared.types.Ty.TheVariants as ty
 use Rattle.jn_base.specs.Paths.{Path}
 use Rattle.jn_base.specs.Supers.{Sup}
 use Rattle.jn_base.specs.Universe.{InUniverse}
-use Rattle.jn_base.specs.Atoms.{Atom, atom, atoms_in, anchor_at, Among, first, later}
-use Rattle.jn_base.specs.Scopes.{Bind, Scope, Binds, bound, bound_of}
+use Rattle.jn_base.specs.Atoms.{Atom, atoms_in, anchor_at, Among, first, later}
+use Rattle.jn_base.specs.Scopes.{Bind, Scope, bound, bound_of}
 use Rattle.jn_base.specs.Fits.{Anchored, TypeFits, BindsFit}
 use Rattle.jn_sem.specs.Widening.{replaced, Widens, loosened, raised, opened, widened}
-use Rattle.jn_sem.specs.Below.{Below, ints, booleans, nulls, classes, BelowAtoms, ReachedFrom}
+use Rattle.jn_sem.specs.Below.{Below, ints, booleans, nulls, classes}
 use Rattle.jn_sem.specs.RootClosure.{Opens, closed, through, InClosure}
 use Rattle.jn_sem.specs.Normal.{normal, rewritten}
 use Rattle.jn_sem.proofs.Under.{anchor_older, bound_later, type_anchored}

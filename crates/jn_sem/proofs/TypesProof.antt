@@ -1,5 +1,5 @@
 -- The small rows of types.
-use Rattle.std.proofs.Common.{◌≡◌, ◌↔◌, ◌<◌, ◌||◌, ℕ, List, Bool, true, false, not, [], ◌∷◌, length, zero, suc, nat_eq, eqb-true, refl, sym, ap, ◌∙◌, subst, arith, drop, Contains}
+use Rattle.std.proofs.Common.{◌≡◌, ◌||◌, ℕ, Bool, true, false, not, [], ◌∷◌, length, nat_eq, eqb-true, refl, sym, ap, ◌∙◌, subst, arith}
 use Rattle.jn_base.specs.declared.tree.Name.{Name}
 use Rattle.jn_base.specs.declared.tree.Decl.{Decl}
 use Rattle.jn_base.specs.declared.tree.Member.TheVariants.{outs-Inner}
@@ -10,13 +10,13 @@ use Rattle.jn_base.specs.Supers.{Sup, itself, Member}
 use Rattle.jn_base.specs.Universe.{InUniverse}
 use Rattle.jn_base.specs.Atoms.{Atom, atom, atoms_in, Among, first, later}
 use Rattle.jn_base.specs.Scopes.{Bind, bound}
-use Rattle.jn_base.specs.FamiliesExample.{families, base, both, Exp, Lit, Add}
-use Rattle.jn_base.proofs.ExampleTools.{tops, inners, keeps, OneOf, one, sups_kept, same, nesting, at_inner, deep_declared, has_only}
-use Rattle.jn_base.proofs.NameTests.{same_name, itself_named}
-use Rattle.jn_sem.specs.Sets.{InType, InAtom}
-use Rattle.jn_sem.specs.Widening.{replaced, Widens, loosened, raised, opened, widened}
+use Rattle.jn_base.specs.FamiliesExample.{families, base, both, Exp, Lit}
+use Rattle.jn_base.proofs.ExampleTools.{OneOf, one, sups_kept, same, at_inner, deep_declared, has_only}
+use Rattle.jn_base.proofs.NameTests.{itself_named}
+use Rattle.jn_sem.specs.Sets.{InAtom}
+use Rattle.jn_sem.specs.Widening.{replaced, loosened, raised, opened, widened}
 use Rattle.jn_sem.specs.RootClosure.{Opens, closed, through, InClosure}
-use Rattle.jn_sem.specs.BelowExample.{in_add, class_of, exact_class_of, lit_of_p}
+use Rattle.jn_sem.specs.BelowExample.{class_of}
 use Rattle.jn_sem.specs.TypesExample.{BoundsExample, SetsExample, seen_both, NormalExample, StepsExample, ClosureExample, nested_x, in_main, x_of_p, a, C, D, X, both_c_and_d}
 use Rattle.jn_sem.proofs.Widenings.{declared_namespace}
 use Rattle.jn_sem.proofs.BelowProof.{alone, base_lit, base_exp, lit_exp, to_base_lit}

@@ -1,17 +1,15 @@
 -- Small rows of the definitions of types: bounds, sets, normal forms, a step of each kind, and the root closure.
-use Rattle.std.specs.Prelude.{◌≡◌, ◌↔◌, ℕ, zero, suc, List, Option, Some, None, [], ◌∷◌}
-use Rattle.jn_reach.specs.Chain.{Chain}
+use Rattle.std.specs.Prelude.{◌≡◌, ◌↔◌, zero, suc, List, Some, None, [], ◌∷◌}
 use Rattle.jn_base.specs.declared.tree.Name.{Name}
 use Rattle.jn_base.specs.declared.tree.Kind.TheVariants as kind
 use Rattle.jn_base.specs.declared.tree.Program.{Program}
 use Rattle.jn_base.specs.declared.types.Anchor.TheVariants.{Root, Up}
 use Rattle.jn_base.specs.declared.types.Ty.{Ty}
 use Rattle.jn_base.specs.declared.types.Ty.TheVariants as ty
-use Rattle.jn_base.specs.Paths.{Path}
 use Rattle.jn_base.specs.Atoms.{Atom, atom, shown_atom, no_masks, atoms_in}
 use Rattle.jn_base.specs.Scopes.{Scope, this_bind, bound}
 use Rattle.jn_base.specs.ExampleTrees.{name, declaration, package_at, class_in, program}
-use Rattle.jn_base.specs.FamiliesExample.{families, base, doubler, both, Exp, Lit, Add}
+use Rattle.jn_base.specs.FamiliesExample.{families, base, both, Exp, Lit, Add}
 use Rattle.jn_sem.specs.Sets.{Views, InType}
 use Rattle.jn_sem.specs.Widening.{Widens}
 use Rattle.jn_sem.specs.Normal.{normal}
