@@ -51,7 +51,7 @@ sets = record {
 }
 
 pub normals : NormalExample
-normals = record { by_exact = refl; stays = refl; by_levels = refl; by_none = refl }
+normals = record { by_exact = refl; stays = refl; by_levels = refl; by_none = refl; in_order = refl }
 
 pub steps : StepsExample
 steps = record {

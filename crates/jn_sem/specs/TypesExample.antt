@@ -1,5 +1,5 @@
 -- Small rows of the definitions of types: bounds, sets, normal forms, a step of each kind, and the root closure.
-use Rattle.std.specs.Prelude.{◌≡◌, ◌↔◌, zero, suc, List, Some, None, [], ◌∷◌}
+use Rattle.std.specs.Prelude.{◌≡◌, ◌↔◌, zero, suc, List, Some, None, [], ◌∷◌, map}
 use Rattle.jn_base.specs.declared.tree.Name.{Name}
 use Rattle.jn_base.specs.declared.tree.Kind.TheVariants as kind
 use Rattle.jn_base.specs.declared.tree.Program.{Program}
@@ -9,10 +9,11 @@ use Rattle.jn_base.specs.declared.types.Ty.TheVariants as ty
 use Rattle.jn_base.specs.Atoms.{Atom, atom, shown_atom, no_masks, atoms_in}
 use Rattle.jn_base.specs.Scopes.{Scope, this_bind, bound}
 use Rattle.jn_base.specs.ExampleTrees.{name, declaration, package_at, class_in, program}
-use Rattle.jn_base.specs.FamiliesExample.{families, base, both, Exp, Lit, Add}
+use Rattle.jn_base.specs.FamiliesExample.{families, base, doubler, both, Exp, Lit, Add}
 use Rattle.jn_sem.specs.Sets.{Views, InType}
 use Rattle.jn_sem.specs.Widening.{Widens}
 use Rattle.jn_sem.specs.Normal.{normal}
+use Rattle.jn_sem.specs.NormalFunction.{normal_type}
 use Rattle.jn_sem.specs.RootClosure.{InClosure}
 use Rattle.jn_sem.specs.BelowExample.{in_add, of_atom, class_of, exact_class_of, lit_of_p}
 
@@ -42,6 +43,10 @@ pub record SetsExample : Type 0 where
 abbrev pub X : Name
 X = name 20
 
+-- `A.Exp & B.Exp & ..`
+abbrev pub exps_of : List Name → Ty
+exps_of As = ty.Class (map (λ A. shown_atom (atom Root [] (Exp ∷ A ∷ []))) As) no_masks
+
 abbrev pub exact_p : Scope
 exact_p =
     record { path = 2; ty = of_atom (atom (Up 1 0) [] (X ∷ [])) }
@@ -56,6 +61,8 @@ pub record NormalExample : Type 0 where
   pub by_levels : normal exact_p (atom (Up 2 2) [] (Lit ∷ [])) ≡ atom Root (base ∷ []) (Lit ∷ [])
   -- where p is `base.Exp`, `base[p.class].Lit` stays
   pub by_none : normal in_add (atom (Up 1 1) [] (Lit ∷ [])) ≡ atom (Up 1 1) [] (Lit ∷ [])
+  -- `doubler.Exp & base.Exp & doubler.Exp` is `base.Exp & doubler.Exp`, since base was mentioned first
+  pub in_order : normal_type in_add (exps_of (doubler ∷ base ∷ doubler ∷ [])) ≡ exps_of (base ∷ doubler ∷ [])
 
 -- WIDENING in base.Add: one step of each kind
 pub record StepsExample : Type 0 where
