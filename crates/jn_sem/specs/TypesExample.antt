@@ -1,21 +1,23 @@
 -- Small rows of the definitions of types: bounds, sets, normal forms, a step of each kind, and the root closure.
-use Rattle.std.specs.Prelude.{◌≡◌, ◌↔◌, zero, suc, List, Some, None, [], ◌∷◌, map}
+use Rattle.std.specs.Prelude.{◌≡◌, ◌↔◌, ℕ, zero, suc, pos, List, Some, None, [], ◌∷◌, map}
 use Rattle.jn_base.specs.declared.tree.Name.{Name}
 use Rattle.jn_base.specs.declared.tree.Kind.TheVariants as kind
 use Rattle.jn_base.specs.declared.tree.Program.{Program}
 use Rattle.jn_base.specs.declared.types.Anchor.TheVariants.{Root, Up}
 use Rattle.jn_base.specs.declared.types.Ty.{Ty}
 use Rattle.jn_base.specs.declared.types.Ty.TheVariants as ty
+use Rattle.jn_base.specs.Paths.{Path}
 use Rattle.jn_base.specs.Atoms.{Atom, atom, shown_atom, no_masks, atoms_in}
 use Rattle.jn_base.specs.Scopes.{Scope, this_bind, bound}
 use Rattle.jn_base.specs.ExampleTrees.{name, declaration, package_at, class_in, program}
-use Rattle.jn_base.specs.FamiliesExample.{families, base, doubler, both, Exp, Lit, Add}
+use Rattle.jn_base.specs.FamiliesExample.{families, base, doubler, both, Exp, Lit, Add, v}
 use Rattle.jn_sem.specs.Sets.{Views, InType}
+use Rattle.jn_sem.specs.Values.{Value, Number, Null, Reference, ValueIn}
 use Rattle.jn_sem.specs.Widening.{Widens}
 use Rattle.jn_sem.specs.Normal.{normal}
 use Rattle.jn_sem.specs.NormalFunction.{normal_type}
 use Rattle.jn_sem.specs.RootClosure.{InClosure}
-use Rattle.jn_sem.specs.BelowExample.{in_add, of_atom, class_of, exact_class_of, lit_of_p}
+use Rattle.jn_sem.specs.BelowExample.{in_add, of_atom, class_of, exact_class_of, lit_of_p, lit_without_v}
 
 -- BOUNDS in base.Add, where p is path 1 and `final base.Exp`
 pub record BoundsExample : Type 0 where
@@ -38,6 +40,25 @@ pub record SetsExample : Type 0 where
   -- `base[p.class].Lit` holds both.Lit, of p's own family, and not base.Lit
   pub of_family : InType families seen_both lit_of_p (Lit ∷ both ∷ [])
   pub not_of_family : InType families seen_both lit_of_p (Lit ∷ base ∷ []) → ⊥
+
+-- VALUES, where v is the mask name of number 0, and each slot but that of v has a value
+abbrev pub all_but_v : ℕ → Path → Name → Type 0
+all_but_v o V f = f ≡ v → ⊥
+
+abbrev pub IsIn : Ty → Value → Type 0
+IsIn t value = ValueIn families (v ∷ []) seen_both all_but_v t value
+
+abbrev pub a_lit : Value
+a_lit = Reference 0 (Lit ∷ both ∷ [])
+
+pub record ValuesExample : Type 0 where
+  -- null is in each class type, and a number in int alone
+  pub null_in : IsIn (class_of base Lit) Null
+  pub number_in : IsIn ty.Int (Number (pos 7))
+  pub number_out : IsIn (class_of base Lit) (Number (pos 7)) → ⊥
+  -- a reference without a value for v is in `base.Lit\v`, and not in `base.Lit`
+  pub masked_in : IsIn lit_without_v a_lit
+  pub unmasked_out : IsIn (class_of base Lit) a_lit → ⊥
 
 -- NORMAL FORMS, where p is `base!.Exp` (path 1) and q is `p.class.X` for a member X (path 2)
 abbrev pub X : Name
@@ -116,6 +137,7 @@ ClosureExample = (z : Atom) → InClosure nested_x in_main x_of_p z ↔ (z ≡ a
 pub record TypesExample : Type 0 where
   pub bounds : BoundsExample
   pub sets : SetsExample
+  pub values : ValuesExample
   pub normals : NormalExample
   pub steps : StepsExample
   pub closure : ClosureExample
