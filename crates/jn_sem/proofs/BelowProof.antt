@@ -1,5 +1,5 @@
 -- The questions of "below" in base.Add.
-use Rattle.std.proofs.Common.{◌≡◌, ◌++◌, ℕ, List, [], ◌∷◌, zero, suc, length, refl, sym, ap, ◌∙◌, subst, arith, get_or, ◌/◌, ◌%◌, Contains, ◌<◌, ◌≤◌, drop}
+use Rattle.std.proofs.Common.{◌≡◌, ◌++◌, ℕ, [], ◌∷◌, zero, suc, length, refl, sym, ap, ◌∙◌, subst, arith, get_or, ◌/◌, ◌%◌, ◌≤◌}
 use Rattle.std.specs.Int.{bit_at}
 use Rattle.std.proofs.lemmas.Nat.Bits.{bit_at-zero}
 use Rattle.jn_reach.specs.Chain.{Chain, here, step}
@@ -9,20 +9,19 @@ use Rattle.jn_base.specs.declared.tree.Program.{Program}
 use Rattle.jn_base.specs.declared.tree.Member.TheVariants.{outs-Inner}
 use Rattle.jn_base.specs.declared.types.Anchor.{Anchor}
 use Rattle.jn_base.specs.declared.types.Anchor.TheVariants.{Root, Up}
-use Rattle.jn_base.specs.declared.types.Ty.{Ty}
 use Rattle.jn_base.specs.Paths.{Path}
 use Rattle.jn_base.specs.Supers.{Sup, itself}
 use Rattle.jn_base.specs.Universe.{InUniverse}
-use Rattle.jn_base.specs.Atoms.{Atom, atom, atoms_in, Among, first, later, HasMask, no_masks}
-use Rattle.jn_base.specs.Scopes.{Bind, Scope, Binds, this_bind, bound, bound_of}
-use Rattle.jn_base.specs.Fits.{Anchored, AtomsFit, TypeFits, BindsFit, ScopeFits}
-use Rattle.jn_base.specs.FamiliesExample.{families, all_four, base, both, Exp, Lit, Add}
+use Rattle.jn_base.specs.Atoms.{Atom, atom, Among, first, later, HasMask, no_masks}
+use Rattle.jn_base.specs.Scopes.{Bind, Scope, Binds, this_bind, bound}
+use Rattle.jn_base.specs.Fits.{Anchored, AtomsFit, ScopeFits}
+use Rattle.jn_base.specs.FamiliesExample.{families, base, both, Exp, Lit, Add}
 use Rattle.jn_base.proofs.SuperLaws.{sup_namespace}
 use Rattle.jn_base.proofs.ExampleTools.{inner_above}
 use Rattle.jn_base.proofs.FamiliesProof.{lit_supers, both_has}
 use Rattle.jn_sem.specs.Widening.{Widens, loosened, raised, opened, widened}
-use Rattle.jn_sem.specs.Below.{Below, classes, BelowAtoms, ReachedFrom, MasksWithin}
-use Rattle.jn_sem.specs.BelowExample.{in_add, class_of, exact_class_of, class_of_p, lit_of_p, v_masked, lit_without_v, IsBelow}
+use Rattle.jn_sem.specs.Below.{classes, BelowAtoms, MasksWithin}
+use Rattle.jn_sem.specs.BelowExample.{in_add, class_of, exact_class_of, class_of_p, lit_of_p, lit_without_v, IsBelow}
 
 -- masks
 
@@ -143,11 +142,12 @@ unmasked = classes (one_above (atom Root [] (Lit ∷ base ∷ [])) (atom Root []
 
 pub fits : ScopeFits in_add
 fits = record {
-  binds = (
-    ((tt, none_before, record { atoms = λ c. atoms_ok [] (Add ∷ base ∷ []) (omega arith) }),
-      not_this,
-      record { atoms = λ c. atoms_ok (this_bind (Add ∷ base ∷ []) ∷ []) (Exp ∷ base ∷ []) (omega arith) })
-  );
+  binds = ((
+    (tt, none_before, record { atoms = λ c. atoms_ok [] (Add ∷ base ∷ []) (omega arith) }),
+    not_this,
+    record { atoms = λ c. atoms_ok (this_bind (Add ∷ base ∷ []) ∷ []) (Exp ∷ base ∷ []) (omega arith) },
+  )
+      );
   class_of_this = Add ∷ base ∷ [];
   this = later first;
 } where

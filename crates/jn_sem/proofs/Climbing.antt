@@ -1,7 +1,6 @@
 -- Chains of steps of kinds 1 and 2 in closed form.
-use Rattle.std.proofs.Common.{◌≡◌, ◌↔◌, ◌<◌, ◌≤◌, ◌+◌, ◌-◌, ◌++◌, ℕ, List, [], ◌∷◌, length, zero, suc, take, drop, refl, sym, ap, ◌∙◌, subst, arith, append-nil, append_assoc, drop_of_length-le, ◌⊎◌, inl, inr, nat_le, Bool, true, false, leb-true, leb-false}
+use Rattle.std.proofs.Common.{◌≡◌, ◌↔◌, ◌<◌, ◌+◌, ◌-◌, ◌++◌, ℕ, List, [], ◌∷◌, length, zero, suc, take, drop, refl, sym, ap, ◌∙◌, subst, arith, append-nil, drop_of_length-le}
 use Rattle.jn_reach.specs.Chain.{Chain, here, step}
-use Rattle.jn_reach.proofs.Chains.{Chain-joined}
 use Rattle.jn_base.specs.declared.tree.Name.{Name}
 use Rattle.jn_base.specs.declared.tree.Program.{Program}
 use Rattle.jn_base.specs.declared.types.Anchor.{Anchor}
@@ -64,7 +63,7 @@ raised_climb s x q k c B i a h =
     let none : drop i [] ≡ drop (length x.exact + suc i) x.exact =
     drop_of_length-le {A = Name} [] {i = i} (omega arith) ∙ sym (drop_of_length-le x.exact {i = length x.exact + suc i} (omega arith)) in
     let names : ((x.names ++ x.exact) ++ c ∷ []) ++ take i (drop (suc k) (bound_of s q))
-        ≡ x.names ++ take (length x.exact + suc i) (x.exact ++ anchor_at (bound_of s) x.anchor) =
+    ≡ x.names ++ take (length x.exact + suc i) (x.exact ++ anchor_at (bound_of s) x.anchor) =
     append_back (x.names ++ x.exact) (c ∷ []) (take i (drop (suc k) (bound_of s q)))
     ∙ append_back x.names x.exact (c ∷ take i (drop (suc k) (bound_of s q)))
     ∙ ap (λ (X : Path). x.names ++ (x.exact ++ take (suc i) (c ∷ X))) rest

@@ -15,3 +15,6 @@ pub mod Closures
 pub mod TypesProof
 pub mod Climbing
 pub mod Turning
+pub mod Growth
+pub mod BelowOrder
+pub mod Codes

@@ -1,19 +1,16 @@
 -- One turn of the search in closed form.
-use Rattle.std.proofs.Common.{◌≡◌, ◌↔◌, ◌<◌, ◌≤◌, ◌+◌, ◌-◌, ◌++◌, ℕ, List, [], ◌∷◌, length, zero, suc, take, drop, refl, sym, ap, ◌∙◌, subst, arith, length-append, length-drop, take-append-drop, ◌⊎◌, inl, inr}
+use Rattle.std.proofs.Common.{◌≡◌, ◌↔◌, ◌<◌, ◌≤◌, ◌++◌, ℕ, List, [], ◌∷◌, length, zero, suc, take, drop, refl, sym, ap, ◌∙◌, subst, arith, length-append, take-append-drop, ◌⊎◌, inl, inr}
 use Rattle.jn_reach.specs.Chain.{Chain, here, step}
 use Rattle.jn_base.specs.declared.tree.Name.{Name}
 use Rattle.jn_base.specs.declared.tree.Program.{Program}
-use Rattle.jn_base.specs.declared.types.Anchor.{Anchor}
-use Rattle.jn_base.specs.declared.types.Anchor.TheVariants.{Root, Up}
 use Rattle.jn_base.specs.Paths.{Path}
 use Rattle.jn_base.specs.Supers.{Sup}
-use Rattle.jn_base.specs.Universe.{InUniverse}
 use Rattle.jn_base.specs.Atoms.{Atom, atom, anchor_at}
 use Rattle.jn_base.specs.Scopes.{Scope, bound, bound_of}
 use Rattle.jn_base.specs.Fits.{BindsFit}
 use Rattle.jn_base.proofs.SuperLaws.{sup_level}
-use Rattle.jn_sem.specs.Widening.{replaced, Widens}
-use Rattle.jn_sem.specs.Search.{Climbs, loosens, raises, Spreads, Enters, climbed, spread, CanClimb, IsClimbed, EndsAt, EndsPlainly, TurnsTo, IsTurn, rank, rank_of}
+use Rattle.jn_sem.specs.Widening.{Widens}
+use Rattle.jn_sem.specs.Search.{Climbs, loosens, raises, Spreads, Enters, climbed, spread, EndsAt, EndsPlainly, TurnsTo, IsTurn, rank}
 use Rattle.jn_sem.proofs.Widenings.{back_of}
 use Rattle.jn_sem.proofs.Searches.{loosened_bound, raised_bound, chain_turns, ends_chain, turn_chain}
 use Rattle.jn_sem.proofs.Endings.{ends_plainly}

@@ -10,7 +10,7 @@ use Rattle.jn_base.specs.declared.types.Anchor.TheVariants.{Root, Up}
 use Rattle.jn_base.specs.Paths.{Path, Declared, StandsIn}
 use Rattle.jn_base.specs.Supers.{Direct, inherited, written, Sup, itself, above}
 use Rattle.jn_base.specs.Universe.{IsNamespace, InUniverse}
-use Rattle.jn_base.specs.Atoms.{Atom, atom, atoms_in, anchor_at, lifted, Among}
+use Rattle.jn_base.specs.Atoms.{Atom, atom, anchor_at, lifted}
 use Rattle.jn_base.specs.Scopes.{Scope, bound_of, bound}
 use Rattle.jn_base.specs.Fits.{BindsFit}
 use Rattle.jn_base.proofs.SuperLaws.{sup_joined, sup_prefix, sup_namespace, heirs_base, heirs_above, member_heir}

@@ -1,6 +1,5 @@
 -- Small rows of the definitions of types: bounds, sets, normal forms, a step of each kind, and the root closure.
-use Rattle.std.specs.Prelude.{◌≡◌, ◌↔◌, ℕ, zero, suc, List, Option, Some, None, [], ◌∷◌}
-use Rattle.jn_reach.specs.Chain.{Chain}
+use Rattle.std.specs.Prelude.{◌≡◌, ◌↔◌, ℕ, zero, suc, pos, List, Some, None, [], ◌∷◌, map}
 use Rattle.jn_base.specs.declared.tree.Name.{Name}
 use Rattle.jn_base.specs.declared.tree.Kind.TheVariants as kind
 use Rattle.jn_base.specs.declared.tree.Program.{Program}
@@ -11,12 +10,14 @@ use Rattle.jn_base.specs.Paths.{Path}
 use Rattle.jn_base.specs.Atoms.{Atom, atom, shown_atom, no_masks, atoms_in}
 use Rattle.jn_base.specs.Scopes.{Scope, this_bind, bound}
 use Rattle.jn_base.specs.ExampleTrees.{name, declaration, package_at, class_in, program}
-use Rattle.jn_base.specs.FamiliesExample.{families, base, doubler, both, Exp, Lit, Add}
-use Rattle.jn_sem.specs.Sets.{Views, InType}
+use Rattle.jn_base.specs.FamiliesExample.{families, base, doubler, both, Exp, Lit, Add, v}
+use Rattle.jn_sem.specs.Sets.{Views, InType, Respects}
+use Rattle.jn_sem.specs.Values.{Value, Number, Null, Reference, ValueIn}
 use Rattle.jn_sem.specs.Widening.{Widens}
 use Rattle.jn_sem.specs.Normal.{normal}
+use Rattle.jn_sem.specs.NormalFunction.{normal_type}
 use Rattle.jn_sem.specs.RootClosure.{InClosure}
-use Rattle.jn_sem.specs.BelowExample.{in_add, of_atom, class_of, exact_class_of, lit_of_p}
+use Rattle.jn_sem.specs.BelowExample.{in_add, of_atom, class_of, exact_class_of, lit_of_p, lit_without_v}
 
 -- BOUNDS in base.Add, where p is path 1 and `final base.Exp`
 pub record BoundsExample : Type 0 where
@@ -32,6 +33,8 @@ seen_both (suc zero) = Some (Exp ∷ both ∷ [])
 seen_both (suc (suc q)) = None
 
 pub record SetsExample : Type 0 where
+  -- these views respect the scope
+  pub respects : Respects families seen_both in_add
   -- `base.Lit` holds both.Lit; `base!.Lit` holds base.Lit, and not both.Lit
   pub inexact : InType families seen_both (class_of base Lit) (Lit ∷ both ∷ [])
   pub exact : InType families seen_both (exact_class_of base Lit) (Lit ∷ base ∷ [])
@@ -40,9 +43,32 @@ pub record SetsExample : Type 0 where
   pub of_family : InType families seen_both lit_of_p (Lit ∷ both ∷ [])
   pub not_of_family : InType families seen_both lit_of_p (Lit ∷ base ∷ []) → ⊥
 
+-- VALUES, where v is the mask name of number 0, and each slot but that of v has a value
+abbrev pub all_but_v : ℕ → Path → Name → Type 0
+all_but_v o V f = f ≡ v → ⊥
+
+abbrev pub IsIn : Ty → Value → Type 0
+IsIn t value = ValueIn families (v ∷ []) seen_both all_but_v t value
+
+abbrev pub a_lit : Value
+a_lit = Reference 0 (Lit ∷ both ∷ [])
+
+pub record ValuesExample : Type 0 where
+  -- null is in each class type, and a number in int alone
+  pub null_in : IsIn (class_of base Lit) Null
+  pub number_in : IsIn ty.Int (Number (pos 7))
+  pub number_out : IsIn (class_of base Lit) (Number (pos 7)) → ⊥
+  -- a reference without a value for v is in `base.Lit\v`, and not in `base.Lit`
+  pub masked_in : IsIn lit_without_v a_lit
+  pub unmasked_out : IsIn (class_of base Lit) a_lit → ⊥
+
 -- NORMAL FORMS, where p is `base!.Exp` (path 1) and q is `p.class.X` for a member X (path 2)
 abbrev pub X : Name
 X = name 20
+
+-- `A.Exp & B.Exp & ..`
+abbrev pub exps_of : List Name → Ty
+exps_of As = ty.Class (map (λ A. shown_atom (atom Root [] (Exp ∷ A ∷ []))) As) no_masks
 
 abbrev pub exact_p : Scope
 exact_p =
@@ -58,6 +84,8 @@ pub record NormalExample : Type 0 where
   pub by_levels : normal exact_p (atom (Up 2 2) [] (Lit ∷ [])) ≡ atom Root (base ∷ []) (Lit ∷ [])
   -- where p is `base.Exp`, `base[p.class].Lit` stays
   pub by_none : normal in_add (atom (Up 1 1) [] (Lit ∷ [])) ≡ atom (Up 1 1) [] (Lit ∷ [])
+  -- `doubler.Exp & base.Exp & doubler.Exp` is `base.Exp & doubler.Exp`, since base was mentioned first
+  pub in_order : normal_type in_add (exps_of (doubler ∷ base ∷ doubler ∷ [])) ≡ exps_of (base ∷ doubler ∷ [])
 
 -- WIDENING in base.Add: one step of each kind
 pub record StepsExample : Type 0 where
@@ -111,6 +139,7 @@ ClosureExample = (z : Atom) → InClosure nested_x in_main x_of_p z ↔ (z ≡ a
 pub record TypesExample : Type 0 where
   pub bounds : BoundsExample
   pub sets : SetsExample
+  pub values : ValuesExample
   pub normals : NormalExample
   pub steps : StepsExample
   pub closure : ClosureExample
