@@ -1,0 +1,4 @@
+pub mod Bounds
+pub mod Seeking
+pub mod Answers
+pub mod Before
