@@ -1,3 +1,4 @@
 pub mod Known
 pub mod Turned
 pub mod Sought
+pub mod ScopedProof

@@ -2,3 +2,4 @@ pub mod Bounds
 pub mod Seeking
 pub mod Answers
 pub mod Before
+pub mod Scoped

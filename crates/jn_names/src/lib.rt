@@ -8,6 +8,7 @@
 mod before;
 mod bound;
 mod fault;
+mod scope;
 mod seek;
 
 pub use fault::NameFault;
