@@ -6,7 +6,9 @@ use Rattle.jn_base.specs.declared.path.Path.{Path as ShownPath}
 use Rattle.jn_base.specs.Paths.{Path, shown}
 use Rattle.jn_base.specs.Supers.{Direct, inherited, written, Sup, itself, above, Member}
 use Rattle.jn_base.specs.Universe.{IsNamespace, InUniverse}
-use Rattle.jn_base.proofs.Reaching.{stands_namespace, sup_in_universe}
+use Rattle.jn_base.proofs.Reaching.{stands_namespace, declared_in_universe, sup_in_universe}
+use Rattle.jn_base.specs.declared.tree.Kind.{Kind}
+use Rattle.jn_base.specs.Members.{HasKind}
 use Rattle.jn_table.specs.declared.class.ClassId.{ClassId}
 use Rattle.jn_table.specs.declared.table.Table.{Table}
 use Rattle.jn_table.specs.Rows.{IsNumber}
@@ -81,3 +83,26 @@ out_more p Q N k before none j l m = by_place (cases_lt j k) where
 
 pub out_nowhere : (p : Program) (Q : Path) (N : Name) (k : ℕ) → length Q ≤ k → ((j : ℕ) → j < k + 1 → Member p (drop j Q) N → ⊥) → FoundNowhere p Q N
 out_nowhere p Q N k past none j l m = none j (omega (arith, past, l)) m
+
+-- what has a kind is in the universe
+pub kind_known : (p : Program) (R : Path) (k : Kind) → HasKind p R k → InUniverse p R
+kind_known p R k h = by_super (sup_known h.super) where
+  by_super : (R ≡ h.at) ⊎ (InUniverse p R × InUniverse p h.at) → InUniverse p R
+  by_super (inl e) = subst (InUniverse p) (sym e) (declared_in_universe p h.at h.decl h.stands)
+  by_super (inr u) = u.0
+
+-- what is no other path and has no number is above nothing, and nothing is above it
+pub heir_none : (p : Program) (t : Table) (R S : Path) → IsFilled p t → (R ≡ S → ⊥) → HasNone t R → Sup p R S → ⊥
+heir_none p t R S f n h s = by_super (sup_known s) where
+  by_super : (R ≡ S) ⊎ (InUniverse p R × InUniverse p S) → ⊥
+  by_super (inl e) = n e
+  by_super (inr u) = none_known p t R f h u.0
+
+pub super_none : (p : Program) (t : Table) (R S : Path) → IsFilled p t → (R ≡ S → ⊥) → HasNone t S → Sup p R S → ⊥
+super_none p t R S f n h s = by_super (sup_known s) where
+  by_super : (R ≡ S) ⊎ (InUniverse p R × InUniverse p S) → ⊥
+  by_super (inl e) = n e
+  by_super (inr u) = none_known p t S f h u.1
+
+pub itself_below : (p : Program) (R S : Path) → R ≡ S → Sup p R S
+itself_below p R S e = subst (Sup p R) e itself

@@ -2,3 +2,4 @@ pub mod Known
 pub mod Turned
 pub mod Sought
 pub mod ScopedProof
+pub mod Answering

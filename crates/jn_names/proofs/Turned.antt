@@ -36,3 +36,6 @@ kept_any {A} xs k = by_order (cases_lt (length xs) k) where
       let past : length (reverse xs) ≤ k = omega (arith, length-reverse xs) in
       ap (λ (n : ℕ). reverse (take n xs)) none ∙ sym (drop_of_length-le (reverse xs) past)
   by_order (inr h) = kept xs (length xs - k) k (omega arith)
+
+pub turned_same : {A : Type 0} (xs ys : List A) → reverse xs ≡ reverse ys → xs ≡ ys
+turned_same xs ys e = sym (reverse-reverse xs) ∙ (ap reverse e ∙ reverse-reverse ys)

@@ -3,3 +3,4 @@ pub mod Seeking
 pub mod Answers
 pub mod Before
 pub mod Scoped
+pub mod Roles

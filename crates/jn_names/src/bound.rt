@@ -1,12 +1,15 @@
 ghost use Rattle.std.specs.Prelude.{◌≡◌, ◌++◌, ◌∷◌, [], length, reverse, drop, IsTrue, ◌↔◌, IfOk, OnOk, IfSome, IfNone};
 ghost use Rattle.jn_base.specs.declared.tree.Program.{Program};
+ghost use Rattle.jn_base.specs.declared.tree.Kind.TheVariants as kinds;
 ghost use Rattle.jn_base.specs.Universe.{InUniverse};
+ghost use Rattle.jn_base.specs.Supers.{Sup};
+ghost use Rattle.jn_base.specs.Members.{HasKind};
 ghost use Rattle.jn_table.specs.Rows.{IsNumber};
 ghost use Rattle.jn_table.specs.Tables.{IsFilledAt, IsFilled};
 ghost use Rattle.jn_names.specs.Bounds.{HasNone};
 
 use jn_base::path::Path;
-use jn_base::tree::Name;
+use jn_base::tree::{Kind, Name};
 use jn_table::{ClassId, Table};
 use sqlite_items::Items;
 use std::alloc::{AllocError, Global};
@@ -98,4 +101,69 @@ impl Bound {
             None => false,
         }
     }
+
+    /// Whether both are one path.
+    fn is(&self, other: &Bound) -> bool
+        ensures { IsTrue result ↔ (self.now ≡ other.now) }
+    {
+        same(self.path.names.as_slice(), other.path.names.as_slice())
+    }
+
+    /// Whether the other path is a super of this one.
+    pub fn is_below(&self, t: &Table, other: &Bound) -> bool
+        ensures { (p : Program) → IsFilled p t.now → IsTrue result ↔ Sup p self.now other.now }
+    {
+        if self.is(other) {
+            return true;
+        }
+        match self.number(t) {
+            None => false,
+            Some(heir) => match other.number(t) {
+                None => false,
+                Some(above) => t.sup(heir, above),
+            },
+        }
+    }
+
+    /// Whether it is a class, by a table in which the universe is filled.
+    pub fn is_class(&self, t: &Table) -> bool
+        ensures { (p : Program) → IsFilled p t.now → IsTrue result ↔ HasKind p self.now kinds.Class }
+    {
+        match self.number(t) {
+            None => false,
+            Some(id) => is_class(t.row(id).kind),
+        }
+    }
+}
+
+/// Whether it is the kind of a class.
+fn is_class(kind: Kind) -> bool
+    ensures { IsTrue result ↔ (kind ≡ kinds.Class) }
+{
+    match kind {
+        Kind::Class => true,
+        Kind::Package => false,
+    }
+}
+
+/// Whether the two are one name.
+fn is_name(a: Name, b: Name) -> bool
+    ensures { IsTrue result ↔ (a ≡ b) }
+{
+    a.0 == b.0
+}
+
+/// Whether two lists have the same names.
+fn same(names: &[Name], others: &[Name]) -> bool
+    ensures { IsTrue result ↔ (names.now ≡ others.now) }
+{
+    if names.len() != others.len() {
+        return false;
+    }
+    for i in 0..names.len() {
+        if !is_name(names[i], others[i]) {
+            return false;
+        }
+    }
+    true
 }

@@ -10,6 +10,7 @@ mod bound;
 mod fault;
 mod scope;
 mod seek;
+mod term;
 
 pub use fault::NameFault;
 pub use jn_base::names::{Resolved, Role, Spot, Var, Vars};
