@@ -3,3 +3,5 @@ pub mod Turned
 pub mod Sought
 pub mod ScopedProof
 pub mod Answering
+pub mod Depths
+pub mod Gives
