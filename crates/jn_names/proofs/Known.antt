@@ -11,7 +11,7 @@ use Rattle.jn_base.specs.declared.tree.Kind.{Kind}
 use Rattle.jn_base.specs.Members.{HasKind}
 use Rattle.jn_table.specs.declared.class.ClassId.{ClassId}
 use Rattle.jn_table.specs.declared.table.Table.{Table}
-use Rattle.jn_table.specs.Rows.{IsNumber}
+use Rattle.jn_table.specs.Rows.{IsNumber, HasField}
 use Rattle.jn_table.specs.Tables.{IsFilled}
 use Rattle.jn_table.proofs.Shown.{place_of_number}
 use Rattle.jn_table.proofs.Sorted.{in_order}
@@ -106,3 +106,10 @@ super_none p t R S f n h s = by_super (sup_known s) where
 
 pub itself_below : (p : Program) (R S : Path) → R ≡ S → Sup p R S
 itself_below p R S e = subst (Sup p R) e itself
+
+-- what has a field is in the universe
+pub field_known : (p : Program) (R : Path) (f : Name) → HasField p R f → InUniverse p R
+field_known p R f h = by_super (sup_known h.1.super) where
+  by_super : (R ≡ h.0) ⊎ (InUniverse p R × InUniverse p h.0) → InUniverse p R
+  by_super (inl e) = subst (InUniverse p) (sym e) (declared_in_universe p h.0 h.1.at.decl h.1.at.stands)
+  by_super (inr u) = u.0

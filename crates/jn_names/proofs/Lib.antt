@@ -5,3 +5,4 @@ pub mod ScopedProof
 pub mod Answering
 pub mod Depths
 pub mod Gives
+pub mod MaskProof

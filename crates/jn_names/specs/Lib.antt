@@ -4,3 +4,4 @@ pub mod Answers
 pub mod Before
 pub mod Scoped
 pub mod Roles
+pub mod Masking

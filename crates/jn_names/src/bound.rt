@@ -1,10 +1,10 @@
-ghost use Rattle.std.specs.Prelude.{◌≡◌, ◌++◌, ◌∷◌, [], length, reverse, drop, IsTrue, ◌↔◌, IfOk, OnOk, IfSome, IfNone};
+ghost use Rattle.std.specs.Prelude.{◌≡◌, ◌++◌, ◌∷◌, [], Contains, length, reverse, drop, IsTrue, ◌↔◌, IfOk, OnOk, IfSome, IfNone};
 ghost use Rattle.jn_base.specs.declared.tree.Program.{Program};
 ghost use Rattle.jn_base.specs.declared.tree.Kind.TheVariants as kinds;
 ghost use Rattle.jn_base.specs.Universe.{InUniverse};
 ghost use Rattle.jn_base.specs.Supers.{Sup};
 ghost use Rattle.jn_base.specs.Members.{HasKind};
-ghost use Rattle.jn_table.specs.Rows.{IsNumber};
+ghost use Rattle.jn_table.specs.Rows.{IsNumber, HasField};
 ghost use Rattle.jn_table.specs.Tables.{IsFilledAt, IsFilled};
 ghost use Rattle.jn_names.specs.Bounds.{HasNone};
 
@@ -125,6 +125,16 @@ impl Bound {
         }
     }
 
+    /// Whether some declaration at a super has the field, by a table in which the universe is filled.
+    pub fn has_field(&self, t: &Table, name: Name) -> bool
+        ensures { (p : Program) → IsFilled p t.now → IsTrue result ↔ HasField p self.now name }
+    {
+        match self.number(t) {
+            None => false,
+            Some(id) => has(&t.row(id).fields, name),
+        }
+    }
+
     /// Whether it is a class, by a table in which the universe is filled.
     pub fn is_class(&self, t: &Table) -> bool
         ensures { (p : Program) → IsFilled p t.now → IsTrue result ↔ HasKind p self.now kinds.Class }
@@ -146,8 +156,20 @@ fn is_class(kind: Kind) -> bool
     }
 }
 
+/// Whether the name is in the list.
+fn has(names: &[Name], name: Name) -> bool
+    ensures { IsTrue result ↔ Contains names.now name }
+{
+    for other in names {
+        if is_name(*other, name) {
+            return true;
+        }
+    }
+    false
+}
+
 /// Whether the two are one name.
-fn is_name(a: Name, b: Name) -> bool
+pub fn is_name(a: Name, b: Name) -> bool
     ensures { IsTrue result ↔ (a ≡ b) }
 {
     a.0 == b.0

@@ -8,6 +8,7 @@
 mod before;
 mod bound;
 mod fault;
+mod masks;
 mod scope;
 mod seek;
 mod term;
