@@ -6,3 +6,4 @@ pub mod Answering
 pub mod Depths
 pub mod Gives
 pub mod MaskProof
+pub mod TypeProof

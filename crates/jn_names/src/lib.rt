@@ -9,9 +9,12 @@ mod before;
 mod bound;
 mod fault;
 mod masks;
+mod resolving;
 mod scope;
 mod seek;
 mod term;
+mod types;
 
 pub use fault::NameFault;
+pub use resolving::{resolve, resolve_type, resolve_view};
 pub use jn_base::names::{Resolved, Role, Spot, Var, Vars};
