@@ -25,3 +25,5 @@ pub mod Shapes
 pub mod Counting
 pub mod LocalSound
 pub mod StmtSound
+pub mod MethodSound
+pub mod DeclSound
