@@ -27,3 +27,5 @@ pub mod LocalSound
 pub mod StmtSound
 pub mod MethodSound
 pub mod DeclSound
+pub mod LocalAgain
+pub mod StmtAgain
