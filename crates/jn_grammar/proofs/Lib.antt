@@ -29,3 +29,5 @@ pub mod MethodSound
 pub mod DeclSound
 pub mod LocalAgain
 pub mod StmtAgain
+pub mod MethodAgain
+pub mod DeclAgain

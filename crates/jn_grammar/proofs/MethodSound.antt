@@ -177,7 +177,7 @@ list_sound k ts = sound_if (IsList k) ts (begins (Key k) ts) (listed_in (behind 
 -- ---- fields and methods
 
 -- the pieces in a row are those of the rule
-around : (v u w : List Part) (c b e : Part) → (v ++ c ∷ []) ++ (u ++ (b ∷ (w ++ e ∷ []))) ≡ v ++ (c ∷ (u ++ (b ∷ (w ++ e ∷ []))))
+pub around : (v u w : List Part) (c b e : Part) → (v ++ c ∷ []) ++ (u ++ (b ∷ (w ++ e ∷ []))) ≡ v ++ (c ∷ (u ++ (b ∷ (w ++ e ∷ []))))
 around v u w c b e = append_assoc v (c ∷ []) (u ++ (b ∷ (w ++ e ∷ [])))
 
 method_of : {d i : ℕ} {r h u w : List Part} {res : Option TypeTerm} {ps : List Param} {cs : List Constraint} {ss : List Stmt × ℕ} (x : Name) (p : Place)
