@@ -31,3 +31,5 @@ pub mod LocalAgain
 pub mod StmtAgain
 pub mod MethodAgain
 pub mod DeclAgain
+pub mod Growing
+pub mod LocalRuns
