@@ -124,7 +124,7 @@ type_no_close k h = absurd (never h)
 type_goes : {w : List Part} → Heads is_type_word w → (v : List Lexeme) → (in_body (lexemes w ++ v) ≡ true) × (1 ≤ length w) × Unit {0}
 type_goes (heads {t} h) v = (ap not (type_no_close t.word h), omega arith, tt)
 
-member_goes : {k : Kind} {d i : ℕ} {w : List Part} {x : Member} → IsMember k d i w x → (v : List Lexeme) → (in_body (lexemes w ++ v) ≡ true) × (1 ≤ length w) × Unit {0}
+pub member_goes : {k : Kind} {d i : ℕ} {w : List Part} {x : Member} → IsMember k d i w x → (v : List Lexeme) → (in_body (lexemes w ++ v) ≡ true) × (1 ≤ length w) × Unit {0}
 member_goes (declared (inner o c a_class e f m)) v = (refl, omega arith, tt)
 member_goes (declared (inner o c a_package e f m)) v = (refl, omega arith, tt)
 member_goes (slot p s h) v = type_goes (heads_append (type_heads h) _) v
@@ -152,7 +152,7 @@ unfolding top_in top_by
 top_again n room j (top {x = x} {p} o c a_class e f m) z = top_decl_again n (members_agains_below n) kind.Class room (one_new_name {x = x} {p = p}) e f (body o c m) z
 top_again n room j (top {x = x} {p} o c a_package e f m) z = top_decl_again n (members_agains_below n) kind.Package room (one_new_name {x = x} {p = p}) e f (body o c m) z
 
-top_goes : {w : List Part} {x : Decl} → IsTop w x → (v : List Lexeme) → (in_file (lexemes w ++ v) ≡ true) × (1 ≤ length w) × Unit {0}
+pub top_goes : {w : List Part} {x : Decl} → IsTop w x → (v : List Lexeme) → (in_file (lexemes w ++ v) ≡ true) × (1 ≤ length w) × Unit {0}
 top_goes (top o c a_class e f m) v = (refl, omega arith, tt)
 top_goes (top o c a_package e f m) v = (refl, omega arith, tt)
 

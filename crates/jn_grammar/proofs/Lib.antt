@@ -33,3 +33,6 @@ pub mod MethodAgain
 pub mod DeclAgain
 pub mod Growing
 pub mod LocalRuns
+pub mod StmtRuns
+pub mod MethodRuns
+pub mod DeclRuns

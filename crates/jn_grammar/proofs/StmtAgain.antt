@@ -91,7 +91,7 @@ call_head : {d : ℕ} {w : List Part} {e : Expr} → IsCall d w e → StmtHead w
 call_head (called {w = u} i is c) = head_append (starts_head (prim_starts i)) u
 call_head (formed i) = starts_head (prim_starts (form i))
 
-stmt_starts : {d k m : ℕ} {w : List Part} {s : Stmt} → IsStmt d k w s m → StmtHead w
+pub stmt_starts : {d k m : ℕ} {w : List Part} {s : Stmt} → IsStmt d k w s m → StmtHead w
 stmt_starts (block c i) = stmt_head refl refl
 stmt_starts (local o s {v = u} not_final i j) = head_append (type_head i) _
 stmt_starts (local o s final i j) = stmt_head refl refl
