@@ -36,3 +36,4 @@ pub mod LocalRuns
 pub mod StmtRuns
 pub mod MethodRuns
 pub mod DeclRuns
+pub mod Programs
