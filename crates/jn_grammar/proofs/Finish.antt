@@ -1,6 +1,7 @@
 -- Whatever is expected can come: each state that the machine reaches has an end.
 use Rattle.std.proofs.Common.{◌≡◌, ℕ, zero, suc, Bool, true, false, List, [], ◌∷◌, ◌++◌, length, ◌⊎◌, inl, inr, Option, Some, None, refl, sym, subst, if◌then◌else◌}
 use Rattle.std.specs.Prelude.{pos}
+use Rattle.std.proofs.lemmas.Bool.{eq-eqb}
 use Rattle.jn_base.specs.declared.tree.Level.{Level}
 use Rattle.jn_base.specs.declared.tree.Level.TheVariants as level_
 use Rattle.jn_base.specs.declared.tree.Op.{Op}
@@ -14,7 +15,7 @@ use Rattle.jn_base.specs.declared.word.Word.TheVariants.{Name as Named_, Keyword
 use Rattle.jn_base.specs.declared.word.Lexeme.{Lexeme}
 use Rattle.jn_base.specs.Words.{lexeme}
 use Rattle.jn_base.specs.Parts.{Parameter}
-use Rattle.jn_grammar.specs.Begins.{begins, nowhere, is_word}
+use Rattle.jn_grammar.specs.Begins.{mark_code, key_code, begins, nowhere, is_word}
 use Rattle.jn_grammar.specs.ReadExprs.{operator}
 use Rattle.jn_grammar.specs.Expected.{Symbol, Expects, Shuts, AName, Dots, MayBang, Tail, Names, Term, AfterName, NameOrClass, AfterNames, Ref, Masks, View, Type_, Atom, Atoms, Prim, Suffixes, SuffixName, MayCall, Post, InParens, Unary, OperandEnd, Expr, Rest, CallArgs, Args, MoreArgs, SuperTerm, Body, Stmts, MayElse, FirstName, NameOrClassPart, OneName, Path, PathName, AfterThis, ThisPart, Bare, PartName, AfterPart, AfterCall, Block, Test, Returned, Printed, TextOrExpr, NewName, Params, Param, MoreParams, Sharing, MoreRels, ListOf, MoreNames, Members, DeclBody, SlotOrMethod, MethodOpen, MethodBody, Tops, EndOfFile, one_more, deeper, value, local_value, type_rest, local_end, behind_block, after_path, on_stmts, on_member, on_param, on_type, on_expr, followed, inner_rest, Act, Takes, Counts, Opens, Closes, Leaves, Ends, Finishes, Refuses, on, on_name, on_operator, linked, rests, does, led, opened, counts_by, step, State, Going, Done, Fails, read}
 use Rattle.jn_grammar.proofs.FirstWords.{never}
@@ -122,10 +123,21 @@ EndsLevel level_.Equal v = EndsEquality v
 EndsLevel level_.And v = EndsConjunction v
 EndsLevel level_.Or v = EndsExpr v
 
+-- a mark or a keyword
+abbrev pub is_fixed : Word → Bool
+is_fixed (Marked m) = true
+is_fixed (Key k) = true
+is_fixed w = false
+
+pub fixed_same : (w : Word) → is_fixed w ≡ true → is_word w w ≡ true
+fixed_same (Marked m) h = eq-eqb (mark_code m) (mark_code m) refl
+fixed_same (Key k) h = eq-eqb (key_code k) (key_code k) refl
+fixed_same w h = absurd (never h)
+
 -- what must come behind a symbol, so that it does not go on
 unfoldable pub Follow : Symbol → List Lexeme → Type 0
-Follow (Expects w) v = is_word w w ≡ true
-Follow (Shuts w) v = is_word w w ≡ true
+Follow (Expects w) v = is_fixed w ≡ true
+Follow (Shuts w) v = is_fixed w ≡ true
 Follow Dots v = begins (Marked Dot) v ≡ false
 Follow MayBang v = EndsNames v
 Follow Tail v = EndsNames v
@@ -709,7 +721,7 @@ led_tidy s Finishes n below left others t h = tt
 led_tidy s Refuses n below left others t h = tt
 
 -- the end of the file stands last, and leaves no word to what is below
-end_step : (s : Bool) (n : ℕ) (below : List Symbol) (k : Word) (left : ℕ) → TidyState (step s (EndOfFile ∷ below) n k left)
+pub end_step : (s : Bool) (n : ℕ) (below : List Symbol) (k : Word) (left : ℕ) → TidyState (step s (EndOfFile ∷ below) n k left)
 unfolding TidyState
 end_step s n below k left = by_bool (is_word End k)
   where
@@ -717,7 +729,7 @@ end_step s n below k left = by_bool (is_word End k)
     by_bool true = tt
     by_bool false = tt
 
-parts_of : (x : Symbol) (below : List Symbol) → Tidy (x ∷ below) → (x ≡ EndOfFile) ⊎ (Follow x (finish below) × Tidy below)
+pub parts_of : (x : Symbol) (below : List Symbol) → Tidy (x ∷ below) → (x ≡ EndOfFile) ⊎ (Follow x (finish below) × Tidy below)
 unfolding Tidy
 parts_of EndOfFile below t = inl refl
 parts_of (Expects w) below t = inr t

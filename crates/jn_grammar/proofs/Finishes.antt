@@ -19,7 +19,7 @@ use Rattle.jn_grammar.proofs.Meets.{if_false}
 use Rattle.jn_grammar.proofs.Machine.{takes_or_leaves, opens_or_leaves, operand_ends}
 use Rattle.jn_grammar.proofs.LevelsRuns.{rest_takes}
 use Rattle.jn_grammar.proofs.TermsAgain.{EndsTerm}
-use Rattle.jn_grammar.proofs.Finish.{word, closing, finish, Follow, Tidy, EndsLevel, post_of}
+use Rattle.jn_grammar.proofs.Finish.{word, closing, finish, fixed_same, Follow, Tidy, EndsLevel, post_of}
 
 -- WHAT LEAVES THE NEXT WORD
 dots_leave : (n : ℕ) (v : List Lexeme) (below : List Symbol) → begins (Marked Dot) v ≡ false → run false v (Going n (Dots ∷ below)) ≡ run false v (Going n below)
@@ -185,8 +185,8 @@ unfolding Tidy finish word Follow
 finishes [] t n = absurd t
 finishes (EndOfFile ∷ []) t n = refl
 finishes (EndOfFile ∷ x ∷ below) t n = absurd t
-finishes (Expects w ∷ below) t n = ap (λ c. run false (finish below) (led false (if c then Takes [] else Refuses) (suc n) below (suc (length (finish below))) (λ i. step false below i w (suc (length (finish below)))))) t.0 ∙ finishes below t.1 n
-finishes (Shuts w ∷ below) t n = ap (λ c. run false (finish below) (led false (if c then Closes [] else Refuses) (suc n) below (suc (length (finish below))) (λ i. step false below i w (suc (length (finish below)))))) t.0 ∙ finishes below t.1 (suc n)
+finishes (Expects w ∷ below) t n = ap (λ c. run false (finish below) (led false (if c then Takes [] else Refuses) (suc n) below (suc (length (finish below))) (λ i. step false below i w (suc (length (finish below)))))) (fixed_same w t.0) ∙ finishes below t.1 n
+finishes (Shuts w ∷ below) t n = ap (λ c. run false (finish below) (led false (if c then Closes [] else Refuses) (suc n) below (suc (length (finish below))) (λ i. step false below i w (suc (length (finish below)))))) (fixed_same w t.0) ∙ finishes below t.1 (suc n)
 finishes (AName ∷ below) t n = finishes below t.1 n
 finishes (Dots ∷ below) t n = dots_leave (suc n) (finish below) below t.0 ∙ finishes below t.1 n
 finishes (MayBang ∷ below) t n = bang_leaves (suc n) (finish below) below t.0.bang ∙ finishes below t.1 n

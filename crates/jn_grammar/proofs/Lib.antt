@@ -37,3 +37,4 @@ pub mod StmtRuns
 pub mod MethodRuns
 pub mod DeclRuns
 pub mod Programs
+pub mod LastWord
