@@ -13,6 +13,7 @@ use Rattle.jn_grammar.specs.declared.fault.Fault.TheVariants.{Syntax, Passed}
 use Rattle.jn_grammar.specs.Answers.{Answer}
 use Rattle.jn_grammar.specs.ReadDecls.{tops_in}
 use Rattle.jn_grammar.specs.ReadWhole.{program_in, first}
+use Rattle.jn_grammar.specs.TokenLimits.{IsLast, the_end, no_word}
 use Rattle.jn_grammar.specs.Expected.{Symbol, Expects, Shuts, Rest, Members, Tops, EndOfFile, Act, Takes, Counts, Opens, Closes, Leaves, Ends, Finishes, Refuses, does, led, step, State, Going, Done, Fails, read, ended, run}
 use Rattle.jn_grammar.proofs.FirstWords.{never}
 use Rattle.jn_grammar.proofs.Finish.{is_fixed, finish, Follow, Tidy, TidyState, parts_of, read_tidy}
@@ -20,11 +21,6 @@ use Rattle.jn_grammar.proofs.Steps.{next_state, read_next, read_fails, read_on, 
 use Rattle.jn_grammar.proofs.Whole.{IsInner}
 use Rattle.jn_grammar.proofs.FirstFault.{done_of, alive_front}
 use Rattle.jn_grammar.proofs.Programs.{tops, program_reader}
-
--- the words that stand last
-pub data IsLast : Word → Type 0 where
-  the_end : IsLast End
-  no_word : IsLast Broken
 
 abbrev TakesNone : Act → Type 0
 TakesNone (Takes s) = ⊥

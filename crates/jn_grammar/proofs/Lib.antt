@@ -38,3 +38,5 @@ pub mod MethodRuns
 pub mod DeclRuns
 pub mod Programs
 pub mod LastWord
+pub mod Different
+pub mod TokenFaults
