@@ -40,3 +40,4 @@ pub mod Programs
 pub mod LastWord
 pub mod Different
 pub mod TokenFaults
+pub mod Refusals
