@@ -41,3 +41,4 @@ pub mod LastWord
 pub mod Different
 pub mod TokenFaults
 pub mod Refusals
+pub mod Sources

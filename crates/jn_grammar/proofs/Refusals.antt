@@ -19,7 +19,7 @@ use Rattle.jn_grammar.specs.ReadDecls.{tops_in}
 use Rattle.jn_grammar.specs.ReadWhole.{program_in, whole_in, first}
 use Rattle.jn_grammar.specs.Expected.{Tops}
 use Rattle.jn_grammar.specs.Places.{BeginsSo, PassesSo, IsCleanSo, IsSyntaxAt, IsLimitAt}
-use Rattle.jn_grammar.specs.TokenLimits.{token_limit, left_of, earlier, checked_in, rule_of, limit_shown, place_left, IsLast}
+use Rattle.jn_grammar.specs.TokenLimits.{token_limit, left_of, earlier, checked_in, rule_of, limit_shown, place_left, IsLast, SameRefusal, AreClean, IsFirstFault}
 use Rattle.jn_grammar.proofs.Steps.{count_of}
 use Rattle.jn_grammar.proofs.FirstFault.{all_clean, syntax_at, limit_at}
 use Rattle.jn_grammar.proofs.Programs.{program_reader}
@@ -199,11 +199,8 @@ read_fault ws (Passed k (suc i)) e l = of_limit ws k (suc i) (limit_at IsProgram
 
 -- ---- the first of all
 
-abbrev FirstIs : List Lexeme → Fault → Type 0
-FirstIs ws f = IsFirstRefused ws (rule_of f) (place_left ws (left_of f)) (limit_shown f)
-
 -- the fault of reading, where no limit of words is passed before
-read_first : (ws : List Lexeme) (f : Fault) (r : ReadFault ws f) → ((before behind : List Lexeme) (t : Lexeme) → r.front ≡ before ++ t ∷ behind → TokenClean before t) → FirstIs ws f
+read_first : (ws : List Lexeme) (f : Fault) (r : ReadFault ws f) → ((before behind : List Lexeme) (t : Lexeme) → r.front ≡ before ++ t ∷ behind → TokenClean before t) → IsFirstFault ws f
 read_first ws f r k = record {
   front = r.front;
   word_there = r.word_there;
@@ -216,7 +213,7 @@ read_first ws f r k = record {
 
 -- a limit of words, where the grammar has nothing against the words up to it
 token_first : (ws : List Lexeme) (l : Limit) (left : ℕ) (r : TokenLimitAt [] ws l left) → ((before behind : List Lexeme) (t : Lexeme) → r.front ≡ before ++ t ∷ behind → IsCleanSo IsProgram before t) → IsCleanSo IsProgram r.front r.word_there
-    → FirstIs ws (Passed l left)
+    → IsFirstFault ws (Passed l left)
 token_first ws l left r k c = record {
   front = r.front;
   word_there = r.word_there;
@@ -237,41 +234,41 @@ err_is : (f g : Fault) → ◌≡◌ {A = Answer (List Decl)} (Err f) (Err g) �
 err_is f g e = cc
 
 -- both faults: the earlier
-both_first : (ws : List Lexeme) (l : Limit) (left : ℕ) (g : Fault) → TokenLimitAt [] ws l left → ReadFault ws g → (c : Bool) → nat_lt (left_of g) left ≡ c → (f : Fault) → ◌≡◌ {A = Answer (List Decl)} (if c then Err (Passed l left) else Err g) (Err f) → FirstIs ws f
+both_first : (ws : List Lexeme) (l : Limit) (left : ℕ) (g : Fault) → TokenLimitAt [] ws l left → ReadFault ws g → (c : Bool) → nat_lt (left_of g) left ≡ c → (f : Fault) → ◌≡◌ {A = Answer (List Decl)} (if c then Err (Passed l left) else Err g) (Err f) → IsFirstFault ws f
 both_first ws l left g r h true q f e =
     let less : length h.others < length r.others = (let a = lt_true (left_of g) left q in omega (arith, a, h.count, r.count)) in
     let i = inside_of r.front h.front r.word_there h.word_there r.others h.others (sym r.split ∙ h.split) less in
-    subst (λ k. FirstIs ws k) (err_is (Passed l left) f e)
+    subst (λ k. IsFirstFault ws k) (err_is (Passed l left) f e)
     (token_first ws l left r
     (λ before behind t p. h.clean before (behind ++ r.word_there ∷ i.rest) t (i.is ∙ ap (λ (v : List Lexeme). v ++ r.word_there ∷ i.rest) p ∙ append_assoc before (t ∷ behind) (r.word_there ∷ i.rest)))
     (h.clean r.front i.rest r.word_there i.is))
 both_first ws l left g r h false q f e =
     let less : length r.others ≤ length h.others = (let a = lt_false (left_of g) left q in omega (arith, a, h.count, r.count)) in
     let i = prefix_of h.front r.front h.word_there r.word_there h.others r.others (sym h.split ∙ r.split) less in
-    subst (λ k. FirstIs ws k) (err_is g f e)
+    subst (λ k. IsFirstFault ws k) (err_is g f e)
     (read_first ws g h (λ before behind t p. r.clean before (behind ++ i.more) t (i.is ∙ ap (λ (v : List Lexeme). v ++ i.more) p ∙ append_assoc before (t ∷ behind) i.more)))
 
 -- what is refused
-pub refused_first : (ws : List Lexeme) (f : Fault) → ((g : Fault) → program_in ws ≡ Err g → 1 ≤ left_of g) → checked_in ws ≡ Err f → FirstIs ws f
+pub refused_first : (ws : List Lexeme) (f : Fault) → ((g : Fault) → program_in ws ≡ Err g → 1 ≤ left_of g) → checked_in ws ≡ Err f → IsFirstFault ws f
 unfolding checked_in
 refused_first ws f there e = by_both (token_limit ws) (program_in ws) refl refl e
   where
-    by_both : (o : Option (Limit × ℕ)) (r : Answer (List Decl)) → token_limit ws ≡ o → program_in ws ≡ r → earlier o r ≡ Err f → FirstIs ws f
+    by_both : (o : Option (Limit × ℕ)) (r : Answer (List Decl)) → token_limit ws ≡ o → program_in ws ≡ r → earlier o r ≡ Err f → IsFirstFault ws f
     by_both None (Ok x) p q e = cc
     by_both None (Err g) p q e =
         let h = read_fault ws g q (there g q) in
-        subst (λ k. FirstIs ws k) (err_is g f e)
+        subst (λ k. IsFirstFault ws k) (err_is g f e)
         (read_first ws g h (λ before behind t i. token_clean ws p before (behind ++ h.word_there ∷ h.others) t (h.split ∙ ap (λ (v : List Lexeme). v ++ h.word_there ∷ h.others) i ∙ append_assoc before (t ∷ behind) (h.word_there ∷ h.others))))
     by_both (Some l) (Ok x) p q e =
         let r = token_limit_at ws l.0 l.1 p in
         let clean = all_clean IsProgram (whole_in tops_in) (first Tops) program_reader ws x q in
-        subst (λ k. FirstIs ws k) (err_is (Passed l.0 l.1) f e)
+        subst (λ k. IsFirstFault ws k) (err_is (Passed l.0 l.1) f e)
         (token_first ws l.0 l.1 r
         (λ before behind t i. clean before (behind ++ r.word_there ∷ r.others) t (r.split ∙ ap (λ (v : List Lexeme). v ++ r.word_there ∷ r.others) i ∙ append_assoc before (t ∷ behind) (r.word_there ∷ r.others)))
         (clean r.front r.others r.word_there r.split))
     by_both (Some l) (Err g) p q e = both_first ws l.0 l.1 g (token_limit_at ws l.0 l.1 p) (read_fault ws g q (there g q)) (nat_lt (left_of g) l.1) refl f e
 
-pub refused_there : (front : List Lexeme) (last : Lexeme) (f : Fault) → IsLast last.word → checked_in (front ++ last ∷ []) ≡ Err f → FirstIs (front ++ last ∷ []) f
+pub refused_there : (front : List Lexeme) (last : Lexeme) (f : Fault) → IsLast last.word → checked_in (front ++ last ∷ []) ≡ Err f → IsFirstFault (front ++ last ∷ []) f
 refused_there front last f h e = refused_first (front ++ last ∷ []) f (λ g q. there g (fault_there front last g h q)) e
   where
     there : (g : Fault) → 1 ≤ count_of g → 1 ≤ left_of g
@@ -295,7 +292,7 @@ checked_reads ws x e = by_both (token_limit ws) (program_in ws) refl refl e
     by_both (Some l) (Ok y) p q e = cc
     by_both (Some l) (Err g) p q e = absurd (by_less (nat_lt (left_of g) l.1) (Passed l.0 l.1) g e)
 
-pub checked_clean : (ws : List Lexeme) (x : List Decl × List Lexeme) → checked_in ws ≡ Ok x → (before behind : List Lexeme) (t : Lexeme) → ws ≡ before ++ t ∷ behind → IsClean before t
+pub checked_clean : (ws : List Lexeme) (x : List Decl × List Lexeme) → checked_in ws ≡ Ok x → AreClean ws
 checked_clean ws x e before behind t q =
     let r = checked_reads ws x e in
     clean_of (all_clean IsProgram (whole_in tops_in) (first Tops) program_reader ws x r.0 before behind t q) (token_clean ws r.1 before behind t q)
@@ -333,12 +330,6 @@ rank_back limit.Slots = refl
 
 rank_once : (l m : Limit) → rank l ≤ rank m → rank m ≤ rank l → l ≡ m
 rank_once l m a b = let same : rank l ≡ rank m = omega (arith, a, b) in sym (rank_back l) ∙ ap limit_of_rank same ∙ rank_back m
-
--- the rule and the limit of a refusal
-pub record SameRefusal (r q : Rule) (at p : Place) (l m : Option Limit) : Type 0 where
-  pub rules : r ≡ q
-  pub places : at ≡ p
-  pub limits : l ≡ m
 
 at_one_word : {front : List Lexeme} {t : Lexeme} {r q : Rule} {l m : Option Limit} (at : Place) → IsRefusedAt front t r l → IsRefusedAt front t q m → SameRefusal r q at at l m
 at_one_word at (syntax_fault h) (syntax_fault g) = record { rules = refl; places = refl; limits = refl }
