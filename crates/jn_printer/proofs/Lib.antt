@@ -6,3 +6,4 @@ pub mod Placeless
 pub mod Written
 pub mod Follows
 pub mod TermsBack
+pub mod ExprTools
