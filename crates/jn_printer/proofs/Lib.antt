@@ -7,3 +7,4 @@ pub mod Written
 pub mod Follows
 pub mod TermsBack
 pub mod ExprTools
+pub mod ExprRows
