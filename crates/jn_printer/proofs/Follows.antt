@@ -1,5 +1,5 @@
 -- What the tests on what follows a word say of characters.
-use Rattle.std.proofs.Common.{◌≡◌, ℕ, ◌+◌, ◌<◌, ◌≤◌, Bool, true, false, not, ◌||◌, ◌==◌, List, [], ◌∷◌, ◌++◌, length, get_or, encode_utf8, encode_utf8_all, refl, sym, ap, subst, ◌∙◌, append_assoc, arith}
+use Rattle.std.proofs.Common.{◌≡◌, ℕ, ◌+◌, ◌<◌, ◌≤◌, Bool, true, false, not, ◌||◌, ◌&&◌, ◌==◌, List, [], ◌∷◌, ◌++◌, length, get_or, encode_utf8, encode_utf8_all, refl, sym, ap, subst, ◌∙◌, append_assoc, arith}
 use Rattle.std.proofs.lemmas.Bool.{eqb-true}
 use Rattle.std.proofs.lemmas.Bool.Decides.{nat_tests}
 use Rattle.std.proofs.lemmas.Str.{char_from_byte, encodes-append}
@@ -14,6 +14,14 @@ use Rattle.jn_printer.proofs.Written.{ends_word, goes_on, breaks, calm, GivenNam
 pub or_elim : (P : Type 0) (a b : Bool) → (a || b) ≡ true → (a ≡ true → P) → (b ≡ true → P) → P
 or_elim P true b h f g = f refl
 or_elim P false b h f g = g h
+
+pub and_left : (a b : Bool) → (a && b) ≡ true → a ≡ true
+and_left true b h = refl
+and_left false b h = h
+
+pub and_right : (a b : Bool) → (a && b) ≡ true → b ≡ true
+and_right true b h = h
+and_right false b h = absurd (cc)
 
 pub no_name_at : (c : ℕ) → c < 128 → is_ascii_alphabetic c ≡ false → (c == underscore) ≡ false → begins_name c ≡ false
 no_name_at c h a u = ap (λ (t : Bool). t || c == underscore) (is_xid_start-ascii c h ∙ a) ∙ u

@@ -8,3 +8,5 @@ pub mod Follows
 pub mod TermsBack
 pub mod ExprTools
 pub mod ExprRows
+pub mod ExprsBack
+pub mod Decimals

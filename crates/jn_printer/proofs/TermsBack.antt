@@ -119,7 +119,7 @@ ref_calm s this g u = refl
 ref_calm s (variable {x = x}) g u = name_calm s.names x g u
 
 -- where one may open with more open around, one may with fewer
-open_room : (d : ℕ) → limit_of (Opens (suc d)) ≡ None → suc d ≤ 200
+pub open_room : (d : ℕ) → limit_of (Opens (suc d)) ≡ None → suc d ≤ 200
 open_room d h = by (nat_lt 200 (suc d)) refl h where
   by : (b : Bool) → nat_lt 200 (suc d) ≡ b → (if b then Some limit.Nesting else None) ≡ None → suc d ≤ 200
   by true e h = absurd (cc)
