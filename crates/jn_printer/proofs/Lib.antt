@@ -10,3 +10,5 @@ pub mod ExprTools
 pub mod ExprRows
 pub mod ExprsBack
 pub mod Decimals
+pub mod StmtTools
+pub mod StmtsBack
