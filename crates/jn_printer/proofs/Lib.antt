@@ -12,3 +12,4 @@ pub mod ExprsBack
 pub mod Decimals
 pub mod StmtTools
 pub mod StmtsBack
+pub mod HeadsBack

@@ -80,7 +80,7 @@ one_block s D k m o c w ss h r = record { lays = lays } where
       (braced_then D o c i (texts_of s ss) [] w [] b h d l (breaks_calm rest e) (λ rest' m'. r.lays (suc d) up (deeper i) (deeper_blanks i b) rest' m') (λ o' c' v g m'.
       lays_none (stmt.Block g.0, block c' g.1, block_is g.0 ∙ ap (λ (x : List Stmt). stmt.Block x) g.2 ∙ sym (block_is ss))))
 
-final_lays : (s : Setting) {u : List Part} {fixed : Bool} → IsFinal u fixed → (rest : List ℕ) (n : ℕ) → Lays s rest n (text_if fixed (codes "final ")) u (λ v. IsFinal v fixed)
+pub final_lays : (s : Setting) {u : List Part} {fixed : Bool} → IsFinal u fixed → (rest : List ℕ) (n : ℕ) → Lays s rest n (text_if fixed (codes "final ")) u (λ v. IsFinal v fixed)
 final_lays s not_final rest n = lays_none not_final
 final_lays s final rest n = lays_key Final (32 ∷ []) refl (lays_blank refl (lays_none final))
 
