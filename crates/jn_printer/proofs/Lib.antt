@@ -13,3 +13,4 @@ pub mod Decimals
 pub mod StmtTools
 pub mod StmtsBack
 pub mod HeadsBack
+pub mod DeclsBack
