@@ -14,3 +14,5 @@ pub mod StmtTools
 pub mod StmtsBack
 pub mod HeadsBack
 pub mod DeclsBack
+pub mod Chars
+pub mod Tokens
