@@ -90,7 +90,7 @@ pub all_of : (P : ℕ → Type 0) (xs : List ℕ) → Each P xs → All P xs
 all_of P [] a = All-nil P
 all_of P (x ∷ xs) a = All-cons P x xs a.0 (all_of P xs a.1)
 
-each_map : (P Q : ℕ → Type 0) → ((x : ℕ) → P x → Q x) → (xs : List ℕ) → Each P xs → Each Q xs
+pub each_map : (P Q : ℕ → Type 0) → ((x : ℕ) → P x → Q x) → (xs : List ℕ) → Each P xs → Each Q xs
 each_map P Q f [] a = tt
 each_map P Q f (x ∷ xs) a = (f x a.0, each_map P Q f xs a.1)
 
@@ -98,14 +98,14 @@ each_append : (P : ℕ → Type 0) (xs ys : List ℕ) → Each P xs → Each P y
 each_append P [] ys a b = b
 each_append P (x ∷ xs) ys a b = (a.0, each_append P xs ys a.1 b)
 
-small_or_high : (b : ℕ) → (b < 128) ⊎ (128 ≤ b)
+pub small_or_high : (b : ℕ) → (b < 128) ⊎ (128 ≤ b)
 small_or_high b = by (nat_lt b 128) refl where
   by : (v : Bool) → nat_lt b 128 ≡ v → (b < 128) ⊎ (128 ≤ b)
   by true e = inl (grind (arith, nat_tests))
   by false e = inr (grind (arith, nat_tests))
 
 -- the bytes of a character from 128 are from 128
-high_bytes : (c : ℕ) → 128 ≤ c → Each (λ b. 128 ≤ b) (encode_utf8 c)
+pub high_bytes : (c : ℕ) → 128 ≤ c → Each (λ b. 128 ≤ b) (encode_utf8 c)
 high_bytes c h = each_of (λ b. 128 ≤ b) (encode_utf8 c) (All-from_get_or (λ b. 128 ≤ b) (encode_utf8 c) 0 (λ k l. by k l (small_or_high (get_or (encode_utf8 c) k 0)))) where
   by : (k : ℕ) → k < length (encode_utf8 c) → (get_or (encode_utf8 c) k 0 < 128) ⊎ (128 ≤ get_or (encode_utf8 c) k 0) → 128 ≤ get_or (encode_utf8 c) k 0
   by k l (inr e) = e

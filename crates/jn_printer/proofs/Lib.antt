@@ -16,3 +16,6 @@ pub mod HeadsBack
 pub mod DeclsBack
 pub mod Chars
 pub mod Tokens
+pub mod WordsOut
+pub mod WordsIn
+pub mod LimitsIn
