@@ -19,3 +19,4 @@ pub mod Tokens
 pub mod WordsOut
 pub mod WordsIn
 pub mod LimitsIn
+pub mod TheWayBack
