@@ -20,3 +20,5 @@ pub mod WordsOut
 pub mod WordsIn
 pub mod LimitsIn
 pub mod TheWayBack
+pub mod PlacesUnseen
+pub mod TextUnseen
