@@ -20,6 +20,7 @@ use Rattle.jn_printer.proofs.WordsOut.{setting, Lexed, lexed_of, names_in, texts
 use Rattle.jn_printer.proofs.WordsIn.{AllGiven, all_given}
 use Rattle.jn_printer.proofs.LimitsIn.{all_low, few_masks, names_below, mentioned_below}
 use Rattle.jn_printer.proofs.Chars.{Each}
+use Rattle.jn_printer.proofs.TextUnseen.{same_text}
 use Rattle.jn_printer.proofs.DeclsBack.{Tops, Ended, program_ends, tops_end, tops_back}
 
 fine_of : (s : Setting) (w : List Part) → AllGiven s (map lexeme_of w) → Low w → Fine s w
@@ -144,3 +145,24 @@ pub spelled_back : (q : Program) (source : List ℕ) → IsTextOf q source → S
 spelled_back q source t = from (program_ends t.spelled.is_program) where
   from : Ended t.spelled.parts q.decls → SpellsWithin q (program_text q)
   from e = spelled_by q source t e.words e.place e.split (tops_back (setting q.names q.texts (program_text q)) e.tops (source_fine q source t e.words e.place e.split (program_text q)) [] 0)
+
+-- and so does that of each program that is the same but for places
+same_within : (p q : Program) (bytes : List ℕ) → unplaced q ≡ unplaced p → SpellsWithin q bytes → SpellsWithin p bytes
+same_within p q bytes h b = record {
+  spelled = b.spelled;
+  same = b.same ∙ h;
+  parts = b.parts;
+  are_words = b.are_words;
+  is_program = b.is_program;
+  counted = b.counted;
+  few_masks = b.few_masks;
+  few_names = b.few_names;
+}
+
+pub way_back : (p : Program) → WayBack p (program_text p)
+way_back p w =
+    subst (λ (bytes : List ℕ). SpellsWithin p bytes) (same_text w.spelled p w.same)
+    (same_within p w.spelled (program_text w.spelled) w.same (spelled_back w.spelled w.source w.is_text))
+
+pub way_back_of : (p : Program) (bytes : List ℕ) → bytes ≡ program_text p → WayBack p bytes
+way_back_of p bytes e = subst (λ (x : List ℕ). WayBack p x) (sym e) (way_back p)
