@@ -1,17 +1,14 @@
 -- Characters and their bytes.
-use Rattle.std.proofs.Common.{◌≡◌, ◌≢◌, ℕ, suc, ◌+◌, ◌<◌, ◌≤◌, Bool, true, false, not, ◌||◌, ◌&&◌, ◌==◌, cond, ltb, leb, List, [], ◌∷◌, ◌++◌, length, get_or, encode_utf8, encode_utf8_all, All, codes, refl, sym, ap, ap₂, subst, ◌∙◌, append_assoc, append-nil, arith, ◌⊎◌, inl, inr, if◌then◌else◌, nat_lt, nat_le}
-use Rattle.std.proofs.lemmas.Bool.{eqb-true}
+use Rattle.std.proofs.Common.{◌≡◌, ◌≢◌, ℕ, ◌<◌, ◌≤◌, Bool, true, false, not, ◌||◌, ◌&&◌, ◌==◌, List, [], ◌∷◌, ◌++◌, length, get_or, encode_utf8, encode_utf8_all, All, codes, refl, sym, ap, ap₂, subst, ◌∙◌, append_assoc, append-nil, arith, ◌⊎◌, inl, inr, if◌then◌else◌, nat_lt}
 use Rattle.std.proofs.lemmas.Bool.Decides.{nat_tests}
-use Rattle.std.proofs.lemmas.List.Elements.{All-head, All-tail, All-from_get_or, All-append, All-nil, All-cons}
+use Rattle.std.proofs.lemmas.List.Elements.{All-head, All-tail, All-from_get_or, All-nil, All-cons}
 use Rattle.std.proofs.lemmas.Str.{char_from_byte, byte_from_char, encodes-append, encode_ascii, inside_one, length-encode, len_utf8_bounds}
 use Rattle.std.specs.Str.{all_scalars}
 use Rattle.std.specs.Char.{IsScalar}
-use Rattle.std.specs.List.{AllPass}
-use Rattle.jn_base.specs.Tokens.{quote, backslash, line_feed, carriage_return, letter_n, ends_line, is_plain, is_escape, IsInText, no_more, plain, escape}
-use Rattle.jn_base.specs.Words.{Reads}
+use Rattle.jn_base.specs.Tokens.{quote, backslash, line_feed, carriage_return, IsInText, no_more, plain, escape}
 use Rattle.jn_printer.specs.StmtText.{escaped}
 use Rattle.jn_printer.specs.StmtText as StmtText
-use Rattle.jn_printer.proofs.Follows.{and_left, and_right, or_elim}
+use Rattle.jn_printer.proofs.Follows.{and_left, and_right}
 use Rattle.jn_printer.proofs.Written.{ends_word, goes_on, breaks, calm}
 
 pub small_scalar : (c : ℕ) → c < 128 → IsScalar c
@@ -136,6 +133,7 @@ high_escape : (b : ℕ) → 128 ≤ b → StmtText.escape b ≡ b ∷ []
 high_escape b h = by (b == quote) (b == backslash) (b == line_feed) (no b quote (omega (arith, h))) (no b backslash (omega (arith, h))) (no b line_feed (omega (arith, h))) where
   no : (b k : ℕ) → k < b → (b == k) ≡ false
   no b k l = grind (arith, nat_tests)
+
   by : (x y z : Bool) → x ≡ false → y ≡ false → z ≡ false → (if x then codes "\\\"" else if y then codes "\\\\" else if z then codes "\\n" else b ∷ []) ≡ b ∷ []
   by true y z f g h = absurd (cc)
   by false true z f g h = absurd (cc)

@@ -1,5 +1,5 @@
 -- A number in decimal is a good number of the tokens, of its own value.
-use Rattle.std.proofs.Common.{◌≡◌, ℕ, zero, suc, ◌+◌, ◌*◌, ◌-◌, ◌<◌, ◌≤◌, Bool, true, false, not, ◌&&◌, ◌==◌, List, [], ◌∷◌, ◌++◌, map, fold, length, get_or, decimal, nat_le, refl, sym, ap, ap₂, subst, ◌∙◌, arith, ◌⊎◌, inl, inr, eq-zero-or-pos}
+use Rattle.std.proofs.Common.{◌≡◌, ℕ, ◌+◌, ◌*◌, ◌-◌, ◌<◌, ◌≤◌, Bool, true, false, not, ◌&&◌, ◌==◌, List, [], ◌∷◌, map, fold, get_or, decimal, nat_le, refl, sym, ap, ap₂, subst, ◌∙◌, arith, ◌⊎◌, inl, inr, eq-zero-or-pos}
 use Rattle.std.proofs.lemmas.Bool.Decides.{nat_tests}
 use Rattle.std.proofs.lemmas.Fmt.{decimal_digit, decimal-digits_of}
 use Rattle.std.proofs.lemmas.Int.Digits.{all_below_base_digits_of, first_digits_of, number_digits_of}
@@ -60,6 +60,7 @@ pub decimal_is : (n : ℕ) → n ≤ greatest_number → Decimal n
 decimal_is n h = by (eq-zero-or-pos n) where
   at_zero : Decimal 0
   at_zero = record { first = 48; others = []; text = decimal_digit 0 (omega arith); digits = refl; good = refl; value = refl }
+
   by : (n ≡ 0) ⊎ (0 < n) → Decimal n
   by (inl z) = subst Decimal (sym z) at_zero
   by (inr p) =

@@ -1,5 +1,5 @@
 -- Declarations and programs as they are written are such of the grammar.
-use Rattle.std.proofs.Common.{◌≡◌, ℕ, zero, suc, ◌+◌, ◌≤◌, Bool, true, false, not, List, [], ◌∷◌, ◌++◌, map, length, Option, Some, None, codes, refl, sym, ap, ap₂, subst, ◌∙◌, append_assoc, append-nil, arith}
+use Rattle.std.proofs.Common.{◌≡◌, ℕ, suc, ◌+◌, ◌≤◌, true, false, List, [], ◌∷◌, ◌++◌, map, length, Option, codes, refl, sym, ap, ap₂, subst, ◌∙◌, append_assoc, append-nil, arith}
 use Rattle.jn_base.specs.declared.tree.Place.{Place}
 use Rattle.jn_base.specs.declared.tree.Name.{Name}
 use Rattle.jn_base.specs.declared.tree.Named.{Named}
@@ -10,31 +10,27 @@ use Rattle.jn_base.specs.declared.tree.TypeTerm.{TypeTerm}
 use Rattle.jn_base.specs.declared.tree.Param.{Param}
 use Rattle.jn_base.specs.declared.tree.Constraint.{Constraint}
 use Rattle.jn_base.specs.declared.tree.Stmt.{Stmt}
-use Rattle.jn_base.specs.declared.tree.Field.{Field}
 use Rattle.jn_base.specs.declared.tree.Method.{Method}
 use Rattle.jn_base.specs.declared.tree.Decl.{Decl}
 use Rattle.jn_base.specs.declared.tree.Member.{Member}
 use Rattle.jn_base.specs.declared.tree.Member.TheVariants as member
 use Rattle.jn_base.specs.declared.word.Keyword.TheVariants.{Adapts, Extends, Shares}
 use Rattle.jn_base.specs.declared.word.Mark.TheVariants.{CloseBrace, CloseParen, OpenBrace, OpenParen, Semicolon}
-use Rattle.jn_base.specs.Words.{mark_text}
-use Rattle.jn_base.specs.Parts.{Part, Role, Plain, Opens, Declares, key, mark, name, opening, new_name, named, end_of_file}
-use Rattle.jn_base.specs.Spelling.{limit_of}
+use Rattle.jn_base.specs.Parts.{Part, Plain, Opens, Declares, mark, name, opening, new_name, named, end_of_file}
 use Rattle.jn_base.specs.GrammarTypes.{IsType}
-use Rattle.jn_base.specs.GrammarStmt.{IsStmts}
-use Rattle.jn_base.specs.GrammarDecl.{IsParams, IsSharing, IsResult, IsList, IsKind, a_class, a_package, decl, IsInner, inner, IsMember, declared, slot, method, IsMembers, no_member, then_member, IsTop, top, IsProgram, no_top, then_top}
+use Rattle.jn_base.specs.GrammarDecl.{IsParams, IsSharing, IsResult, IsList, IsKind, decl, IsInner, inner, IsMember, declared, slot, method, IsMembers, no_member, then_member, IsTop, top, IsProgram, no_top, then_top}
 use Rattle.jn_printer.specs.Pieces.{joined, name_text, type_text}
-use Rattle.jn_printer.specs.StmtText.{Indented, deeper, lines, braced, stmt_text, body_text}
-use Rattle.jn_printer.specs.DeclText.{kind_text, list_text, field_text, result_text, param_text, params_text, sharing_text, signature_text, method_text, heading_text, member_text, decl_text}
-use Rattle.jn_printer.specs.Unplaced.{nowhere, unplaced_named, unplaced_type, unplaced_param, unplaced_constraint, unplaced_field, unplaced_method, unplaced_result, unplaced_stmt, unplaced_member, unplaced_decl}
+use Rattle.jn_printer.specs.StmtText.{Indented, deeper, lines, braced, stmt_text}
+use Rattle.jn_printer.specs.DeclText.{kind_text, list_text, result_text, param_text, params_text, sharing_text, signature_text, heading_text, member_text, decl_text}
+use Rattle.jn_printer.specs.Unplaced.{nowhere, unplaced_named, unplaced_param, unplaced_constraint, unplaced_result, unplaced_stmt, unplaced_member, unplaced_decl}
 use Rattle.jn_printer.proofs.DeclTexts.{decl_parts, inner_text, slot_text, body_member}
 use Rattle.jn_printer.proofs.Placeless.{inner_is, slot_is, body_is, decl_is}
-use Rattle.jn_printer.proofs.Written.{breaks, calm, Setting, GivenName, Fine, fine_left, fine_right, Lays, lays_none, lays_map, lays_then, lays_key, lays_mark, lays_name, lays_blank, lays_text}
-use Rattle.jn_printer.proofs.Follows.{breaks_calm, name_calm, name_calm_on}
+use Rattle.jn_printer.proofs.Written.{breaks, calm, Setting, Fine, fine_left, fine_right, Lays, lays_none, lays_map, lays_then, lays_mark, lays_name, lays_blank, lays_text}
+use Rattle.jn_printer.proofs.Follows.{breaks_calm}
 use Rattle.jn_printer.proofs.TermsBack.{room, type_lays}
 use Rattle.jn_printer.proofs.StmtTools.{Blanks, deeper_blanks, lays_blanks, braced_then}
-use Rattle.jn_printer.proofs.StmtsBack.{Row, GivesStmts, stmts_back}
-use Rattle.jn_printer.proofs.HeadsBack.{list_word, GivesList, list_lays, list_breaks, kind_then, GivesResult, result_lays, GivesParams, params_lays, params_calm, GivesSharing, sharing_lays, sharing_breaks}
+use Rattle.jn_printer.proofs.StmtsBack.{Row, stmts_back}
+use Rattle.jn_printer.proofs.HeadsBack.{list_word, list_lays, list_breaks, kind_then, result_lays, params_lays, params_calm, sharing_lays, sharing_breaks}
 
 abbrev pub GivesMember : Kind → ℕ → ℕ → Member → List Part → Type 0
 GivesMember k d n t v = (u : Member) × IsMember k d n v u × (unplaced_member u ≡ unplaced_member t)
@@ -94,6 +90,7 @@ inner_made : (s : Setting) (D j : ℕ) (k : Kind) (x : Name) (p o c : Place) (t 
 inner_made s D j k x p o c t u v w es ss ms y a b f r = record { lays = lays } where
   body : List Part
   body = opening D OpenBrace o ∷ (w ++ mark CloseBrace c ∷ [])
+
   lays : (d : ℕ) → d ≤ D → (i : List ℕ) → Blanks i → (rest : List ℕ) → breaks rest ≡ true → (n : ℕ)
       → Lays s rest n (decl_text s.names s.texts (decl k (named x p) es ss [] ms) i) (t ∷ new_name (Declares j) x p ∷ (u ++ (v ++ body))) (GivesInner d j (decl k (named x p) es ss [] ms))
   lays d l i blanks rest e n =
@@ -116,23 +113,29 @@ inner_made s D j k x p o c t u v w es ss ms y a b f r = record { lays = lays } w
       (subst (λ (z : List ℕ). breaks z ≡ true) (sym (append_assoc b_text tail rest)) (list_breaks s.names Shares ss (tail ++ rest) refl)) _) (λ u' a'.
       lays_then b_text tail (list_lays s b (fine_left s v body fv) (tail ++ rest) refl _) (λ v' b'.
       lays_blank refl (braced_then D o c i (member_texts s ms) [] w [] blanks fb.1 d l (breaks_calm rest e) (λ rest' m'. r.lays (suc d) up (deeper i) (deeper_blanks i blanks) rest' m') (λ o' c' w' g m'.
-      lays_none (decl k (named x _) a'.0 b'.0 [] g.0, inner o' c' y' a'.1 b'.1 g.1,
-      decl_is k (named x _) a'.0 b'.0 [] g.0
-      ∙ ap₂ (λ (y z : List Named). decl k (named x nowhere) y z [] (map unplaced_member g.0)) a'.2 b'.2
-      ∙ ap (λ (z : List Member). decl k (named x nowhere) (map unplaced_named es) (map unplaced_named ss) [] z) g.2
-      ∙ sym (decl_is k (named x p) es ss [] ms)))))))))
+      lays_none (
+        decl k (named x _) a'.0 b'.0 [] g.0,
+        inner o' c' y' a'.1 b'.1 g.1,
+        decl_is k (named x _) a'.0 b'.0 [] g.0
+            ∙ ap₂ (λ (y z : List Named). decl k (named x nowhere) y z [] (map unplaced_member g.0)) a'.2 b'.2
+            ∙ ap (λ (z : List Member). decl k (named x nowhere) (map unplaced_named es) (map unplaced_named ss) [] z) g.2
+            ∙ sym (decl_is k (named x p) es ss [] ms),
+      ))))))))
 
 -- ---- members
 
 member_inner : (s : Setting) (k : Kind) (D j : ℕ) (w : List Part) (t : Decl) → Inner s D j w t → OneMember s k D j w (member.Inner t)
-member_inner s k D j w t r = record { lays = λ d l i b rest e n.
-    lays_text (sym (inner_text s.names s.texts t i)) (lays_map (r.lays d l i b rest e n) (λ v g. (member.Inner g.0, declared g.1, inner_is g.0 ∙ ap (λ (x : Decl). member.Inner x) g.2 ∙ sym (inner_is t)))) }
+member_inner s k D j w t r = record {
+  lays = λ d l i b rest e n.
+      lays_text (sym (inner_text s.names s.texts t i)) (lays_map (r.lays d l i b rest e n) (λ v g. (member.Inner g.0, declared g.1, inner_is g.0 ∙ ap (λ (x : Decl). member.Inner x) g.2 ∙ sym (inner_is t))));
+}
 
 member_slot : (s : Setting) (D j : ℕ) (x : Name) (p c : Place) (w : List Part) (t : TypeTerm) → IsType D w t → Fine s (w ++ name x p ∷ mark Semicolon c ∷ [])
     → OneMember s kind.Class D j (w ++ name x p ∷ mark Semicolon c ∷ []) (member.Slot (record { ty = t; name = named x p }))
 member_slot s D j x p c w t y f = record { lays = lays } where
   tree : Member
   tree = member.Slot (record { ty = t; name = named x p })
+
   lays : (d : ℕ) → d ≤ D → (i : List ℕ) → Blanks i → (rest : List ℕ) → breaks rest ≡ true → (n : ℕ)
       → Lays s rest n (member_text s.names s.texts tree i) (w ++ name x p ∷ mark Semicolon c ∷ []) (GivesMember kind.Class d j tree)
   lays d l i b rest e n =
@@ -141,8 +144,11 @@ member_slot s D j x p c w t y f = record { lays = lays } where
       lays_text (sym (slot_text s.names s.texts (record { ty = t; name = named x p }) i))
       (lays_then (type_text s.names t) tail (type_lays s y (fine_left s w (name x p ∷ mark Semicolon c ∷ []) f) d l (tail ++ rest) refl n) (λ w' h.
       lays_blank refl (lays_name x Plain (codes ";") g.0 refl refl (lays_mark Semicolon Plain [] (breaks_calm rest e) refl refl
-      (lays_none (member.Slot (record { ty = h.0; name = named x _ }), slot _ _ h.1,
-      slot_is (record { ty = h.0; name = named x _ }) ∙ ap (λ (z : TypeTerm). member.Slot (record { ty = z; name = named x nowhere })) h.2 ∙ sym (slot_is (record { ty = t; name = named x p }))))))))
+      (lays_none (
+        member.Slot (record { ty = h.0; name = named x _ }),
+        slot _ _ h.1,
+        slot_is (record { ty = h.0; name = named x _ }) ∙ ap (λ (z : TypeTerm). member.Slot (record { ty = z; name = named x nowhere })) h.2 ∙ sym (slot_is (record { ty = t; name = named x p })),
+      ))))))
 
 -- a method's text with its pieces nested to the right
 signed : (ns : List Text) (m : Method) (body : List ℕ)
@@ -171,10 +177,13 @@ member_method : (s : Setting) (D j m : ℕ) (x : Name) (p o c b' e' : Place) (r 
 member_method s D j m x p o c b' e' r v u w res ts cs ss y a h f row = record { lays = lays } where
   tree : Method
   tree = made res (named x p) ts cs ss
+
   body : List Part
   body = opening D OpenBrace b' ∷ (w ++ mark CloseBrace e' ∷ [])
+
   head : List Part
   head = name x p ∷ opening D OpenParen o ∷ (v ++ (mark CloseParen c ∷ (u ++ body)))
+
   lays : (d : ℕ) → d ≤ D → (i : List ℕ) → Blanks i → (rest : List ℕ) → breaks rest ≡ true → (n : ℕ)
       → Lays s rest n (member_text s.names s.texts (member.Body tree) i) (r ++ head) (GivesMember kind.Class d j (member.Body tree))
   lays d l i blanks rest e n =
@@ -189,9 +198,9 @@ member_method s D j m x p o c b' e' r v u w res ts cs ss y a h f row = record { 
       let given = joined (param_text s.names) (codes ", ") false ts in
       let behind = 32 ∷ (name_text s.names x ++ (40 ∷ (given ++ (41 ∷ tail)))) in
       let around : calm ((given ++ (41 ∷ tail)) ++ rest) ≡ true =
-        subst (λ (z : List ℕ). calm z ≡ true) (sym (append_assoc given (41 ∷ tail) rest)) (params_calm s a (fine_left s v (mark CloseParen c ∷ (u ++ body)) fh.2.2) ((41 ∷ tail) ++ rest) refl) in
+      subst (λ (z : List ℕ). calm z ≡ true) (sym (append_assoc given (41 ∷ tail) rest)) (params_calm s a (fine_left s v (mark CloseParen c ∷ (u ++ body)) fh.2.2) ((41 ∷ tail) ++ rest) refl) in
       let after : breaks (tail ++ rest) ≡ true =
-        subst (λ (z : List ℕ). breaks z ≡ true) (sym (append_assoc shared (32 ∷ in_braces) rest)) (sharing_breaks s.names cs ((32 ∷ in_braces) ++ rest) refl) in
+      subst (λ (z : List ℕ). breaks z ≡ true) (sym (append_assoc shared (32 ∷ in_braces) rest)) (sharing_breaks s.names cs ((32 ∷ in_braces) ++ rest) refl) in
       lays_text
       (signed s.names tree in_braces ∙ ap (λ (z : List ℕ). signature_text s.names tree ++ (codes " " ++ z)) (append-nil (braced i ws)) ∙ sym (body_member s.names s.texts tree i))
       (lays_then (result_text s.names res) behind (result_lays s y (fine_left s r head f) d l (behind ++ rest) refl n) (λ r' y'.
@@ -201,11 +210,14 @@ member_method s D j m x p o c b' e' r v u w res ts cs ss y a h f row = record { 
       lays_mark CloseParen Plain tail (breaks_calm (tail ++ rest) after) refl refl
       (lays_then shared (32 ∷ in_braces) (sharing_lays s h (fine_left s u body fp.2) d l ((32 ∷ in_braces) ++ rest) refl _) (λ u' h'.
       lays_blank refl (braced_then D b' e' i ws [] w [] blanks fb.1 d l (breaks_calm rest e) (λ rest' m'. row.lays (suc d) up (deeper i) (deeper_blanks i blanks) rest' m') (λ o' c' w' g m'.
-      lays_none (member.Body (made y'.0 (named x _) a'.0 h'.0 g.0), method _ _ _ o' c' y'.1 a'.1 h'.1 g.1,
-      body_is (made y'.0 (named x _) a'.0 h'.0 g.0)
-      ∙ ap₂ (λ (z : Option TypeTerm) (zs : List Param). member.Body (made z (named x nowhere) zs (map unplaced_constraint h'.0) (map unplaced_stmt g.0))) y'.2 a'.2
-      ∙ ap₂ (λ (z : List Constraint) (zs : List Stmt). member.Body (made (unplaced_result res) (named x nowhere) (map unplaced_param ts) z zs)) h'.2 g.2
-      ∙ sym (body_is tree))))))))))))
+      lays_none (
+        member.Body (made y'.0 (named x _) a'.0 h'.0 g.0),
+        method _ _ _ o' c' y'.1 a'.1 h'.1 g.1,
+        body_is (made y'.0 (named x _) a'.0 h'.0 g.0)
+            ∙ ap₂ (λ (z : Option TypeTerm) (zs : List Param). member.Body (made z (named x nowhere) zs (map unplaced_constraint h'.0) (map unplaced_stmt g.0))) y'.2 a'.2
+            ∙ ap₂ (λ (z : List Constraint) (zs : List Stmt). member.Body (made (unplaced_result res) (named x nowhere) (map unplaced_param ts) z zs)) h'.2 g.2
+            ∙ sym (body_is tree),
+      )))))))))))
 
 mutual
   inner_back : (s : Setting) {D j : ℕ} {w : List Part} {t : Decl} → IsInner D j w t → Fine s w → Inner s D j w t
@@ -253,11 +265,14 @@ top_back s (top {k = k} {x = x} {p = p} o c {t = t} {u = u} {v = v} {w = w} {es 
     (subst (λ (z : List ℕ). breaks z ≡ true) (sym (append_assoc b_text tail rest)) (list_breaks s.names Adapts ss (tail ++ rest) refl)) _) (λ u' a'.
     lays_then b_text tail (list_lays s b (fine_left s v body fv) (tail ++ rest) refl _) (λ v' b'.
     lays_blank refl (braced_then 0 o c [] (member_texts s ms) [] w [] tt fb.1 0 (omega arith) (breaks_calm rest e) (λ rest' m'. row.lays 1 (omega arith) (deeper []) (deeper_blanks [] tt) rest' m') (λ o' c' w' g m'.
-    lays_none (decl k (named x _) a'.0 [] b'.0 g.0, top o' c' y' a'.1 b'.1 g.1,
-    decl_is k (named x _) a'.0 [] b'.0 g.0
-    ∙ ap₂ (λ (y z : List Named). decl k (named x nowhere) y [] z (map unplaced_member g.0)) a'.2 b'.2
-    ∙ ap (λ (z : List Member). decl k (named x nowhere) (map unplaced_named es) [] (map unplaced_named ss) z) g.2
-    ∙ sym (decl_is k (named x p) es [] ss ms)))))))))
+    lays_none (
+      decl k (named x _) a'.0 [] b'.0 g.0,
+      top o' c' y' a'.1 b'.1 g.1,
+      decl_is k (named x _) a'.0 [] b'.0 g.0
+          ∙ ap₂ (λ (y z : List Named). decl k (named x nowhere) y [] z (map unplaced_member g.0)) a'.2 b'.2
+          ∙ ap (λ (z : List Member). decl k (named x nowhere) (map unplaced_named es) [] (map unplaced_named ss) z) g.2
+          ∙ sym (decl_is k (named x p) es [] ss ms),
+    ))))))))
 
 -- the top-level declarations without the end of the file
 pub data Tops : List Part → List Decl → Type 0 where

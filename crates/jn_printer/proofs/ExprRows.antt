@@ -1,10 +1,9 @@
 -- Arguments, parts and operands in a row, as they are written.
-use Rattle.std.proofs.Common.{◌≡◌, ℕ, zero, suc, ◌+◌, ◌≤◌, Bool, true, false, not, List, [], ◌∷◌, ◌++◌, map, length, Option, Some, None, codes, refl, sym, ap, ap₂, subst, ◌∙◌, append_assoc, append-nil, arith}
+use Rattle.std.proofs.Common.{◌≡◌, ℕ, suc, ◌+◌, ◌≤◌, Bool, true, false, List, [], ◌∷◌, ◌++◌, map, length, Some, None, codes, refl, sym, ap, ap₂, subst, ◌∙◌, append_assoc, append-nil, arith}
 use Rattle.jn_base.specs.declared.tree.Place.{Place}
 use Rattle.jn_base.specs.declared.tree.Name.{Name}
 use Rattle.jn_base.specs.declared.tree.Text.{Text}
 use Rattle.jn_base.specs.declared.tree.Expr.{Expr}
-use Rattle.jn_base.specs.declared.tree.Node.{Node}
 use Rattle.jn_base.specs.declared.tree.Node.TheVariants as node
 use Rattle.jn_base.specs.declared.tree.Node.TheVariants.{outs-Post, outs-Chain}
 use Rattle.jn_base.specs.declared.tree.Suffix.{Suffix}
@@ -17,18 +16,17 @@ use Rattle.jn_base.specs.declared.word.Mark.TheVariants.{CloseParen, Comma, Dot,
 use Rattle.jn_base.specs.Words.{mark_text}
 use Rattle.jn_base.specs.Parts.{Part, Plain, Opens, mark, name, opening, expr, suffix, link, posted, chained}
 use Rattle.jn_base.specs.Spelling.{limit_of}
-use Rattle.jn_base.specs.GrammarExpr.{IsOperator, or, and, equal, not_equal, less, less_equal, greater, greater_equal, plus, minus, times, over, remainder, IsSuffix, field, call, IsSuffixes, no_suffix, then_suffix, IsPost, post, IsArgs, no_arg, args, IsMoreArgs, no_more_arg, then_arg}
-use Rattle.jn_printer.specs.declared.symbol.Symbol.{Symbol}
+use Rattle.jn_base.specs.GrammarExpr.{IsOperator, or, and, equal, not_equal, less, less_equal, greater, greater_equal, plus, minus, times, over, remainder, IsSuffix, field, call, IsSuffixes, no_suffix, then_suffix, post, IsArgs, no_arg, args, IsMoreArgs, no_more_arg, then_arg}
 use Rattle.jn_printer.specs.declared.symbol.Symbol.TheVariants as symbol
 use Rattle.jn_printer.specs.Pieces.{joined, name_text}
-use Rattle.jn_printer.specs.ExprText.{Writer, whole, args_text, all_at, all_of, op_text, tightness, chain_symbol, operand_symbol, symbol_of, symbol_at, node_bare, expr_text, link_text, suffix_text}
-use Rattle.jn_printer.specs.Unplaced.{nowhere, unplaced_expr, unplaced_suffix, unplaced_link}
+use Rattle.jn_printer.specs.ExprText.{whole, args_text, all_at, all_of, op_text, tightness, chain_symbol, operand_symbol, symbol_of, symbol_at, expr_text, link_text, suffix_text}
+use Rattle.jn_printer.specs.Unplaced.{unplaced_expr, unplaced_suffix, unplaced_link}
 use Rattle.jn_printer.proofs.Bare.{link_placed, field_text, call_text, bare_post, bare_chain}
 use Rattle.jn_printer.proofs.Placeless.{link_same, field_same, call_same}
-use Rattle.jn_printer.proofs.Written.{breaks, calm, is_backslash_mark, Setting, GivenName, Fine, Lays, lays_none, lays_map, lays_then, lays_key, lays_mark, lays_name, lays_blank, lays_text, lays_words}
+use Rattle.jn_printer.proofs.Written.{breaks, calm, is_backslash_mark, Setting, GivenName, Lays, lays_none, lays_map, lays_then, lays_mark, lays_name, lays_blank, lays_text}
 use Rattle.jn_printer.proofs.Follows.{breaks_calm, name_calm_on}
 use Rattle.jn_printer.proofs.TermsBack.{room}
-use Rattle.jn_printer.proofs.ExprTools.{Is, lift, Gives, tight, Can, can_by, Fits, fits_words, fits_own, loosen, fits_lays, fits_calm, posted_same, chained_same}
+use Rattle.jn_printer.proofs.ExprTools.{Is, Gives, can_by, Fits, fits_words, fits_own, loosen, fits_lays, fits_calm, posted_same, chained_same}
 
 -- ---- arguments
 
@@ -73,6 +71,7 @@ args_some s D v w e es f m = record { lays = lays; calmly = calmly } where
       let more = args_in s.names true es in
       lays_then t more (fits_lays s symbol.Expression D v e (omega arith) f d l (more ++ rest) (m.breaking rest b) n) (λ v' g.
       lays_map (m.lays d l rest b (n + length t)) (λ w' h. (g.1 ∷ h.0, args g.2 h.1, ap₂ (λ (x : Expr) (xs : List Expr). x ∷ xs) g.3 h.2)))
+
   calmly : (u : List ℕ) → calm u ≡ true → calm (args_in s.names false (e ∷ es) ++ u) ≡ true
   calmly u c =
       let t = expr_text s.names e symbol.Expression in
@@ -144,6 +143,7 @@ suffixes_then s D v w x ss a m = record { none = λ e. absurd (cc); lays = lays;
       let more = parts_in s.names ss in
       lays_then t more (a.lays d l (more ++ rest) (m.breaking rest b) n) (λ v' g.
       lays_map (m.lays d l rest b (n + length t)) (λ w' h. (g.0 ∷ h.0, then_suffix g.1 h.1, ap₂ (λ (y : Suffix) (ys : List Suffix). y ∷ ys) g.2 h.2)))
+
   breaking : (u : List ℕ) → breaks u ≡ true → breaks (parts_in s.names (x ∷ ss) ++ u) ≡ true
   breaking u b = subst (λ (t : List ℕ). breaks t ≡ true) (sym (append_assoc (suffix_text s.names x) (parts_in s.names ss) u)) (a.breaking (parts_in s.names ss ++ u))
 
@@ -230,16 +230,20 @@ pub links_then : (s : Setting) (l : Level) (Row Next : ℕ → List Part → Lis
 links_then s l Row Next D m o p v w e ls i f a cons = record { none = λ h. absurd (cc); lays = lays; breaking = breaking } where
   t : List ℕ
   t = expr_text s.names e (operand_symbol l)
+
   more : List ℕ
   more = links_in s.names l ls
+
   same : 32 ∷ (mark_text m ++ (32 ∷ (t ++ more))) ≡ links_in s.names l (link o p e ∷ ls)
   same =
       ap (λ (x : List ℕ). 32 ∷ x) (sym (append_assoc (mark_text m) (32 ∷ []) (t ++ more)))
       ∙ ap (λ (x : List ℕ). x ++ (t ++ more)) (sym (op_is i))
       ∙ sym (append_assoc (op_text o) t more)
       ∙ ap (λ (x : List ℕ). x ++ more) (sym (link_placed s.names (link o p e) (operand_symbol l)))
+
   breaking : (u : List ℕ) → breaks u ≡ true → breaks (links_in s.names l (link o p e ∷ ls) ++ u) ≡ true
   breaking u b = subst (λ (x : List ℕ). breaks (x ++ u) ≡ true) same refl
+
   lays : (d : ℕ) → d ≤ D → (rest : List ℕ) → breaks rest ≡ true → (n : ℕ) → Lays s rest n (links_in s.names l (link o p e ∷ ls)) (mark m p ∷ (v ++ w)) (GivesLinks Next d (link o p e ∷ ls))
   lays d h rest b n =
       let k : ℕ = suc (suc n + length (mark_text m)) in

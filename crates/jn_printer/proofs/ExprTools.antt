@@ -1,22 +1,19 @@
 -- What is said of an expression of a source: how it is written at the place of a symbol.
-use Rattle.std.proofs.Common.{◌≡◌, ℕ, zero, suc, ◌+◌, ◌≤◌, Bool, true, false, not, List, [], ◌∷◌, ◌++◌, map, length, Option, Some, None, codes, refl, sym, ap, ap₂, subst, ◌∙◌, append_assoc, append-nil, arith, nat_le, nat_lt, ◌⊎◌, inl, inr}
+use Rattle.std.proofs.Common.{◌≡◌, ℕ, zero, suc, ◌+◌, ◌≤◌, Bool, true, false, not, List, [], ◌∷◌, ◌++◌, map, codes, refl, sym, subst, append_assoc, append-nil, arith, nat_le, ◌⊎◌, inl, inr}
 use Rattle.std.proofs.lemmas.Bool.Decides.{nat_tests}
 use Rattle.jn_base.specs.declared.tree.Place.{Place}
-use Rattle.jn_base.specs.declared.tree.Text.{Text}
 use Rattle.jn_base.specs.declared.tree.Expr.{Expr}
 use Rattle.jn_base.specs.declared.tree.Node.{Node}
-use Rattle.jn_base.specs.declared.tree.Node.TheVariants as node
 use Rattle.jn_base.specs.declared.tree.Suffix.{Suffix}
 use Rattle.jn_base.specs.declared.tree.Link.{Link}
 use Rattle.jn_base.specs.declared.tree.Level.{Level}
-use Rattle.jn_base.specs.declared.tree.Level.TheVariants as level
 use Rattle.jn_base.specs.declared.word.Mark.TheVariants.{CloseParen, OpenParen}
 use Rattle.jn_base.specs.Words.{mark_text}
-use Rattle.jn_base.specs.Parts.{Part, Plain, Opens, mark, opening, expr, posted, chained}
-use Rattle.jn_base.specs.GrammarExpr.{IsForm, IsPrim, parens, form, IsPost, post, no_suffix, IsUnary, unsigned, IsProduct, product, no_factor, IsSum, sum, no_summand, IsComparison, one_sum, IsEquality, one_side, IsConjunction, conjunction, no_conjunct, IsExpr, disjunction, no_disjunct}
+use Rattle.jn_base.specs.Parts.{Part, Plain, Opens, expr, posted, chained}
+use Rattle.jn_base.specs.GrammarExpr.{IsPrim, parens, IsPost, post, no_suffix, IsUnary, unsigned, IsProduct, product, no_factor, IsSum, sum, no_summand, IsComparison, one_sum, IsEquality, one_side, IsConjunction, conjunction, no_conjunct, IsExpr, disjunction, no_disjunct}
 use Rattle.jn_printer.specs.declared.symbol.Symbol.{Symbol}
 use Rattle.jn_printer.specs.Pieces.{text_if}
-use Rattle.jn_printer.specs.ExprText.{tightness, is_instance, chain_symbol, operand_symbol, symbol_of, node_bare, expr_text}
+use Rattle.jn_printer.specs.ExprText.{tightness, is_instance, symbol_of, node_bare, expr_text}
 use Rattle.jn_printer.specs.Unplaced.{unplaced_expr, unplaced_suffix, unplaced_link}
 use Rattle.jn_printer.proofs.Bare.{placed_text}
 use Rattle.jn_printer.proofs.Placeless.{expr_same, post_same, chain_same}

@@ -1,12 +1,11 @@
 -- Expressions of a source stand as they are written, whatever symbol is asked for.
-use Rattle.std.proofs.Common.{◌≡◌, ℕ, zero, suc, ◌+◌, ◌≤◌, Bool, true, false, not, List, [], ◌∷◌, ◌++◌, map, length, Option, Some, None, ℤ, pos, codes, refl, sym, ap, ap₂, subst, ◌∙◌, append_assoc, append-nil, arith}
+use Rattle.std.proofs.Common.{◌≡◌, ℕ, suc, ◌+◌, ◌≤◌, true, false, not, List, [], ◌∷◌, ◌++◌, map, length, None, ℤ, pos, codes, refl, sym, ap, subst, ◌∙◌, append_assoc, append-nil, arith}
 use Rattle.std.specs.Fmt.{signed_decimal}
 use Rattle.std.specs.Char.{is_ascii_digit}
 use Rattle.std.proofs.lemmas.Bool.Decides.{nat_tests}
 use Rattle.jn_printer.proofs.Decimals.{decimal_is}
 use Rattle.jn_base.specs.declared.tree.Place.{Place}
 use Rattle.jn_base.specs.declared.tree.Name.{Name}
-use Rattle.jn_base.specs.declared.tree.Text.{Text}
 use Rattle.jn_base.specs.declared.tree.Term.{Term}
 use Rattle.jn_base.specs.declared.tree.ViewTerm.{ViewTerm}
 use Rattle.jn_base.specs.declared.tree.Expr.{Expr}
@@ -21,22 +20,22 @@ use Rattle.jn_base.specs.declared.tree.Level.TheVariants as level
 use Rattle.jn_base.specs.declared.word.Keyword.{Keyword}
 use Rattle.jn_base.specs.declared.word.Keyword.TheVariants.{False, New, Null, Super, This, True, View}
 use Rattle.jn_base.specs.declared.word.Mark.{Mark}
-use Rattle.jn_base.specs.declared.word.Mark.TheVariants.{Bang, CloseBracket, CloseParen, Comma, Dot, Minus, OpenBracket, OpenParen}
+use Rattle.jn_base.specs.declared.word.Mark.TheVariants.{Bang, CloseBracket, CloseParen, Dot, Minus, OpenBracket, OpenParen}
 use Rattle.jn_base.specs.Words.{mark_text, keyword_text}
-use Rattle.jn_base.specs.Parts.{Part, Plain, Opens, key, mark, name, number, named, opening, expr, suffix, link, posted, chained}
+use Rattle.jn_base.specs.Parts.{Part, Plain, Opens, key, mark, name, number, named, opening, expr, link, chained}
 use Rattle.jn_base.specs.Spelling.{limit_of}
 use Rattle.jn_base.specs.GrammarTypes.{IsTerm, IsView}
 use Rattle.jn_base.specs.GrammarExpr.{IsOperator, IsForm, new_object, super_call, IsPrim, constant, yes, no, null, this_object, variable, parens, form, IsSuffix, field, call, IsSuffixes, no_suffix, then_suffix, IsPost, post, IsUnary, inverse, negative, viewed, unsigned, IsProduct, product, IsFactors, no_factor, then_factor, IsSum, sum, IsSummands, no_summand, then_summand, IsComparison, one_sum, two_sums, IsEquality, one_side, two_sides, IsConjunction, conjunction, IsConjuncts, no_conjunct, then_conjunct, IsExpr, disjunction, IsDisjuncts, no_disjunct, then_disjunct, IsArgs, no_arg, args, IsMoreArgs, no_more_arg, then_arg}
 use Rattle.jn_printer.specs.declared.symbol.Symbol.TheVariants as symbol
 use Rattle.jn_printer.specs.Pieces.{name_text, term_text, view_text}
-use Rattle.jn_printer.specs.ExprText.{args_text, truth, tightness, chain_symbol, operand_symbol, symbol_of, symbol_at, node_bare, expr_text}
+use Rattle.jn_printer.specs.ExprText.{args_text, tightness, chain_symbol, operand_symbol, symbol_of, symbol_at, node_bare, expr_text}
 use Rattle.jn_printer.specs.Unplaced.{unplaced_expr}
 use Rattle.jn_printer.proofs.Bare.{bare_number, bare_truth, bare_null, bare_this, bare_variable, bare_new, bare_super, bare_inverse, bare_negative, bare_view}
 use Rattle.jn_printer.proofs.Placeless.{expr_same, new_same, super_same, not_same, neg_same, view_same}
-use Rattle.jn_printer.proofs.Written.{breaks, calm, goes_on, is_backslash_mark, Setting, GivenName, GivenNumber, a_number, Fine, fine_left, fine_right, Lays, lays_none, lays_map, lays_then, lays_word, lays_key, lays_mark, lays_name, lays_blank, lays_text, lays_words, lays_without, lays_without_behind}
-use Rattle.jn_printer.proofs.Follows.{and_left, breaks_calm, name_calm, name_calm_on}
-use Rattle.jn_printer.proofs.TermsBack.{room, open_room, term_lays, term_calm, view_lays, view_calm}
-use Rattle.jn_printer.proofs.ExprTools.{Is, lift, Gives, tight, Can, can_by, Fits, fits_words, fits_own, loosen, fits_lays, fits_calm}
+use Rattle.jn_printer.proofs.Written.{breaks, calm, goes_on, is_backslash_mark, Setting, GivenName, GivenNumber, a_number, Fine, fine_left, fine_right, Lays, lays_none, lays_map, lays_then, lays_word, lays_key, lays_mark, lays_name, lays_blank, lays_text, lays_without, lays_without_behind}
+use Rattle.jn_printer.proofs.Follows.{and_left, name_calm, name_calm_on}
+use Rattle.jn_printer.proofs.TermsBack.{room, open_room, term_lays, term_calm, view_lays}
+use Rattle.jn_printer.proofs.ExprTools.{Is, Gives, tight, Can, can_by, Fits, fits_words, fits_own, loosen, fits_lays, fits_calm}
 use Rattle.jn_printer.proofs.ExprRows.{Args, args_none, args_some, MoreArgs, more_none, more_then, call_lays, OneSuffix, suffix_field, suffix_call, Suffixes, suffixes_none, suffixes_then, posted_fits, Links, links_none, links_then, chained_fits}
 
 -- ---- the forms with `new` and `super`
@@ -60,8 +59,10 @@ pub form_new : (s : Setting) (D : ℕ) (p q : Place) (o c : Place) (v w : List P
 form_new s D p q o c v w t es i a f = record { prim = ap (λ x. tightness (symbol_at x)) (outs-New t es); lays = lays; calmly = calmly } where
   nd : Node
   nd = node.New t es
+
   in_args : List ℕ
   in_args = args_text (map (expr_text s.names) es)
+
   lays : (d : ℕ) → d ≤ D → (rest : List ℕ) → breaks rest ≡ true → (n : ℕ)
       → Lays s rest n ((node_bare s.names nd).text) (key New p ∷ (v ++ opening D OpenParen o ∷ (w ++ mark CloseParen c ∷ []))) (GivesForm d (expr p nd))
   lays d l rest b n =
@@ -71,6 +72,7 @@ form_new s D p q o c v w t es i a f = record { prim = ap (λ x. tightness (symbo
       (lays_blank refl
       (lays_then (term_text s.names t) in_args (term_lays s i (fine_left s v _ f) d l (in_args ++ rest) refl _) (λ v' k.
       call_lays D o c w es a g.1 d l b (λ o' c' x j. (s.at n, expr (s.at n) (node.New k.1 j.0), new_object o' c' k.2 j.1, expr_same _ p _ _ (new_same k.1 t j.0 es k.3 j.2)))))))
+
   calmly : (u : List ℕ) → calm ((node_bare s.names nd).text ++ u) ≡ true
   calmly u = subst (λ (x : List ℕ). calm (x ++ u) ≡ true) (sym (bare_new s.names t es)) refl
 
@@ -80,10 +82,13 @@ pub form_super : (s : Setting) (D : ℕ) (p q b e o n u c : Place) (x : Name) (v
 form_super s D p q b' e o n' u' c x v w t es i a f = record { prim = ap (λ y. tightness (symbol_at y)) (outs-Super t (named x n') es); lays = lays; calmly = calmly } where
   nd : Node
   nd = node.Super t (named x n') es
+
   in_args : List ℕ
   in_args = args_text (map (expr_text s.names) es)
+
   tail : List Part
   tail = mark CloseBracket e ∷ mark Dot o ∷ name x n' ∷ opening D OpenParen u' ∷ (w ++ mark CloseParen c ∷ [])
+
   lays : (d : ℕ) → d ≤ D → (rest : List ℕ) → breaks rest ≡ true → (n : ℕ) → Lays s rest n ((node_bare s.names nd).text) (key Super p ∷ opening D OpenBracket b' ∷ (v ++ tail)) (GivesForm d (expr p nd))
   lays d l rest b n =
       let g = fine_right s v tail f.2 in
@@ -100,6 +105,7 @@ form_super s D p q b' e o n' u' c x v w t es i a f = record { prim = ap (λ y. t
       (lays_name x Plain in_args g.2.2.0 refl refl
       (call_lays D u' c w es a g.2.2.2.1 d l b (λ o' c' y j.
       (s.at n, expr (s.at n) (node.Super k.1 (named x _) j.0), super_call _ _ _ _ o' c' k.2 j.1, expr_same _ p _ _ (super_same k.1 t x _ n' j.0 es k.3 j.2))))))))))
+
   calmly : (u : List ℕ) → calm ((node_bare s.names nd).text ++ u) ≡ true
   calmly u = subst (λ (y : List ℕ). calm (y ++ u) ≡ true) (sym (bare_super s.names t (named x n') es)) refl
 
@@ -111,11 +117,13 @@ prim_number s D v p g = fits_own s 8 D (number v p ∷ []) (expr p (node.Int v))
   where
     own : tightness (symbol_of (node.Int v)) ≡ 8
     own = ap (λ x. tightness (symbol_at x)) (outs-Int v)
+
     lays : (d : ℕ) → d ≤ D → (rest : List ℕ) → breaks rest ≡ true → (n : ℕ) → Lays s rest n (signed_decimal (pos g.value)) (number v p ∷ []) (Gives 8 d (expr p (node.Int v)))
     lays d l rest b n = subst (λ (x : ℤ). Lays s rest n (signed_decimal (pos g.value)) (number x p ∷ []) (Gives 8 d (expr p (node.Int x)))) (sym g.is)
         (lays_text (append-nil (signed_decimal (pos g.value)))
         (lays_word Plain (signed_decimal (pos g.value)) [] (a_number g.value g.fits b) refl refl
         (lays_none (s.at n, expr (s.at n) (node.Int (pos g.value)), constant, expr_same _ p _ _ refl))))
+
     calmly : (u : List ℕ) → calm (signed_decimal (pos g.value) ++ u) ≡ true
     calmly u = let c = decimal_is g.value g.fits in subst (λ (x : List ℕ). calm (x ++ u) ≡ true) (sym c.text) (digit_calm c.first (and_left _ _ c.digits))
       where
@@ -184,8 +192,10 @@ unary_view s D p o c v w t e i f g = fits_own s 6 D _ (expr p (node.View t e)) o
   where
     u : List ℕ
     u = expr_text s.names e symbol.Unary
+
     text : List ℕ
     text = codes "(view " ++ (view_text s.names t ++ (codes ") " ++ u))
+
     own : tightness (symbol_of (node.View t e)) ≡ 6
     own = ap (λ y. tightness (symbol_at y)) (outs-View t e)
 

@@ -1,7 +1,6 @@
 -- Headings, parameters and constraints as they are written are such of the grammar.
-use Rattle.std.proofs.Common.{◌≡◌, ℕ, zero, suc, ◌+◌, ◌≤◌, Bool, true, false, not, List, [], ◌∷◌, ◌++◌, map, length, Option, Some, None, codes, refl, sym, ap, ap₂, subst, ◌∙◌, append_assoc, append-nil, arith}
+use Rattle.std.proofs.Common.{◌≡◌, ℕ, suc, ◌+◌, ◌≤◌, Bool, true, false, List, [], ◌∷◌, ◌++◌, map, length, Option, Some, None, codes, refl, sym, ap, ap₂, subst, ◌∙◌, append_assoc, append-nil}
 use Rattle.jn_base.specs.declared.tree.Place.{Place}
-use Rattle.jn_base.specs.declared.tree.Name.{Name}
 use Rattle.jn_base.specs.declared.tree.Named.{Named}
 use Rattle.jn_base.specs.declared.tree.Text.{Text}
 use Rattle.jn_base.specs.declared.tree.Kind.{Kind}
@@ -10,19 +9,16 @@ use Rattle.jn_base.specs.declared.tree.ViewTerm.{ViewTerm}
 use Rattle.jn_base.specs.declared.tree.Param.{Param}
 use Rattle.jn_base.specs.declared.tree.Constraint.{Constraint}
 use Rattle.jn_base.specs.declared.word.Keyword.{Keyword}
-use Rattle.jn_base.specs.declared.word.Keyword.TheVariants.{Adapts, Class, Extends, Package, Shares, Sharing, Void}
+use Rattle.jn_base.specs.declared.word.Keyword.TheVariants.{Class, Package, Sharing, Void}
 use Rattle.jn_base.specs.declared.word.Mark.TheVariants.{Ampersand, Arrow, Comma}
-use Rattle.jn_base.specs.Words.{keyword_text, mark_text}
-use Rattle.jn_base.specs.Parts.{Part, Role, Plain, Parameter, key, mark, name, new_name, named}
-use Rattle.jn_base.specs.GrammarTypes.{IsType, IsView}
-use Rattle.jn_base.specs.GrammarStmt.{IsFinal}
+use Rattle.jn_base.specs.Words.{keyword_text}
+use Rattle.jn_base.specs.Parts.{Part, Plain, Parameter, key, mark, new_name, named}
 use Rattle.jn_base.specs.GrammarDecl.{IsParam, param, IsMoreParams, no_more_param, then_param, IsParams, no_param, params, IsRel, rel, IsMoreRels, no_more_rel, then_rel, IsSharing, no_sharing, sharing, IsResult, no_result, result, IsListed, last_name, then_name, IsList, no_list, list, IsKind, a_class, a_package}
 use Rattle.jn_printer.specs.Pieces.{text_if, joined, name_text, named_text, names_text, type_text, view_text}
 use Rattle.jn_printer.specs.DeclText.{kind_text, list_text, result_text, param_text, constraint_text, sharing_text}
-use Rattle.jn_printer.specs.Unplaced.{nowhere, unplaced_named, unplaced_type, unplaced_view, unplaced_param, unplaced_constraint, unplaced_result}
-use Rattle.jn_printer.proofs.Written.{breaks, calm, Setting, IsGiven, Fine, fine_left, fine_right, Lays, lays_none, lays_map, lays_then, lays_key, lays_mark, lays_name, lays_blank, lays_text}
-use Rattle.jn_printer.proofs.Follows.{breaks_calm, name_calm, name_calm_on}
-use Rattle.jn_printer.proofs.TermsBack.{GivesType, type_lays, type_calm, GivesView, view_lays, view_calm}
+use Rattle.jn_printer.specs.Unplaced.{nowhere, unplaced_named, unplaced_param, unplaced_constraint, unplaced_result}
+use Rattle.jn_printer.proofs.Written.{breaks, calm, Setting, Fine, fine_left, fine_right, Lays, lays_none, lays_map, lays_then, lays_key, lays_mark, lays_name, lays_blank, lays_text}
+use Rattle.jn_printer.proofs.TermsBack.{type_lays, type_calm, view_lays}
 use Rattle.jn_printer.proofs.StmtsBack.{final_lays}
 
 -- ---- lists of names

@@ -1,22 +1,20 @@
 -- In a source that the first three steps of the verdict don't refuse, no word passes a limit.
-use Rattle.std.proofs.Common.{◌≡◌, ℕ, zero, suc, ◌+◌, ◌<◌, ◌≤◌, Bool, true, false, List, [], ◌∷◌, ◌++◌, map, length, filter_map, Option, Some, None, All, Contains, nat_le, nat_lt, refl, sym, ap, ap₂, subst, ◌∙◌, append_assoc, append-nil, length-append, arith, ◌⊎◌, inl, inr}
+use Rattle.std.proofs.Common.{◌≡◌, ℕ, zero, suc, ◌<◌, ◌≤◌, Bool, true, false, List, [], ◌∷◌, ◌++◌, map, length, Option, Some, None, All, Contains, nat_lt, refl, sym, ap, ap₂, subst, ◌∙◌, append_assoc, append-nil, length-append, arith, ◌⊎◌, inl, inr}
 use Rattle.std.proofs.lemmas.List.{map-append}
 use Rattle.std.proofs.lemmas.List.Elements.{All-head}
 use Rattle.std.proofs.lemmas.Bool.Decides.{nat_tests}
 use Rattle.std.specs.List.{cons_option}
 use Rattle.jn_base.specs.declared.tree.Text.{Text}
 use Rattle.jn_base.specs.declared.tree.Decl.{Decl}
-use Rattle.jn_base.specs.declared.tree.Program.{Program}
 use Rattle.jn_base.specs.declared.refusal.Limit.{Limit}
 use Rattle.jn_base.specs.declared.refusal.Limit.TheVariants as limit
 use Rattle.jn_base.specs.declared.refusal.Refusal.{Refusal}
 use Rattle.jn_base.specs.declared.refusal.Rule.TheVariants.{E02, E04}
-use Rattle.jn_base.specs.declared.word.Word.{Word}
 use Rattle.jn_base.specs.declared.word.Lexeme.{Lexeme}
 use Rattle.jn_base.specs.Words.{name_number, AreWordsOf, AreByMention, all_mentioned, again, first}
-use Rattle.jn_base.specs.Parts.{Part, Role, lexeme_of}
+use Rattle.jn_base.specs.Parts.{Part, lexeme_of}
 use Rattle.jn_base.specs.GrammarDecl.{IsProgram}
-use Rattle.jn_base.specs.Spelling.{SourceSpells, Begins, BeginsWith, limit_of, masks_in, HasDifferent, Passes, counted, masks, names, rank, IsFirstPassed, IsClean, IsRefusedAt, limit_passed, IsFirstRefused, refusal, greatest_source, IsTextRefused, too_long, word_refused, IsTextOf}
+use Rattle.jn_base.specs.Spelling.{BeginsWith, limit_of, masks_in, HasDifferent, Passes, counted, masks, names, rank, IsClean, limit_passed, IsFirstRefused, refusal, greatest_source, IsTextRefused, too_long, word_refused}
 use Rattle.jn_printer.proofs.Written.{Low}
 use Rattle.jn_printer.proofs.Chars.{Each}
 use Rattle.jn_printer.proofs.WordsOut.{names_in}
@@ -48,7 +46,6 @@ split_at (t ∷ front) (b ∷ before) behind u e =
 
 module _ (names_ texts : List Text) (source : List ℕ) (parts : List Part) (decls : List Decl) (is_program : IsProgram parts decls)
     (are_words : AreWordsOf source names_ texts (map lexeme_of parts)) (never : (r : Refusal) → IsTextRefused source r → ⊥) where
-
   short : length source ≤ greatest_source
   short = by (lower_or_not greatest_source (length source)) where
     by : (greatest_source < length source) ⊎ (length source ≤ greatest_source) → length source ≤ greatest_source
@@ -79,7 +76,7 @@ module _ (names_ texts : List Text) (source : List ℕ) (parts : List Part) (dec
     clean before behind u h =
         let s = split_at front before behind u h in
         let whole : parts ≡ s.head ++ s.here ∷ (s.tail ++ t ∷ others) =
-          e ∙ ap (λ (x : List Part). x ++ t ∷ others) s.split ∙ append_assoc s.head (s.here ∷ s.tail) (t ∷ others) in
+        e ∙ ap (λ (x : List Part). x ++ t ∷ others) s.split ∙ append_assoc s.head (s.here ∷ s.tail) (t ∷ others) in
         record {
           begins = record {
             parts = s.head ++ s.here ∷ [];
@@ -87,8 +84,9 @@ module _ (names_ texts : List Text) (source : List ℕ) (parts : List Part) (dec
             begins = begins s.head (s.tail ++ t ∷ others) s.here whole;
           };
           within = λ m q. ih s.head (s.tail ++ t ∷ others) s.here (shorter front s.head s.tail s.here s.split) whole m
-            (subst (λ (xs : List Lexeme). Passes xs (lexeme_of s.here) m) (sym s.words) (subst (λ (x : Lexeme). Passes before x m) (sym s.word_is) q));
+              (subst (λ (xs : List Lexeme). Passes xs (lexeme_of s.here) m) (sym s.words) (subst (λ (x : Lexeme). Passes before x m) (sym s.word_is) q));
         }
+
     it : IsFirstRefused (map lexeme_of parts) E04 t.at (Some l)
     it = record {
       front = map lexeme_of front;

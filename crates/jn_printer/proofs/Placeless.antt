@@ -24,13 +24,13 @@ use Rattle.jn_base.specs.declared.tree.Stmt.TheVariants.{outs-Block, outs-Local,
 use Rattle.jn_base.specs.declared.tree.Kind.{Kind}
 use Rattle.jn_base.specs.declared.tree.Field.{Field}
 use Rattle.jn_base.specs.declared.tree.Method.{Method}
-use Rattle.jn_base.specs.declared.tree.Decl.{Decl, roll-Decl}
+use Rattle.jn_base.specs.declared.tree.Decl.{Decl}
 use Rattle.jn_base.specs.declared.tree.Member.{Member, out-Member}
 use Rattle.jn_base.specs.declared.tree.Member.TheOpen.{Member-F}
 use Rattle.jn_base.specs.declared.tree.Member.TheFolds.{map-Member, fold_out-Member, fold-roll-Decl}
 use Rattle.jn_base.specs.declared.tree.Member.TheVariants as member
 use Rattle.jn_base.specs.declared.tree.Member.TheVariants.{outs-Inner, outs-Slot, outs-Body}
-use Rattle.jn_base.specs.Parts.{named, term, expr, suffix, link}
+use Rattle.jn_base.specs.Parts.{named, expr, suffix, link}
 use Rattle.jn_base.specs.GrammarDecl.{decl}
 use Rattle.jn_printer.specs.Unplaced.{nowhere, unplaced_named, unplaced_term, unplaced_view, unplaced_type, unplaced_node, unplaced_expr, unplaced_link, unplaced_suffix, unplaced_given, unplaced_stmt, unplaced_field, unplaced_method, unplaced_member, unplaced_decl, node_step, expr_step, link_step, suffix_step, stmt_step, member_step, decl_step}
 

@@ -1,6 +1,5 @@
 -- The canonical text of an expression does not hang on its places.
 use Rattle.std.proofs.Common.{◌≡◌, ℕ, Bool, true, false, List, [], ◌∷◌, ◌++◌, map, Option, Some, None, codes, refl, sym, ap, ap₂, subst, ◌∙◌}
-use Rattle.jn_base.specs.declared.tree.Name.{Name}
 use Rattle.jn_base.specs.declared.tree.Named.{Named}
 use Rattle.jn_base.specs.declared.tree.Text.{Text}
 use Rattle.jn_base.specs.declared.tree.Term.{Term}
@@ -10,12 +9,12 @@ use Rattle.jn_base.specs.declared.tree.TypeTerm.TheVariants as type_term
 use Rattle.jn_base.specs.declared.tree.Expr.{Expr, roll-Expr}
 use Rattle.jn_base.specs.declared.tree.Node.{Node, out-Node, roll-Node}
 use Rattle.jn_base.specs.declared.tree.Link.{Link, roll-Link}
-use Rattle.jn_base.specs.declared.tree.Suffix.{Suffix, roll-Suffix, out-Suffix}
+use Rattle.jn_base.specs.declared.tree.Suffix.{Suffix, roll-Suffix}
 use Rattle.jn_base.specs.declared.tree.Node.TheOpen.{Node-F, Expr-F, Link-F, Suffix-F}
 use Rattle.jn_base.specs.declared.tree.Node.TheFolds.{map-Node, map-Expr, map-Link, map-Suffix, ind-Expr, fold_out-Node, fold-roll-Node, fold-roll-Expr, fold-roll-Link, fold-roll-Suffix}
 use Rattle.jn_base.specs.declared.tree.Node.TheVariants as node
 use Rattle.jn_base.specs.declared.tree.Node.TheVariants.{outs-Int, outs-Bool, outs-Null, outs-This, outs-Var, outs-New, outs-Super, outs-Post, outs-Not, outs-Neg, outs-View, outs-Chain}
-use Rattle.jn_base.specs.Parts.{suffix, named, link, expr}
+use Rattle.jn_base.specs.Parts.{named, link, expr}
 use Rattle.jn_printer.specs.declared.symbol.Symbol.{Symbol}
 use Rattle.jn_printer.specs.declared.symbol.Symbol.TheVariants as symbol
 use Rattle.jn_printer.specs.Pieces.{text_if, joined, name_text, named_text, masks_text, term_text, view_text, type_text}

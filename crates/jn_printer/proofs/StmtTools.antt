@@ -1,5 +1,5 @@
 -- What is said of statements of a source: blanks, braces, and calls.
-use Rattle.std.proofs.Common.{◌≡◌, ℕ, zero, suc, ◌+◌, ◌≤◌, Bool, true, false, not, List, [], ◌∷◌, ◌++◌, map, length, Option, Some, None, is_some, codes, refl, sym, ap, ap₂, subst, ◌∙◌, append_assoc, append-nil, arith, nat_le}
+use Rattle.std.proofs.Common.{◌≡◌, ℕ, suc, ◌+◌, ◌≤◌, Bool, true, false, not, List, [], ◌∷◌, ◌++◌, map, length, Option, Some, None, is_some, codes, refl, sym, ap, subst, ◌∙◌, append_assoc, append-nil, arith, nat_le}
 use Rattle.std.proofs.lemmas.Bool.Decides.{nat_tests}
 use Rattle.jn_base.specs.declared.tree.Place.{Place}
 use Rattle.jn_base.specs.declared.tree.Name.{Name}
@@ -12,25 +12,24 @@ use Rattle.jn_base.specs.declared.tree.Node.TheVariants.{outs-Post}
 use Rattle.jn_base.specs.declared.tree.Suffix.{Suffix, out-Suffix, out-roll-Suffix}
 use Rattle.jn_base.specs.declared.tree.Node.TheFolds.{map-Suffix, fold_out-Suffix}
 use Rattle.jn_base.specs.declared.tree.Link.{Link}
-use Rattle.jn_base.specs.declared.word.Mark.TheVariants.{CloseBrace, CloseParen, OpenBrace, OpenParen, Semicolon}
+use Rattle.jn_base.specs.declared.word.Mark.TheVariants.{CloseBrace, OpenBrace, Semicolon}
 use Rattle.jn_base.specs.Tokens.{is_blank}
-use Rattle.jn_base.specs.Words.{mark_text}
 use Rattle.jn_base.specs.Parts.{Part, Plain, Opens, mark, opening, expr, suffix, named, posted}
 use Rattle.jn_base.specs.Spelling.{limit_of}
-use Rattle.jn_base.specs.GrammarExpr.{IsPrim, IsSuffixes, IsForm, EndsInCall, IsCall, called, formed}
+use Rattle.jn_base.specs.GrammarExpr.{EndsInCall, IsCall, called, formed}
 use Rattle.jn_printer.specs.declared.symbol.Symbol.{Symbol}
 use Rattle.jn_printer.specs.declared.symbol.Symbol.TheVariants as symbol
 use Rattle.jn_printer.specs.Pieces.{text_if}
-use Rattle.jn_printer.specs.ExprText.{tightness, is_instance, symbol_of, symbol_at, node_bare, expr_text}
+use Rattle.jn_printer.specs.ExprText.{is_instance, symbol_of, symbol_at, node_bare, expr_text}
 use Rattle.jn_printer.specs.StmtText.{Indented, deeper, lines, braced}
 use Rattle.jn_printer.specs.Unplaced.{nowhere, unplaced_node, unplaced_expr, unplaced_link, unplaced_suffix, node_step, expr_step, link_step, suffix_step}
 use Rattle.jn_printer.proofs.Bare.{placed_text, bare_post}
-use Rattle.jn_printer.proofs.Written.{breaks, calm, Setting, Fine, fine_left, fine_right, Lays, lays_none, lays_map, lays_then, lays_mark, lays_blank, lays_text, lays_words}
+use Rattle.jn_printer.proofs.Written.{breaks, calm, Setting, Fine, fine_left, fine_right, Lays, lays_none, lays_map, lays_then, lays_mark, lays_blank, lays_text}
 use Rattle.jn_printer.proofs.Follows.{breaks_calm}
 use Rattle.jn_printer.proofs.TermsBack.{room}
-use Rattle.jn_printer.proofs.ExprTools.{Gives, tight, Fits, fits_lays, fits_calm, posted_same}
-use Rattle.jn_printer.proofs.ExprRows.{Suffixes, parts_in, posted_lays}
-use Rattle.jn_printer.proofs.ExprsBack.{Form, GivesForm, form_back, prim_back, suffixes_back}
+use Rattle.jn_printer.proofs.ExprTools.{Gives, Fits, fits_lays, posted_same}
+use Rattle.jn_printer.proofs.ExprRows.{Suffixes, parts_in}
+use Rattle.jn_printer.proofs.ExprsBack.{Form, form_back, prim_back, suffixes_back}
 
 -- ---- blanks and braces
 
@@ -64,7 +63,7 @@ braced_then {s} {rest} {n} D o c i ws t w u b h d l k inner behind =
     let text = lines (deeper i) ws in
     let tail = i ++ (125 ∷ t) in
     let same : 123 ∷ 10 ∷ (text ++ tail) ≡ braced i ws ++ t =
-      ap (λ (x : List ℕ). 123 ∷ 10 ∷ x) (ap (λ (x : List ℕ). text ++ x) (sym (append_assoc i (125 ∷ []) t)) ∙ sym (append_assoc text (i ++ 125 ∷ []) t)) in
+    ap (λ (x : List ℕ). 123 ∷ 10 ∷ x) (ap (λ (x : List ℕ). text ++ x) (sym (append_assoc i (125 ∷ []) t)) ∙ sym (append_assoc text (i ++ 125 ∷ []) t)) in
     let m : ℕ = suc (n + 1) + length text in
     lays_text same
     (lays_mark OpenBrace (Opens (suc d)) (10 ∷ (text ++ tail)) refl refl (room d l h)

@@ -1,8 +1,7 @@
 -- Statements as they are written are such of the grammar.
-use Rattle.std.proofs.Common.{◌≡◌, ℕ, zero, suc, ◌+◌, ◌≤◌, Bool, true, false, not, List, [], ◌∷◌, ◌++◌, map, length, Option, Some, None, codes, slice_get, refl, sym, ap, ap₂, subst, ◌∙◌, append_assoc, append-nil, arith}
+use Rattle.std.proofs.Common.{◌≡◌, ℕ, suc, ◌+◌, ◌≤◌, Bool, true, List, [], ◌∷◌, ◌++◌, map, length, Some, None, codes, slice_get, refl, sym, ap, ap₂, subst, ◌∙◌, append_assoc, append-nil, arith}
 use Rattle.jn_base.specs.declared.tree.Place.{Place}
 use Rattle.jn_base.specs.declared.tree.Name.{Name}
-use Rattle.jn_base.specs.declared.tree.Text.{Text}
 use Rattle.jn_base.specs.declared.tree.TypeTerm.{TypeTerm}
 use Rattle.jn_base.specs.declared.tree.Expr.{Expr}
 use Rattle.jn_base.specs.declared.tree.Stmt.{Stmt}
@@ -10,25 +9,24 @@ use Rattle.jn_base.specs.declared.tree.Stmt.TheVariants as stmt
 use Rattle.jn_base.specs.declared.word.Keyword.TheVariants.{Else, Final, If, Print, Return, While}
 use Rattle.jn_base.specs.declared.word.Mark.TheVariants.{CloseBrace, CloseParen, Dot, Equals, OpenBrace, OpenParen, Semicolon}
 use Rattle.jn_base.specs.Tokens.{quote}
-use Rattle.jn_base.specs.Words.{mark_text}
-use Rattle.jn_base.specs.Parts.{Part, Role, Plain, Opens, Local, key, mark, name, text, opening, new_name, named}
+use Rattle.jn_base.specs.Parts.{Part, Plain, Opens, Local, key, mark, name, text, opening, new_name, named}
 use Rattle.jn_base.specs.Spelling.{limit_of}
 use Rattle.jn_base.specs.GrammarTypes.{IsType}
-use Rattle.jn_base.specs.GrammarExpr.{IsExpr, IsPost, IsCall}
+use Rattle.jn_base.specs.GrammarExpr.{IsCall}
 use Rattle.jn_base.specs.GrammarStmt.{IsFinal, not_final, final, IsStmt, block, local, assign, set_field, act, choice, turns, leave, give, print, print_text, IsElse, no_else, otherwise, IsStmts, no_stmt, then_stmt}
 use Rattle.jn_printer.specs.declared.symbol.Symbol.TheVariants as symbol
 use Rattle.jn_printer.specs.Pieces.{text_if, bytes_of, name_text, type_text}
 use Rattle.jn_printer.specs.ExprText.{expr_text}
 use Rattle.jn_printer.specs.StmtText.{Indented, deeper, lines, braced, else_text, escaped, stmt_text}
-use Rattle.jn_printer.specs.Unplaced.{nowhere, unplaced_named, unplaced_type, unplaced_expr, unplaced_given, unplaced_stmt}
+use Rattle.jn_printer.specs.Unplaced.{nowhere, unplaced_expr, unplaced_stmt}
 use Rattle.jn_printer.proofs.StmtTexts
 use Rattle.jn_printer.proofs.Placeless.{block_is, local_is, assign_is, set_is, do_is, if_is, while_is, return_is, print_is, print_text_is}
-use Rattle.jn_printer.proofs.Written.{breaks, calm, Setting, GivenName, GivenText, a_text, Fine, fine_left, fine_right, Lays, lays_none, lays_map, lays_then, lays_word, lays_key, lays_mark, lays_name, lays_blank, lays_text, lays_words, lays_without, lays_without_behind}
-use Rattle.jn_printer.proofs.Follows.{breaks_calm, name_calm, name_calm_on}
-use Rattle.jn_printer.proofs.TermsBack.{room, GivesType, type_lays}
-use Rattle.jn_printer.proofs.ExprTools.{Gives, Fits, fits_lays, fits_calm}
+use Rattle.jn_printer.proofs.Written.{breaks, calm, Setting, GivenName, GivenText, a_text, Fine, fine_left, fine_right, Lays, lays_none, lays_map, lays_then, lays_word, lays_key, lays_mark, lays_name, lays_blank, lays_text, lays_without}
+use Rattle.jn_printer.proofs.Follows.{breaks_calm, name_calm_on}
+use Rattle.jn_printer.proofs.TermsBack.{room, type_lays}
+use Rattle.jn_printer.proofs.ExprTools.{Fits, fits_lays, fits_calm}
 use Rattle.jn_printer.proofs.ExprsBack.{expr_back, post_back}
-use Rattle.jn_printer.proofs.StmtTools.{Blanks, deeper_blanks, lays_blanks, braced_then, semicolon_lays, GivesCall, call_back}
+use Rattle.jn_printer.proofs.StmtTools.{Blanks, deeper_blanks, lays_blanks, braced_then, semicolon_lays, call_back}
 
 abbrev pub GivesStmt : ℕ → ℕ → ℕ → Stmt → List Part → Type 0
 GivesStmt d k m t v = (u : Stmt) × IsStmt d k v u m × (unplaced_stmt u ≡ unplaced_stmt t)
@@ -90,6 +88,7 @@ one_local : (s : Setting) (D k : ℕ) (x : Name) (p o c : Place) (u v w : List P
 one_local s D k x p o c u v w fixed t e a y f g = record { lays = lays } where
   tail : List Part
   tail = new_name (Local (suc k)) x p ∷ mark Equals o ∷ (w ++ mark Semicolon c ∷ [])
+
   lays : (d : ℕ) → d ≤ D → (i : List ℕ) → Blanks i → (rest : List ℕ) → breaks rest ≡ true → (n : ℕ)
       → Lays s rest n (stmt_text s.names s.texts (stmt.Local fixed t (named x p) e) i) (u ++ (v ++ tail)) (GivesStmt d k (suc k) (stmt.Local fixed t (named x p) e))
   lays d l i b rest h n =
@@ -102,9 +101,11 @@ one_local s D k x p o c u v w fixed t e a y f g = record { lays = lays } where
       lays_then (type_text s.names t) behind (type_lays s y (fine_left s v tail ft) d l (behind ++ rest) refl _) (λ v' y'.
       lays_blank refl (lays_name x (Local (suc k)) (codes " = " ++ value) fx.0 refl fx.1
       (lays_blank refl (lays_mark Equals Plain (32 ∷ value) refl refl refl
-      (lays_blank refl (semicolon_lays D c w e g d l h (λ c' w' j.
-      (stmt.Local fixed y'.0 (named x _) j.1, local _ c' a' y'.1 j.2,
-      local_is fixed y'.0 (named x _) j.1 ∙ ap₂ (λ (q : TypeTerm) (z : Expr). stmt.Local fixed q (named x nowhere) z) y'.2 j.3 ∙ sym (local_is fixed t (named x p) e)))))))))))
+      (lays_blank refl (semicolon_lays D c w e g d l h (λ c' w' j. (
+        stmt.Local fixed y'.0 (named x _) j.1,
+        local _ c' a' y'.1 j.2,
+        local_is fixed y'.0 (named x _) j.1 ∙ ap₂ (λ (q : TypeTerm) (z : Expr). stmt.Local fixed q (named x nowhere) z) y'.2 j.3 ∙ sym (local_is fixed t (named x p) e),
+      ))))))))))
 
 one_assign : (s : Setting) (D k : ℕ) (x : Name) (p o c : Place) (w : List Part) (e : Expr) → GivenName s.names x → Fits s 0 D w e
     → One s D k (name x p ∷ mark Equals o ∷ (w ++ mark Semicolon c ∷ [])) (stmt.Assign (named x p) e) k
@@ -133,9 +134,11 @@ one_set s D k x b' n' o c v w t e f a g = record { lays = lays } where
       lays_mark Dot Plain behind (name_calm_on s.names x f (codes " = " ++ value) rest) refl refl
       (lays_name x Plain (codes " = " ++ value) f refl refl
       (lays_blank refl (lays_mark Equals Plain (32 ∷ value) refl refl refl
-      (lays_blank refl (semicolon_lays D c w e g d l h (λ c' w' j.
-      (stmt.Set q.1 (named x _) j.1, set_field _ _ _ c' q.2 j.2,
-      set_is q.1 (named x _) j.1 ∙ ap₂ (λ (y z : Expr). stmt.Set y (named x nowhere) z) q.3 j.3 ∙ sym (set_is t (named x n') e))))))))))
+      (lays_blank refl (semicolon_lays D c w e g d l h (λ c' w' j. (
+        stmt.Set q.1 (named x _) j.1,
+        set_field _ _ _ c' q.2 j.2,
+        set_is q.1 (named x _) j.1 ∙ ap₂ (λ (y z : Expr). stmt.Set y (named x nowhere) z) q.3 j.3 ∙ sym (set_is t (named x n') e),
+      )))))))))
 
 one_act : (s : Setting) (D k : ℕ) (c : Place) (w : List Part) (e : Expr) → IsCall D w e → Fine s w → One s D k (w ++ mark Semicolon c ∷ []) (stmt.Do e) k
 one_act s D k c w e y f = record { lays = lays } where
@@ -167,12 +170,14 @@ one_choice s D k m j p o c b' e' v w u t ss rs h g r a = record { lays = lays } 
       (lays_then test behind (fits_lays s symbol.Expression (suc D) v t (omega arith) g (suc d) up (behind ++ rest) refl _) (λ v' x.
       lays_mark CloseParen Plain (32 ∷ (braced i (texts_of s ss) ++ other)) refl refl refl
       (lays_blank refl (braced_then D b' e' i (texts_of s ss) other w u b h d l (breaks_calm (other ++ rest) (a.breaking i rest q)) (λ rest' m'. r.lays (suc d) up (deeper i) (deeper_blanks i b) rest' m') (λ o' c' w' y m'.
-      lays_map (a.lays d l i b rest q m') (λ u' z.
-      (stmt.If x.1 y.0 z.0 (s.at n), choice _ o' c' x.2 y.1 z.1,
-      if_is x.1 y.0 z.0 (s.at n)
-      ∙ ap₂ (λ (e : Expr) (f : List Stmt). stmt.If e f (map unplaced_stmt z.0) nowhere) x.3 y.2
-      ∙ ap (λ (f : List Stmt). stmt.If (unplaced_expr t) (map unplaced_stmt ss) f nowhere) z.2
-      ∙ sym (if_is t ss rs p)))))))))))
+      lays_map (a.lays d l i b rest q m') (λ u' z. (
+        stmt.If x.1 y.0 z.0 (s.at n),
+        choice _ o' c' x.2 y.1 z.1,
+        if_is x.1 y.0 z.0 (s.at n)
+            ∙ ap₂ (λ (e : Expr) (f : List Stmt). stmt.If e f (map unplaced_stmt z.0) nowhere) x.3 y.2
+            ∙ ap (λ (f : List Stmt). stmt.If (unplaced_expr t) (map unplaced_stmt ss) f nowhere) z.2
+            ∙ sym (if_is t ss rs p),
+      ))))))))))
 
 one_turns : (s : Setting) (D k m : ℕ) (p o c b' e' : Place) (v w : List Part) (t : Expr) (ss : List Stmt) → limit_of (Opens (suc D)) ≡ None → Fits s 0 (suc D) v t → Row s (suc D) k w ss m
     → One s D k (key While p ∷ opening D OpenParen o ∷ (v ++ (mark CloseParen c ∷ opening D OpenBrace b' ∷ (w ++ mark CloseBrace e' ∷ [])))) (stmt.While t ss p) m
@@ -190,9 +195,11 @@ one_turns s D k m p o c b' e' v w t ss h g r = record { lays = lays } where
       (lays_then test behind (fits_lays s symbol.Expression (suc D) v t (omega arith) g (suc d) up (behind ++ rest) refl _) (λ v' x.
       lays_mark CloseParen Plain (32 ∷ (body ++ [])) refl refl refl
       (lays_blank refl (braced_then D b' e' i (texts_of s ss) [] w [] b h d l (breaks_calm rest q) (λ rest' m'. r.lays (suc d) up (deeper i) (deeper_blanks i b) rest' m') (λ o' c' w' y m'.
-      lays_none
-      (stmt.While x.1 y.0 (s.at n), turns _ o' c' x.2 y.1,
-      while_is x.1 y.0 (s.at n) ∙ ap₂ (λ (e : Expr) (f : List Stmt). stmt.While e f nowhere) x.3 y.2 ∙ sym (while_is t ss p))))))))))
+      lays_none (
+        stmt.While x.1 y.0 (s.at n),
+        turns _ o' c' x.2 y.1,
+        while_is x.1 y.0 (s.at n) ∙ ap₂ (λ (e : Expr) (f : List Stmt). stmt.While e f nowhere) x.3 y.2 ∙ sym (while_is t ss p),
+      )))))))))
 
 one_leave : (s : Setting) (D k : ℕ) (p c : Place) → One s D k (key Return p ∷ mark Semicolon c ∷ []) (stmt.Return None p) k
 one_leave s D k p c = record { lays = lays } where
@@ -232,7 +239,7 @@ one_text s D k x p o q c b' h g = record { lays = lays } where
       let inside = escaped (bytes_of (slice_get s.texts x)) in
       let quoted = quote ∷ (inside ++ quote ∷ []) in
       let same : codes "print(" ++ (quoted ++ codes ");") ≡ codes "print(\"" ++ (inside ++ codes "\");") =
-        ap (λ (y : List ℕ). codes "print(\"" ++ y) (append_assoc inside (quote ∷ []) (codes ");")) in
+      ap (λ (y : List ℕ). codes "print(\"" ++ y) (append_assoc inside (quote ∷ []) (codes ");")) in
       lays_text (same ∙ sym (StmtTexts.string_text s.names s.texts x p i))
       (lays_key Print (40 ∷ (quoted ++ codes ");")) refl (lays_mark OpenParen (Opens (suc d)) (quoted ++ codes ");") refl refl (room d l h)
       (lays_word Plain quoted (codes ");") (a_text x g) refl refl
@@ -251,6 +258,7 @@ other_some s D k m p o c w [] h r = record { lays = lays; breaking = λ i u b. b
   gives {rest} {n} d a b =
       subst (λ (x : List Part). Lays s rest n [] (key Else p ∷ opening D OpenBrace o ∷ (x ++ mark CloseBrace c ∷ [])) (GivesElse d k m [])) (sym a)
       (lays_without refl (lays_without refl (lays_without refl (lays_none ([], subst (λ (y : ℕ). IsElse d k [] [] y) b no_else, refl)))))
+
   lays : (d : ℕ) → d ≤ D → (i : List ℕ) → Blanks i → (rest : List ℕ) → breaks rest ≡ true → (n : ℕ) → Lays s rest n [] (key Else p ∷ opening D OpenBrace o ∷ (w ++ mark CloseBrace c ∷ [])) (GivesElse d k m [])
   lays d l i b rest q n = gives d (r.none refl).0 (r.none refl).1
 other_some s D k m p o c w (x ∷ ss) h r = record { lays = lays; breaking = λ i u b. refl } where

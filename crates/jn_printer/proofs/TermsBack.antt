@@ -1,29 +1,25 @@
 -- Names, terms, views and types as they are written are such of the grammar.
-use Rattle.std.proofs.Common.{◌≡◌, ℕ, suc, ◌+◌, ◌≤◌, Bool, true, false, List, [], ◌∷◌, ◌++◌, map, length, Option, Some, None, codes, refl, sym, ap, ap₂, subst, ◌∙◌, append_assoc, append-nil, arith, nat_lt, if◌then◌else◌}
+use Rattle.std.proofs.Common.{◌≡◌, ℕ, suc, ◌+◌, ◌≤◌, Bool, true, false, List, [], ◌∷◌, ◌++◌, map, length, Some, None, codes, refl, sym, ap, ap₂, subst, ◌∙◌, append_assoc, append-nil, arith, nat_lt, if◌then◌else◌}
 use Rattle.jn_base.specs.declared.tree.Name.{Name}
 use Rattle.jn_base.specs.declared.tree.Named.{Named}
 use Rattle.jn_base.specs.declared.tree.Text.{Text}
 use Rattle.jn_base.specs.declared.tree.Place.{Place}
 use Rattle.jn_base.specs.declared.tree.Ref.{Ref}
-use Rattle.jn_base.specs.declared.tree.Ref.TheVariants as ref
 use Rattle.jn_base.specs.declared.tree.Head.TheVariants as head
 use Rattle.jn_base.specs.declared.tree.Term.{Term}
 use Rattle.jn_base.specs.declared.tree.ViewTerm.{ViewTerm}
 use Rattle.jn_base.specs.declared.tree.TypeTerm.{TypeTerm}
 use Rattle.jn_base.specs.declared.tree.TypeTerm.TheVariants as type_term
-use Rattle.jn_base.specs.declared.word.Keyword.{Keyword}
 use Rattle.jn_base.specs.declared.word.Keyword.TheVariants.{Boolean, Class, Int, This}
-use Rattle.jn_base.specs.declared.word.Mark.{Mark}
-use Rattle.jn_base.specs.declared.word.Mark.TheVariants.{Ampersand, Backslash, Bang, CloseBracket, Dot, OpenBracket}
-use Rattle.jn_base.specs.Words.{keyword_text, mark_text}
-use Rattle.jn_base.specs.Parts.{Part, Role, Plain, Opens, Atom, key, mark, name, opening, atom, named, term, part}
+use Rattle.jn_base.specs.declared.word.Mark.TheVariants.{Ampersand, Bang, CloseBracket, Dot, OpenBracket}
+use Rattle.jn_base.specs.Parts.{Part, Plain, Opens, Atom, key, mark, name, opening, atom, named, term}
 use Rattle.jn_base.specs.Spelling.{limit_of}
 use Rattle.jn_base.specs.declared.refusal.Limit.TheVariants as limit
 use Rattle.jn_base.specs.GrammarTypes.{IsDotted, one_name, more_names, IsDots, no_dot, dot, IsNames, loose, exact, IsTail, no_tail, tail, IsRef, this, variable, IsTerm, plain, own, in_prefix, IsMasks, no_mask, mask, IsView, view, IsAtoms, last_atom, then_atom, IsType, int, boolean, class}
-use Rattle.jn_printer.specs.Pieces.{joined, name_text, named_text, dotted, masks_text, ref_text, head_text, has_head, ends_text, term_text, view_text, type_text}
+use Rattle.jn_printer.specs.Pieces.{joined, name_text, dotted, masks_text, ref_text, ends_text, term_text, view_text, type_text}
 use Rattle.jn_printer.specs.Unplaced.{nowhere, unplaced_named, unplaced_term, unplaced_view, unplaced_type}
 use Rattle.std.proofs.lemmas.Bool.Decides.{nat_tests}
-use Rattle.jn_printer.proofs.Written.{breaks, calm, Setting, IsGiven, GivenName, Fine, fine_left, fine_right, Lays, lays_none, lays_map, lays_then, lays_key, lays_mark, lays_name, lays_mask, lays_blank, lays_text, written_atom, alike_atom_left, alike_atom_right, low_atom}
+use Rattle.jn_printer.proofs.Written.{breaks, calm, Setting, IsGiven, Fine, fine_left, fine_right, Lays, lays_none, lays_map, lays_then, lays_key, lays_mark, lays_name, lays_mask, lays_blank, lays_text, written_atom, alike_atom_left, alike_atom_right, low_atom}
 use Rattle.jn_printer.proofs.Follows.{breaks_calm, name_calm, name_calm_on}
 
 -- ---- names with dots
@@ -152,8 +148,8 @@ term_lays s {D} (in_prefix b' o c e' {v = v} {w = w} {xs = ps} {es = es} {ns = x
     let behind : List ℕ = 91 ∷ (ref_text s.names r ++ (codes ".class]" ++ ends)) in
     let g = fine_right s v (opening D OpenBracket b' ∷ t ∷ mark Dot o ∷ key Class c ∷ mark CloseBracket e' ∷ w) f in
     let same : dotted s.names false ps ++ behind ≡ (dotted s.names false ps ++ (codes "[" ++ (ref_text s.names r ++ codes ".class]"))) ++ ends =
-      ap (λ (x : List ℕ). dotted s.names false ps ++ (91 ∷ x)) (sym (append_assoc (ref_text s.names r) (codes ".class]") ends))
-      ∙ sym (append_assoc (dotted s.names false ps) (91 ∷ (ref_text s.names r ++ codes ".class]")) ends) in
+    ap (λ (x : List ℕ). dotted s.names false ps ++ (91 ∷ x)) (sym (append_assoc (ref_text s.names r) (codes ".class]") ends))
+    ∙ sym (append_assoc (dotted s.names false ps) (91 ∷ (ref_text s.names r ++ codes ".class]")) ends) in
     let m : ℕ = n + length (dotted s.names false ps) in
     lays_text same
     (lays_then (dotted s.names false ps) behind (dotted_lays s i (fine_left s v _ f) (behind ++ rest) refl n) (λ u k.

@@ -1,14 +1,13 @@
 -- The canonical text of a program does not hang on its places.
-use Rattle.std.proofs.Common.{◌≡◌, ℕ, Bool, true, false, List, [], ◌∷◌, ◌++◌, map, Option, Some, None, codes, slice_get, refl, sym, ap, ap₂, subst, ◌∙◌}
+use Rattle.std.proofs.Common.{◌≡◌, ℕ, false, List, [], ◌∷◌, ◌++◌, map, Option, Some, None, codes, refl, sym, ap, ap₂, subst, ◌∙◌}
 use Rattle.jn_base.specs.declared.tree.Named.{Named}
 use Rattle.jn_base.specs.declared.tree.Text.{Text}
 use Rattle.jn_base.specs.declared.tree.Kind.{Kind}
 use Rattle.jn_base.specs.declared.tree.TypeTerm.{TypeTerm}
 use Rattle.jn_base.specs.declared.tree.Expr.{Expr}
-use Rattle.jn_base.specs.declared.tree.Stmt.{Stmt, out-Stmt, roll-Stmt}
+use Rattle.jn_base.specs.declared.tree.Stmt.{Stmt, roll-Stmt}
 use Rattle.jn_base.specs.declared.tree.Stmt.TheOpen.{Stmt-F}
 use Rattle.jn_base.specs.declared.tree.Stmt.TheFolds.{map-Stmt, ind-Stmt, fold-roll-Stmt}
-use Rattle.jn_base.specs.declared.tree.Stmt.TheVariants as stmt
 use Rattle.jn_base.specs.declared.tree.Param.{Param}
 use Rattle.jn_base.specs.declared.tree.Constraint.{Constraint}
 use Rattle.jn_base.specs.declared.tree.Field.{Field}
@@ -18,11 +17,10 @@ use Rattle.jn_base.specs.declared.tree.Decl.{Decl, roll-Decl}
 use Rattle.jn_base.specs.declared.tree.Member.{Member, roll-Member}
 use Rattle.jn_base.specs.declared.tree.Member.TheOpen.{Member-F, Decl-F}
 use Rattle.jn_base.specs.declared.tree.Member.TheFolds.{map-Member, map-Decl, ind-Decl, fold-roll-Member, fold-roll-Decl}
-use Rattle.jn_base.specs.declared.tree.Member.TheVariants as member
 use Rattle.jn_base.specs.GrammarDecl.{decl}
 use Rattle.jn_printer.specs.declared.symbol.Symbol.{Symbol}
 use Rattle.jn_printer.specs.declared.symbol.Symbol.TheVariants as symbol
-use Rattle.jn_printer.specs.Pieces.{text_if, joined, bytes_of, name_text, named_text, names_text, type_text, view_text}
+use Rattle.jn_printer.specs.Pieces.{text_if, name_text, named_text}
 use Rattle.jn_printer.specs.ExprText.{Writer, expr_text}
 use Rattle.jn_printer.specs.StmtText.{Indented, lines, braced, else_text, given_text, escaped, stmt_text, body_text}
 use Rattle.jn_printer.specs.StmtText as StmtText

@@ -1,8 +1,7 @@
 -- The canonical text of a program within the limits spells it but for places, and is within the limits.
-use Rattle.std.proofs.Common.{◌≡◌, ℕ, suc, ◌+◌, ◌<◌, ◌≤◌, Bool, true, false, List, [], ◌∷◌, ◌++◌, map, length, filter_map, Option, Some, None, All, refl, sym, ap, ap₂, subst, ◌∙◌, append_assoc, append-nil, length-append, arith}
+use Rattle.std.proofs.Common.{◌≡◌, ℕ, ◌<◌, ◌≤◌, List, [], ◌∷◌, ◌++◌, map, length, filter_map, None, All, refl, sym, ap, ap₂, subst, ◌∙◌, arith}
 use Rattle.std.proofs.lemmas.List.{map-append}
 use Rattle.std.proofs.lemmas.List.Elements.{All-nil, All-cons, filter_map-append}
-use Rattle.jn_base.specs.declared.tree.Text.{Text}
 use Rattle.jn_base.specs.declared.tree.Place.{Place}
 use Rattle.jn_base.specs.declared.tree.Decl.{Decl}
 use Rattle.jn_base.specs.declared.tree.Program.{Program}
@@ -11,10 +10,10 @@ use Rattle.jn_base.specs.declared.word.Lexeme.{Lexeme}
 use Rattle.jn_base.specs.Places.{place_of}
 use Rattle.jn_base.specs.Words.{AreWordsOf, AreNumbered, last_word, lexeme, name_number, text_number}
 use Rattle.jn_base.specs.Parts.{Part, lexeme_of, end_of_file}
-use Rattle.jn_base.specs.Spelling.{SourceSpells, limit_of, masks_in, HasDifferent, IsTextOf}
+use Rattle.jn_base.specs.Spelling.{limit_of, masks_in, HasDifferent, IsTextOf}
 use Rattle.jn_printer.specs.DeclText.{program_text}
-use Rattle.jn_printer.specs.Unplaced.{unplaced_decl, unplaced, IsSameButForPlaces}
-use Rattle.jn_printer.specs.WayBack.{IsWithinLimits, SpellsWithin, WayBack}
+use Rattle.jn_printer.specs.Unplaced.{unplaced_decl, unplaced}
+use Rattle.jn_printer.specs.WayBack.{SpellsWithin, WayBack}
 use Rattle.jn_printer.proofs.Written.{Setting, Fine, Low, Lays, Alike, nothing, same_word, alike_append}
 use Rattle.jn_printer.proofs.WordsOut.{setting, Lexed, lexed_of, names_in, texts_in, alike_names, alike_texts, alike_masks}
 use Rattle.jn_printer.proofs.WordsIn.{AllGiven, all_given}
@@ -70,7 +69,7 @@ source_fine q source t w p e whole =
     let a = t.spelled.are_words in
     let l : Low t.spelled.parts = all_low q.names q.texts source t.spelled.parts q.decls t.spelled.is_program a t.not_refused in
     let g : AllGiven (setting q.names q.texts source) a.words =
-      all_given q.names q.texts source a.lexed.lexed [] (sym a.lexed.spelled) refl a.lexed.scalars a.are_words in
+    all_given q.names q.texts source a.lexed.lexed [] (sym a.lexed.spelled) refl a.lexed.scalars a.are_words in
     fine_of (setting q.names q.texts whole) w
     (subst (λ (xs : List Lexeme). AllGiven (setting q.names q.texts source) xs) (source_words q source t.spelled.parts w p a e) g)
     (low_front w (end_of_file p ∷ []) (subst Low e l))
@@ -81,8 +80,8 @@ names_few q source t w p e =
     let a = t.spelled.are_words in
     let below : Each (λ n. n < 65535) (names_in t.spelled.parts) = names_below q.names q.texts source t.spelled.parts q.decls t.spelled.is_program a t.not_refused in
     let split : names_in t.spelled.parts ≡ names_in w ++ names_in (end_of_file p ∷ []) =
-      ap names_in e ∙ ap (λ (x : List Lexeme). filter_map (λ (y : Lexeme). name_number y.word) x) (map-append lexeme_of w (end_of_file p ∷ []))
-      ∙ filter_map-append (λ (y : Lexeme). name_number y.word) (map lexeme_of w) (map lexeme_of (end_of_file p ∷ [])) in
+    ap names_in e ∙ ap (λ (x : List Lexeme). filter_map (λ (y : Lexeme). name_number y.word) x) (map-append lexeme_of w (end_of_file p ∷ []))
+    ∙ filter_map-append (λ (y : Lexeme). name_number y.word) (map lexeme_of w) (map lexeme_of (end_of_file p ∷ [])) in
     let in_words : Each (λ n. n < 65535) (names_in w) = each_front (names_in w) (names_in (end_of_file p ∷ [])) (subst (λ (xs : List ℕ). Each (λ n. n < 65535) xs) split below) in
     mentioned_below a.names_numbered.by_mention
     (subst (λ (x : List Lexeme). Each (λ n. n < 65535) (filter_map (λ (y : Lexeme). name_number y.word) x)) (sym (source_words q source t.spelled.parts w p a e)) in_words) (omega arith)
@@ -92,14 +91,14 @@ numbered_names : (q : Program) (source : List ℕ) (t : IsTextOf q source) (v w 
 numbered_names q source t v w p e k =
     let a = t.spelled.are_words in
     let same : filter_map (λ (y : Lexeme). name_number y.word) a.words ≡ names_in v =
-      ap (λ (x : List Lexeme). filter_map (λ (y : Lexeme). name_number y.word) x) (source_words q source t.spelled.parts w p a e) ∙ sym (alike_names k) in
+    ap (λ (x : List Lexeme). filter_map (λ (y : Lexeme). name_number y.word) x) (source_words q source t.spelled.parts w p a e) ∙ sym (alike_names k) in
     subst (λ (ns : List ℕ). AreNumbered q.names ns) same a.names_numbered
 
 numbered_texts : (q : Program) (source : List ℕ) (t : IsTextOf q source) (v w : List Part) (p : Place) → t.spelled.parts ≡ w ++ end_of_file p ∷ [] → Alike v w → AreNumbered q.texts (texts_in v)
 numbered_texts q source t v w p e k =
     let a = t.spelled.are_words in
     let same : filter_map (λ (y : Lexeme). text_number y.word) a.words ≡ texts_in v =
-      ap (λ (x : List Lexeme). filter_map (λ (y : Lexeme). text_number y.word) x) (source_words q source t.spelled.parts w p a e) ∙ sym (alike_texts k) in
+    ap (λ (x : List Lexeme). filter_map (λ (y : Lexeme). text_number y.word) x) (source_words q source t.spelled.parts w p a e) ∙ sym (alike_texts k) in
     subst (λ (ns : List ℕ). AreNumbered q.texts ns) same a.texts_numbered
 
 -- the words of the written bytes

@@ -1,12 +1,12 @@
 -- Each word that is written is a token before what follows it.
-use Rattle.std.proofs.Common.{◌≡◌, ℕ, suc, ◌+◌, ◌<◌, ◌≤◌, Bool, true, false, not, ◌||◌, ◌&&◌, ◌==◌, List, [], ◌∷◌, ◌++◌, length, encode_utf8, encode_utf8_all, slice_get, pos, decimal, codes, refl, sym, ap, ap₂, subst, ◌∙◌, append_assoc, append-nil, arith, nat_lt}
+use Rattle.std.proofs.Common.{◌≡◌, ℕ, ◌<◌, ◌≤◌, Bool, true, false, not, ◌||◌, ◌&&◌, ◌==◌, List, [], ◌∷◌, ◌++◌, length, encode_utf8_all, slice_get, pos, refl, sym, ap, ap₂, subst, ◌∙◌, arith, nat_lt}
 use Rattle.std.proofs.lemmas.Bool.Decides.{nat_tests}
 use Rattle.std.proofs.lemmas.Slice.Eq.{bytes_eq-Decides}
 use Rattle.std.proofs.lemmas.Str.{encodes-append, encode_ascii}
 use Rattle.std.proofs.lemmas.List.Sums.{AllPass-from_list_all}
 use Rattle.std.specs.Char.{is_ascii_digit, is_ascii_alphabetic, is_ascii_alphanumeric}
 use Rattle.std.specs.Fmt.{signed_decimal}
-use Rattle.std.specs.List.{AllPass, list_any, list_all}
+use Rattle.std.specs.List.{list_any, list_all}
 use Rattle.std.specs.Str.{all_scalars, bytes_eq}
 use Rattle.unicode_ident.proofs.IdentLemmas.{is_xid_start-ascii, is_xid_continue-ascii}
 use Rattle.jn_base.specs.declared.tree.Text.{Text}
@@ -26,7 +26,7 @@ use Rattle.jn_printer.specs.Pieces.{name_text, bytes_of}
 use Rattle.jn_printer.specs.StmtText.{escaped}
 use Rattle.jn_printer.proofs.EscapeProof.{escaped_reads}
 use Rattle.jn_printer.proofs.Follows.{and_left, and_right, ends_no_name, ends_no_digit}
-use Rattle.jn_printer.proofs.Written.{ends_word, goes_on, breaks, calm, Setting, GivenName, GivenText, Piece, a_name, a_keyword, a_number, a_text, a_mark}
+use Rattle.jn_printer.proofs.Written.{goes_on, breaks, calm, Setting, GivenName, GivenText, Piece, a_name, a_keyword, a_number, a_text, a_mark}
 use Rattle.jn_printer.proofs.Chars.{Each, each_of, all_of, Small, small_encode, small_scalars, scalars_append, first_ends, first_calm, no_return, bytes_no_return, escaped_scalars, escaped_encoded, escaped_in}
 use Rattle.jn_printer.proofs.Decimals.{Decimal, decimal_is}
 
@@ -272,7 +272,7 @@ piece_is s (a_number n {t = t} f b) =
     }
 piece_is s (a_text n {t = t} g) =
     let plain : Each (λ b. (b ≡ 13) → ⊥) (bytes_of (slice_get s.texts n)) =
-      subst (λ (xs : List ℕ). Each (λ b. (b ≡ 13) → ⊥) xs) g.spelled (bytes_no_return g.characters (each_of (λ c. no_return c ≡ true) g.characters g.no_return)) in
+    subst (λ (xs : List ℕ). Each (λ b. (b ≡ 13) → ⊥) xs) g.spelled (bytes_no_return g.characters (each_of (λ c. no_return c ≡ true) g.characters g.no_return)) in
     record {
       kind = sort.Text;
       stands = text_is s.texts n t g;

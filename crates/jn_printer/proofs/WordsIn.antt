@@ -1,6 +1,5 @@
 -- What a source says of its words: each name is a name, each number in range, and each text can be written.
-use Rattle.std.proofs.Common.{◌≡◌, ◌≢◌, ℕ, suc, ◌+◌, ◌-◌, ◌<◌, ◌≤◌, Bool, true, false, not, ◌||◌, ◌&&◌, ◌==◌, List, [], ◌∷◌, ◌++◌, map, length, take, drop, Option, Some, None, ℤ, pos, slice_get, encode_utf8, encode_utf8_all, nat_le, nat_lt, refl, sym, ap, ap₂, subst, ◌∙◌, append_assoc, append-nil, length-append, arith, ◌⊎◌, inl, inr}
-use Rattle.std.proofs.lemmas.Bool.{eqb-true}
+use Rattle.std.proofs.Common.{◌≡◌, ◌≢◌, ℕ, ◌+◌, ◌-◌, ◌<◌, ◌≤◌, Bool, true, false, not, ◌||◌, ◌&&◌, ◌==◌, List, [], ◌∷◌, ◌++◌, length, take, drop, Option, Some, pos, slice_get, encode_utf8, encode_utf8_all, nat_le, refl, sym, ap, ap₂, subst, ◌∙◌, append-nil, length-append, arith, ◌⊎◌, inl, inr}
 use Rattle.std.proofs.lemmas.Bool.Decides.{nat_tests}
 use Rattle.std.proofs.lemmas.List.Sums.{list_all-from_AllPass}
 use Rattle.std.proofs.lemmas.Str.{encodes-append, encode_ascii}
@@ -8,19 +7,17 @@ use Rattle.std.specs.Str.{all_scalars}
 use Rattle.std.specs.Char.{is_ascii_digit}
 use Rattle.std.specs.List.{list_all}
 use Rattle.jn_base.specs.declared.tree.Text.{Text}
-use Rattle.jn_base.specs.declared.tree.Name.{Name}
 use Rattle.jn_base.specs.declared.token.Token.{Token}
 use Rattle.jn_base.specs.declared.token.TokenKind.{TokenKind}
 use Rattle.jn_base.specs.declared.token.TokenKind.TheVariants as sort
 use Rattle.jn_base.specs.declared.token.LexFault.{LexFault}
 use Rattle.jn_base.specs.declared.word.Word.{Word}
-use Rattle.jn_base.specs.declared.word.Word.TheVariants as word_
 use Rattle.jn_base.specs.declared.word.Lexeme.{Lexeme}
-use Rattle.jn_base.specs.Tokens.{quote, backslash, line_feed, carriage_return, letter_n, ends_line, is_plain, is_escape, IsInText, no_more, plain, escape, digits_value, greatest_number, is_good_number, has_leading_zero, width, IsToken, name, keyword, number, text, mark, Lexes, at_end, fault, blank, comment, token}
+use Rattle.jn_base.specs.Tokens.{quote, backslash, line_feed, carriage_return, is_plain, is_escape, IsInText, no_more, plain, escape, digits_value, greatest_number, is_good_number, width, IsToken, name, number, text, Lexes, at_end, fault, blank, comment, token}
 use Rattle.jn_base.specs.Words.{text_of, Reads, nothing, escaped_quote, escaped_backslash, escaped_line_feed, IsWord, a_name, a_keyword, a_number, a_text, a_mark, AreWords, no_word, then_word}
 use Rattle.jn_base.specs.Words as Words
-use Rattle.jn_printer.specs.Pieces.{name_text, bytes_of}
-use Rattle.jn_printer.proofs.Follows.{and_left, and_right, or_elim}
+use Rattle.jn_printer.specs.Pieces.{bytes_of}
+use Rattle.jn_printer.proofs.Follows.{and_left, and_right}
 use Rattle.jn_printer.proofs.Written.{Setting, GivenName, GivenText, GivenNumber, IsGiven}
 use Rattle.jn_printer.proofs.Chars.{Each, all_of, each_map, high_bytes, small_or_high, small_scalar, scalars_left, scalars_right, Small, small_encode, no_return}
 use Rattle.jn_printer.proofs.WordsOut.{slice_is, front_on, setting}
@@ -100,7 +97,7 @@ read_as (plain {c = c} {w = w} p i) s read d =
     }
 read_as (escape {c = c} {w = w} p i) s read d =
     let two : encode_utf8_all (backslash ∷ c ∷ w) ≡ backslash ∷ c ∷ encode_utf8_all w =
-      ap₂ (λ (x y : List ℕ). x ++ (y ++ encode_utf8_all w)) (encode_ascii backslash (omega arith)) (encode_ascii c (escape_small c p)) in
+    ap₂ (λ (x y : List ℕ). x ++ (y ++ encode_utf8_all w)) (encode_ascii backslash (omega arith)) (encode_ascii c (escape_small c p)) in
     let q = pass_escape c (encode_utf8_all w) read (subst (λ (xs : List ℕ). Reads xs read) two d) in
     let r = read_as i (scalars_right (backslash ∷ c ∷ []) w s) q.others q.reads in
     record {
@@ -149,9 +146,11 @@ unquoted u v e = cut u (encode_utf8_all v) (tail_same (e ∙ ap₂ (λ (x y : Li
   where
     tail_same : {a b : List ℕ} → quote ∷ a ≡ quote ∷ b → a ≡ b
     tail_same e = cc
+
     none : (x : ℕ) (xs : List ℕ) → [] ≡ xs ++ x ∷ [] → ⊥
     none x [] e = cc
     none x (y ∷ xs) e = cc
+
     cut : (u v : List ℕ) → u ++ quote ∷ [] ≡ v ++ quote ∷ [] → u ≡ v
     cut [] [] e = refl
     cut [] (y ∷ v) e = let t : [] ≡ v ++ quote ∷ [] = cc in absurd (none quote v t)
@@ -202,6 +201,7 @@ all_given names texts whole (comment {at = n} {w = w} {rest = rest} i d) front e
 all_given names texts whole (token {at = n} {k = k} {w = w} {rest = rest} i d) front e a s (then_word x ws) =
     let long : length (front ++ encode_utf8_all w) ≡ n + width w = omega (arith, a, length-append front (encode_utf8_all w)) in
     let split : whole ≡ front ++ (encode_utf8_all w ++ encode_utf8_all rest) = e ∙ ap (λ (x : List ℕ). front ++ x) (encodes-append w rest) in
-    let slice : take ((n + width w) - n) (drop n whole) ≡ encode_utf8_all w = slice_is whole front (encode_utf8_all w) (encode_utf8_all rest) n (width w) split a refl in
-    (word_given (setting names texts whole) x w rest slice (scalars_left w rest s) i,
-    all_given names texts whole d (front ++ encode_utf8_all w) (front_on whole front (encode_utf8_all w) (encode_utf8_all rest) split) (sym long) (scalars_right w rest s) ws)
+    let slice : take ((n + width w) - n) (drop n whole) ≡ encode_utf8_all w = slice_is whole front (encode_utf8_all w) (encode_utf8_all rest) n (width w) split a refl in (
+      word_given (setting names texts whole) x w rest slice (scalars_left w rest s) i,
+      all_given names texts whole d (front ++ encode_utf8_all w) (front_on whole front (encode_utf8_all w) (encode_utf8_all rest) split) (sym long) (scalars_right w rest s) ws,
+    )

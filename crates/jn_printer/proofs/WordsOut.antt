@@ -1,14 +1,12 @@
 -- What is written word by word are the words of its bytes; words that are alike have the same names, texts and masks.
-use Rattle.std.proofs.Common.{◌≡◌, ℕ, suc, ◌+◌, ◌-◌, ◌<◌, ◌≤◌, Bool, true, false, not, ◌&&◌, List, [], ◌∷◌, ◌++◌, map, filter_map, length, take, drop, Option, Some, None, encode_utf8, encode_utf8_all, refl, sym, ap, ap₂, subst, ◌∙◌, append_assoc, append-nil, length-append, arith}
+use Rattle.std.proofs.Common.{◌≡◌, ℕ, suc, ◌+◌, ◌-◌, ◌<◌, Bool, true, false, ◌&&◌, List, [], ◌∷◌, ◌++◌, map, filter_map, length, take, drop, Option, None, encode_utf8, encode_utf8_all, refl, sym, ap, ap₂, subst, ◌∙◌, append_assoc, append-nil, length-append, arith}
 use Rattle.std.proofs.Math.Seq.{take-append_seam, drop-append_seam}
 use Rattle.std.proofs.lemmas.Str.{encodes-append, encode_ascii}
-use Rattle.std.proofs.lemmas.List.{map-append}
 use Rattle.std.proofs.lemmas.Bool.Decides.{nat_tests}
 use Rattle.std.specs.Str.{all_scalars}
 use Rattle.std.specs.List.{cons_option}
 use Rattle.jn_base.specs.declared.tree.Text.{Text}
 use Rattle.jn_base.specs.declared.token.Token.{Token}
-use Rattle.jn_base.specs.declared.token.TokenKind.{TokenKind}
 use Rattle.jn_base.specs.declared.word.Mark.{Mark}
 use Rattle.jn_base.specs.declared.word.Mark.TheVariants as mark_
 use Rattle.jn_base.specs.declared.word.Word.{Word}
@@ -17,13 +15,12 @@ use Rattle.jn_base.specs.declared.word.Lexeme.{Lexeme}
 use Rattle.jn_base.specs.Places.{place_of}
 use Rattle.jn_base.specs.Tokens.{is_blank, width, Lexes, at_end, blank, token}
 use Rattle.jn_base.specs.Tokens as Tokens
-use Rattle.jn_base.specs.Words.{text_of, lexeme, IsWord, AreWords, no_word, then_word, name_number, text_number}
+use Rattle.jn_base.specs.Words.{lexeme, IsWord, AreWords, no_word, then_word, name_number, text_number}
 use Rattle.jn_base.specs.Parts.{Part, lexeme_of}
 use Rattle.jn_base.specs.Spelling.{mask_then, masks_in}
-use Rattle.jn_printer.proofs.Written.{Setting, Piece, Written, done, is_loose, is_backslash, Alike, nothing, same_word, same_mask, more_left, more_right}
-use Rattle.jn_printer.proofs.Written as Written
+use Rattle.jn_printer.proofs.Written.{Setting, Written, done, is_loose, is_backslash, Alike, nothing, same_word, same_mask, more_left, more_right}
 use Rattle.jn_printer.proofs.Chars.{small_scalar, scalars_append}
-use Rattle.jn_printer.proofs.Tokens.{IsPiece, piece_is}
+use Rattle.jn_printer.proofs.Tokens.{piece_is}
 
 -- the slice of a token
 pub slice_is : (whole front w rest : List ℕ) (n m : ℕ) → whole ≡ front ++ (w ++ rest) → n ≡ length front → m ≡ length w → take ((n + m) - n) (drop n whole) ≡ w

@@ -1,5 +1,5 @@
 -- How a text is written word by word: its words stand where its bytes do, and no word melts into what follows.
-use Rattle.std.proofs.Common.{◌≡◌, ℕ, suc, ◌+◌, ◌≤◌, Bool, true, false, not, ◌||◌, ◌==◌, List, [], ◌∷◌, ◌++◌, length, Option, Some, None, ℤ, pos, codes, slice_get, encode_utf8_all, refl, sym, ap, subst, ◌∙◌, append_assoc, append-nil, length-append, arith}
+use Rattle.std.proofs.Common.{◌≡◌, ℕ, suc, ◌+◌, ◌≤◌, Bool, true, false, not, ◌||◌, ◌==◌, List, [], ◌∷◌, ◌++◌, length, Some, None, ℤ, pos, slice_get, encode_utf8_all, refl, sym, subst, append_assoc, length-append, arith}
 use Rattle.std.specs.Str.{all_scalars}
 use Rattle.std.specs.Fmt.{signed_decimal}
 use Rattle.std.specs.List.{AllPass}
@@ -12,7 +12,7 @@ use Rattle.jn_base.specs.declared.word.Mark.{Mark}
 use Rattle.jn_base.specs.declared.word.Mark.TheVariants as mark
 use Rattle.jn_base.specs.declared.word.Word.{Word}
 use Rattle.jn_base.specs.declared.word.Word.TheVariants as word
-use Rattle.jn_base.specs.Tokens.{quote, line_feed, carriage_return, is_blank, begins_name, continues_name, is_keyword, greatest_number}
+use Rattle.jn_base.specs.Tokens.{quote, carriage_return, is_blank, begins_name, continues_name, is_keyword, greatest_number}
 use Rattle.jn_base.specs.Words.{keyword_text, mark_text, text}
 use Rattle.jn_base.specs.Parts.{Part, Role, Plain, Atom, part, atom, key, name}
 use Rattle.jn_base.specs.Parts
