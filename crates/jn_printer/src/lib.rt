@@ -7,6 +7,7 @@
 
 ghost use Rattle.std.specs.Prelude.{◌≡◌, IfOk};
 ghost use Rattle.jn_printer.specs.DeclText.{program_text};
+ghost use Rattle.jn_printer.specs.WayBack.{WayBack};
 
 mod decls;
 pub mod examples;
@@ -27,7 +28,9 @@ use std::alloc::{AllocError, Global};
 /// A name or a text that the program has not prints nothing, and a number below zero, which no source
 /// has, is printed with its sign.
 pub fn print_program(alloc: Global, p: &Program) -> Result<Vec<u8>, AllocError>
-    ensures { IfOk result (λ r. r.items ≡ program_text p.now) }
+    ensures text { IfOk result (λ r. r.items ≡ program_text p.now) }
+    // Of a program within the limits it is a source, the same program but for places, and within the limits.
+    ensures back { IfOk result (λ r. WayBack p.now r.items) }
 {
     let names = p.names.as_slice();
     let texts = p.texts.as_slice();
