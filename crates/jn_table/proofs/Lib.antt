@@ -9,7 +9,12 @@ pub mod FlatExact
 pub mod Picked
 pub mod Members
 pub mod Orders
+pub mod Sides
+pub mod Sorted
+pub mod Before
+pub mod NameOrders
+pub mod Shifts
+pub mod Fronts
 pub mod DepthSteps
 pub mod Universes
-pub mod Sorted
 pub mod Shown

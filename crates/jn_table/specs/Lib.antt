@@ -4,6 +4,7 @@ pub mod Level
 pub mod Exact
 pub mod Children
 pub mod Order
-pub mod Depths
 pub mod Rows
+pub mod Nodes
+pub mod Depths
 pub mod Tables

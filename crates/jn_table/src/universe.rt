@@ -1,5 +1,6 @@
 ghost use Rattle.std.specs.Prelude.{IfOk};
 ghost use Rattle.jn_table.specs.Depths.{IsUniverse};
+ghost use Rattle.jn_table.specs.Rows.{IsNamed};
 
 use crate::depths::{Found, depths};
 use crate::entry::entries;
@@ -7,8 +8,9 @@ use crate::order::name_order;
 use jn_base::tree::Program;
 use std::alloc::{AllocError, Global};
 
-/// The depths of a program's universe with the supers of each path, or one path more than there may be.
+/// All paths of a program's universe with the direct supers of each, or the 4,097th path in class order.
 pub fn universe_of(alloc: Global, program: &Program) -> Result<Found, AllocError>
+    requires { IsNamed program.now }
     ensures { IfOk result (λ found. IsUniverse program.now found) }
 {
     let entries = entries(alloc, program)?;
