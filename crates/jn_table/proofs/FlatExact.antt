@@ -28,14 +28,14 @@ stands_under p (C ∷ P) d h =
     let u = under_inside (stands_under p P h.0 h.1) h.3 in
     subst (λ (D : Name). Under p.decls [] (D ∷ P) d) h.2 u
 
-in_map : {X : Type 0} (f : X → Name) (xs : List X) (x : X) (D : Name) → Contains xs x → f x ≡ D → Contains (map f xs) D
+pub in_map : {X : Type 0} (f : X → Name) (xs : List X) (x : X) (D : Name) → Contains xs x → f x ≡ D → Contains (map f xs) D
 in_map f (y ∷ ys) x D (zero, l, e) is = (0, omega arith, ap f e ∙ is)
 in_map f (y ∷ ys) x D (suc k, l, e) is =
     let c = in_map f ys x D (k, omega (arith, l), e) is in
     (suc c.0, omega (arith, c.1), c.2)
 in_map f [] x D c is = absurd (omega (arith, c.1))
 
-map_in : {X : Type 0} (f : X → Name) (xs : List X) (D : Name) → Contains (map f xs) D → (x : X) × Contains xs x × (f x ≡ D)
+pub map_in : {X : Type 0} (f : X → Name) (xs : List X) (D : Name) → Contains (map f xs) D → (x : X) × Contains xs x × (f x ≡ D)
 map_in f [] D c = absurd (omega (arith, c.1))
 map_in f (y ∷ ys) D (zero, l, e) = (y, (0, omega arith, refl), e)
 map_in f (y ∷ ys) D (suc k, l, e) =

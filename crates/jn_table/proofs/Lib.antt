@@ -9,6 +9,7 @@ pub mod FlatExact
 pub mod Picked
 pub mod Members
 pub mod Orders
+pub mod Ups
 pub mod Sides
 pub mod Sorted
 pub mod Before
@@ -16,5 +17,7 @@ pub mod NameOrders
 pub mod Shifts
 pub mod Fronts
 pub mod DepthSteps
-pub mod Universes
 pub mod Shown
+pub mod Owns
+pub mod Mixed
+pub mod RowSteps

@@ -24,18 +24,18 @@ use Rattle.jn_table.specs.declared.level.Level.{Level}
 use Rattle.jn_table.proofs.DirectNext.{next_direct}
 
 -- supers are chains of direct supers
-sup_chain : (p : Program) (R S : Path) → Chain (Direct p) R S → Sup p R S
+pub sup_chain : (p : Program) (R S : Path) → Chain (Direct p) R S → Sup p R S
 sup_chain p R S here = itself
 sup_chain p R S (step {b = T} d c) = above d (sup_chain p T S c)
 
-chain_sup : (p : Program) (R S : Path) → Sup p R S → Chain (Direct p) R S
+pub chain_sup : (p : Program) (R S : Path) → Sup p R S → Chain (Direct p) R S
 chain_sup p R S itself = here
 chain_sup p R S (above {S = T} d s) = step d (chain_sup p T S s)
 
-cons_head : (C D : Name) (P Q : Path) → ◌≡◌ {A = Path} (C ∷ P) (D ∷ Q) → C ≡ D
+pub cons_head : (C D : Name) (P Q : Path) → ◌≡◌ {A = Path} (C ∷ P) (D ∷ Q) → C ≡ D
 cons_head C D P Q e = cc
 
-cons_tail : (C D : Name) (P Q : Path) → ◌≡◌ {A = Path} (C ∷ P) (D ∷ Q) → P ≡ Q
+pub cons_tail : (C D : Name) (P Q : Path) → ◌≡◌ {A = Path} (C ∷ P) (D ∷ Q) → P ≡ Q
 cons_tail C D P Q e = cc
 
 module _ (p : Program) (n : ℕ) (level : Level) (children : List Child) (is : IsLevel p n level) (are : AreChildren p level children)

@@ -18,17 +18,15 @@ mod level;
 mod lookup;
 mod nodes;
 mod order;
+mod own;
+mod row;
 mod spot;
 mod table;
 mod universe;
 
 pub use class::{ClassId, Row, RowMember};
-pub use depths::Found;
 pub use fault::TableFault;
-pub use nodes::Nodes;
-pub use spot::Spot;
 pub use table::Table;
-pub use universe::universe_of;
 
 #[cfg(test)]
 mod tests;
