@@ -13,7 +13,7 @@ use Rattle.jn_reach.proofs.Searches.{same_some}
 use Rattle.jn_base.specs.declared.tree.Name.{Name}
 use Rattle.jn_base.specs.declared.tree.Program.{Program}
 use Rattle.jn_base.specs.Paths.{Path}
-use Rattle.jn_base.specs.Supers.{Direct, Member}
+use Rattle.jn_base.specs.Supers.{Direct}
 use Rattle.jn_base.specs.Universe.{IsNamespace, InUniverse}
 use Rattle.jn_base.specs.ClassOrder.{class_cmp}
 use Rattle.jn_base.specs.TableRules.{IsOver}
@@ -32,7 +32,7 @@ use Rattle.jn_table.proofs.Members.{picked_children, all_sound}
 use Rattle.jn_table.proofs.Orders.{ordered}
 use Rattle.jn_table.proofs.RootLevel.{empty_length}
 use Rattle.jn_table.proofs.Shifts.{numbers_joined, level_fits}
-use Rattle.jn_table.proofs.Fronts.{FrontPaths, LevelPaths, front_joined, path_after, take_at, child_path, paths_of, next_paths, in_namespace}
+use Rattle.jn_table.proofs.Fronts.{FrontPaths, front_joined, path_after, take_at, child_path, paths_of, next_paths, in_namespace}
 
 -- what is known when a depth is reached
 pub record Reaches (p : Program) (nodes : Nodes) (level : Level) : Type 0 where

@@ -82,8 +82,13 @@ module _ (p : Program) (es : List Entry) (f : IsFlattened p es) where
       (e.0, e.1, e.2.path_is ∙ ap (λ (D : Name). D ∷ P) s.1, (P, e.2))
 
   pub flat_exact : IsFlat p es
-  flat_exact = record { declared = λ P C. (declared_to P C, declared_from P C); extends = λ P C D. (extends_to P C D, extends_from P C D);
-    kinds = λ R k. (kinds_to R k, kinds_from R k); methods = λ R m. (methods_to R m, methods_from R m); fields = λ R n. (fields_to R n, fields_from R n) } where
+  flat_exact = record {
+    declared = λ P C. (declared_to P C, declared_from P C);
+    extends = λ P C D. (extends_to P C D, extends_from P C D);
+    kinds = λ R k. (kinds_to R k, kinds_from R k);
+    methods = λ R m. (methods_to R m, methods_from R m);
+    fields = λ R n. (fields_to R n, fields_from R n);
+  } where
     declared_to : (P : Path) (C : Name) → DeclaresIn es P C → Declared p (C ∷ P)
     declared_to P C a =
         let h = of_decl a.1 P (a.0, a.2, a.3) a.4.1 in

@@ -1,16 +1,15 @@
 -- The paths of the first depths, and the one that has so many before it.
-use Rattle.std.proofs.Common.{◌≡◌, ◌<◌, ◌≤◌, ◌+◌, ℕ, List, [], ◌∷◌, ◌++◌, length, slice_get, Some, get_or, take, map, arith, sym, ◌∙◌, ap, subst, refl, zero, suc, inl, inr, ◌⊎◌, Contains, ◌↔◌, length-append}
+use Rattle.std.proofs.Common.{◌≡◌, ◌<◌, ◌≤◌, ◌+◌, ℕ, List, [], ◌∷◌, ◌++◌, length, slice_get, Some, get_or, take, map, arith, sym, ◌∙◌, ap, subst, refl, zero, suc, inl, inr, ◌⊎◌, Contains}
 use Rattle.std.specs.declared.cmp.Ordering.{Ordering}
 use Rattle.std.specs.declared.cmp.Ordering.TheVariants.{Less}
 use Rattle.std.proofs.lemmas.Bool.{cases_lt}
-use Rattle.std.proofs.lemmas.Option.{slice_get_within, slice_get_read, slice_get-get_or, get_or_from_slice_get}
-use Rattle.jn_reach.specs.Each.{Each, none, more}
-use Rattle.jn_reach.proofs.Eachs.{Each-back, Each-length}
+use Rattle.std.proofs.lemmas.Option.{slice_get_within, slice_get_read, slice_get-get_or}
+use Rattle.jn_reach.specs.Each.{none, more}
+use Rattle.jn_reach.proofs.Eachs.{Each-back}
 use Rattle.jn_reach.proofs.Searches.{same_some}
 use Rattle.jn_base.specs.declared.tree.Name.{Name}
 use Rattle.jn_base.specs.declared.tree.Program.{Program}
 use Rattle.jn_base.specs.Paths.{Path}
-use Rattle.jn_base.specs.Supers.{Member}
 use Rattle.jn_base.specs.Universe.{IsNamespace, InUniverse}
 use Rattle.jn_base.specs.ClassOrder.{class_cmp, Before}
 use Rattle.jn_base.specs.TableRules.{IsPathAfter}
@@ -51,7 +50,7 @@ pub in_namespace : (p : Program) (P : Path) → InUniverse p P → IsNamespace p
 in_namespace p [] u = absurd u
 in_namespace p (C ∷ P) u = u
 
-joined_order : {A : Type 0} (c : A → A → Ordering) (xs ys : List A) → InOrder c xs → InOrder c ys
+pub joined_order : {A : Type 0} (c : A → A → Ordering) (xs ys : List A) → InOrder c xs → InOrder c ys
     → ((i j : ℕ) (x y : A) → slice_get xs i ≡ Some x → slice_get ys j ≡ Some y → c x y ≡ Less) → InOrder c (xs ++ ys)
 joined_order {A} c xs ys ox oy cross = record { by = λ i j x y l a b. by_sides i j x y l (side xs ys i x a) (side xs ys j y b) } where
   by_sides : (i j : ℕ) (x y : A) → i < j → Side xs ys i x → Side xs ys j y → c x y ≡ Less

@@ -18,6 +18,10 @@ pub mod Shifts
 pub mod Fronts
 pub mod DepthSteps
 pub mod Shown
+pub mod Maps
 pub mod Owns
 pub mod Mixed
 pub mod RowSteps
+pub mod RowRight
+pub mod UniverseRight
+pub mod Fillings

@@ -1,5 +1,5 @@
 -- What is picked are the members of the paths, each once.
-use Rattle.std.proofs.Common.{◌≡◌, ◌<◌, ◌+◌, ℕ, List, [], ◌∷◌, ◌++◌, length, slice_get, Some, arith, sym, ◌∙◌, ap, subst, refl, zero, suc, inl, inr, ◌⊎◌}
+use Rattle.std.proofs.Common.{◌≡◌, ◌<◌, ◌+◌, ℕ, List, ◌∷◌, length, slice_get, Some, arith, sym, ◌∙◌, ap, subst, refl, zero, suc, inl, inr, ◌⊎◌}
 use Rattle.std.proofs.lemmas.Bool.{cases_lt}
 use Rattle.std.proofs.lemmas.Option.{slice_get_within, slice_get_cases}
 use Rattle.jn_reach.specs.Graph.{HasEdge}

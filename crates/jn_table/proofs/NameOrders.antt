@@ -1,11 +1,9 @@
 -- The names in order are in the order of their bytes.
-use Rattle.std.proofs.Common.{◌≡◌, ◌<◌, ℕ, List, [], ◌∷◌, length, slice_get, Some, get_or, arith, sym, ◌∙◌, ap, subst, refl, Contains}
+use Rattle.std.proofs.Common.{◌≡◌, ◌<◌, ℕ, List, [], ◌∷◌, length, slice_get, Some, sym, ◌∙◌, ap, refl, Contains}
 use Rattle.std.specs.declared.cmp.Ordering.{Ordering}
 use Rattle.std.specs.declared.cmp.Ordering.TheVariants.{Less, Equal, Greater}
 use Rattle.std.specs.Ordering.{nat_cmp, ordering_then}
 use Rattle.std.specs.Cmp.{nat_cmp_is}
-use Rattle.std.specs.Cmp.Lexicographic.{slice_cmp}
-use Rattle.std.specs.List.Sorted.{IsStrictlySortedBy}
 use Rattle.std.proofs.lemmas.Map.Lookups.{exact_bytes}
 use Rattle.std.proofs.lemmas.Option.{slice_get-get_or, slice_get_within, get_or_from_slice_get}
 use Rattle.std.proofs.lemmas.List.Elements.{All-head}
@@ -16,7 +14,7 @@ use Rattle.jn_base.specs.ClassOrder.{bytes_of, name_bytes, name_cmp, HasDistinct
 use Rattle.jn_base.specs.Paths.{Path}
 use Rattle.jn_table.specs.Order.{order_cmp, IsOrderOf}
 use Rattle.jn_table.specs.Rows.{AreNames}
-use Rattle.jn_table.proofs.Sorted.{InOrder, in_order, sorted}
+use Rattle.jn_table.proofs.Sorted.{in_order, sorted}
 
 nameless : Text
 nameless = record { bytes = [] }

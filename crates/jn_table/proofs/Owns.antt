@@ -1,5 +1,5 @@
 -- How loops gather what declarations at paths have.
-use Rattle.std.proofs.Common.{◌≡◌, ◌<◌, ◌≤◌, ◌+◌, ℕ, List, [], length, Contains, slice_get, Some, arith, sym, subst, refl, take, get_or, ◌↔◌}
+use Rattle.std.proofs.Common.{◌≡◌, ◌<◌, ◌≤◌, ◌+◌, ℕ, List, [], length, Contains, slice_get, sym, subst, refl, take, get_or, ◌↔◌}
 use Rattle.std.specs.List.{Any}
 use Rattle.std.specs.declared.vec.Vec.{Vec}
 use Rattle.std.specs.declared.alloc.Global.{Global}

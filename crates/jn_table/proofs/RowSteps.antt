@@ -1,5 +1,5 @@
 -- How loops make the rows.
-use Rattle.std.proofs.Common.{◌≡◌, ◌<◌, ◌≤◌, ◌+◌, ◌↔◌, ℕ, List, [], ◌∷◌, ◌++◌, length, slice_get, Some, None, Option, get_or, arith, sym, ◌∙◌, ap, subst, refl, inl, inr, ◌⊎◌, Contains, length-append, reverse}
+use Rattle.std.proofs.Common.{◌≡◌, ◌<◌, ◌+◌, ◌↔◌, ℕ, List, [], ◌∷◌, ◌++◌, length, slice_get, Some, arith, sym, ◌∙◌, ap, subst, refl, inl, inr, ◌⊎◌, Contains, length-append, reverse}
 use Rattle.std.proofs.lemmas.Bool.{cases_lt}
 use Rattle.std.proofs.lemmas.Option.{slice_get_within}
 use Rattle.jn_reach.proofs.Rows.{slice_get-push_cases}

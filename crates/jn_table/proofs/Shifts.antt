@@ -1,16 +1,14 @@
 -- The nodes of some depths and of the next one.
-use Rattle.std.proofs.Common.{◌≡◌, ◌<◌, ◌≤◌, ◌+◌, ℕ, List, [], ◌∷◌, ◌++◌, length, slice_get, Some, get_or, take, map, arith, sym, ◌∙◌, ap, subst, refl, zero, suc, inl, inr, ◌⊎◌, All, Contains, append_assoc, length-append}
+use Rattle.std.proofs.Common.{◌≡◌, ◌<◌, ◌≤◌, ◌+◌, ℕ, List, [], ◌∷◌, ◌++◌, length, slice_get, Some, get_or, take, map, arith, sym, ◌∙◌, ap, subst, refl, zero, suc, All, Contains, append_assoc, length-append}
 use Rattle.std.specs.declared.vec.Vec.{Vec}
 use Rattle.std.specs.declared.alloc.Global.{Global}
 use Rattle.std.specs.List.Sorted.{IsStrictlyIncreasing}
 use Rattle.std.proofs.lemmas.List.{append-nil}
 use Rattle.std.proofs.lemmas.List.Elements.{All-append, All-contains, All-weaker, Contains-get_or}
-use Rattle.std.proofs.lemmas.Option.{slice_get_within, slice_get_read, slice_get-get_or, get_or_from_slice_get}
-use Rattle.jn_reach.specs.Each.{Each}
+use Rattle.std.proofs.lemmas.Option.{slice_get_within, slice_get-get_or, get_or_from_slice_get}
 use Rattle.jn_reach.specs.Graph.{Graph, HasEdge, InRange}
 use Rattle.jn_reach.specs.Numbers.{Numbers}
 use Rattle.jn_reach.proofs.Eachs.{Each-at, Each-back, Each-length, Each-more, Each-none}
-use Rattle.jn_reach.proofs.Searches.{same_some}
 use Rattle.jn_table.specs.Level.{IsShaped}
 use Rattle.jn_table.specs.Nodes.{IsShifted, AddsShifted, AddsLevel, FitNodes}
 use Rattle.jn_table.specs.declared.level.Level.{Level}
@@ -77,12 +75,15 @@ module _ {A : Type 0} (E : A → A → Type 0) (xs ys : List A) (g h after : Gra
   complete_by : (i : ℕ) (x y : A) → E x y → Side xs ys i x → (j : ℕ) × (slice_get (xs ++ ys) j ≡ Some y) × HasEdge after i j
   complete_by i x y h (front f) =
       let c = n.complete i x y f h in
-      let e = c.2 in
-      (c.0, left xs ys c.0 y c.1, record {
-        row = e.row;
-        at = subst (λ (r : Graph). slice_get r i ≡ Some e.row) (sym a.is) (left g a.added i e.row e.at);
-        in_row = e.in_row;
-      })
+      let e = c.2 in (
+        c.0,
+        left xs ys c.0 y c.1,
+        record {
+          row = e.row;
+          at = subst (λ (r : Graph). slice_get r i ≡ Some e.row) (sym a.is) (left g a.added i e.row e.at);
+          in_row = e.in_row;
+        },
+      )
   complete_by i x y h (back k p f) =
       let c = m.complete k x y f h in
       let e = c.2 in

@@ -10,4 +10,6 @@ pub mod Rows
 pub mod Nodes
 pub mod Depths
 pub mod Universes
+pub mod Answers
+pub mod Fills
 pub mod Tables

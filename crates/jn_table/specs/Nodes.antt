@@ -1,16 +1,14 @@
 -- The paths of a universe as the nodes of a graph, whose edges lead to direct supers.
-use Rattle.std.specs.Prelude.{◌≡◌, ◌≤◌, ◌+◌, ℕ, List, ◌++◌, All, length, slice_get, Some, map}
+use Rattle.std.specs.Prelude.{◌≡◌, ◌≤◌, ◌+◌, ℕ, ◌++◌, All, length, map}
 use Rattle.std.specs.declared.vec.Vec.{Vec}
 use Rattle.std.specs.declared.alloc.Global.{Global}
-use Rattle.std.specs.List.Sorted.{IsStrictlySortedBy, IsStrictlyIncreasing}
+use Rattle.std.specs.List.Sorted.{IsStrictlyIncreasing}
 use Rattle.jn_reach.specs.Each.{Each}
 use Rattle.jn_reach.specs.Graph.{Graph, HasEdge, InRange}
 use Rattle.jn_reach.specs.Numbers.{Numbers}
 use Rattle.jn_base.specs.declared.tree.Program.{Program}
-use Rattle.jn_base.specs.Paths.{Path}
 use Rattle.jn_base.specs.Supers.{Direct}
 use Rattle.jn_base.specs.Universe.{InUniverse}
-use Rattle.jn_base.specs.ClassOrder.{class_cmp}
 use Rattle.jn_table.specs.Rows.{ArePaths}
 use Rattle.jn_table.specs.declared.level.Level.{Level}
 use Rattle.jn_table.specs.declared.nodes.Nodes.{Nodes}

@@ -1,10 +1,10 @@
 -- The rows of a universe's paths, by their numbers.
-use Rattle.std.specs.Prelude.{◌≡◌, ◌<◌, ◌↔◌, ◌⊎◌, ℕ, List, [], ◌∷◌, Any, All, Contains, Option, Some, None, length, map, slice_get}
+use Rattle.std.specs.Prelude.{◌≡◌, ◌<◌, ◌↔◌, ◌⊎◌, ℕ, List, ◌∷◌, Any, All, Contains, Option, Some, None, length, map, slice_get}
 use Rattle.std.specs.declared.vec.Vec.{Vec}
 use Rattle.std.specs.declared.alloc.Global.{Global}
 use Rattle.std.specs.List.Sorted.{IsStrictlySortedBy, IsStrictlyIncreasing}
 use Rattle.jn_reach.specs.Chain.{Steps}
-use Rattle.jn_reach.specs.Graph.{Graph, HasEdge, InRange, IsClosure}
+use Rattle.jn_reach.specs.Graph.{HasEdge, InRange, IsClosure}
 use Rattle.jn_base.specs.declared.tree.Name.{Name}
 use Rattle.jn_base.specs.declared.tree.Text.{Text}
 use Rattle.jn_base.specs.declared.tree.Kind.{Kind}

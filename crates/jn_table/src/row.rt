@@ -94,11 +94,7 @@ fn row_of(
 }
 
 /// The rows of all paths.
-pub fn rows_of(
-    alloc: Global,
-    texts: &[Text],
-    universe: &Universe,
-) -> Result<Vec<Row>, AllocError>
+pub fn rows_of(alloc: Global, texts: &[Text], universe: &Universe) -> Result<Vec<Row>, AllocError>
     requires fits { FitUniverse universe.now }
     ensures { IfOk result (λ rows. RowsOf texts.now universe.now (length universe.now.nodes.paths.items) rows.items) }
 {

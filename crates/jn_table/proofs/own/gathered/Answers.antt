@@ -1,4 +1,3 @@
-use Rattle.std.proofs.Common.{[]}
 use Rattle.jn_table.proofs.Owns.{gathered_none, gathered_more, gathered_all}
 use Rattle.jn_table.proofs.own.gathered.Goals as goal
 

@@ -1,4 +1,3 @@
-use Rattle.std.proofs.Common.{[]}
 use Rattle.jn_reach.proofs.Searches.{not_when}
 use Rattle.jn_table.proofs.Owns.{own_none, own_more, own_skipped, own_all}
 use Rattle.jn_table.proofs.own.names_at.Goals as goal

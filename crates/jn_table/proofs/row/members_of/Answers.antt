@@ -1,4 +1,4 @@
-use Rattle.std.proofs.Common.{◌≡◌, Some, slice_get, refl, arith}
+use Rattle.std.proofs.Common.{refl, arith}
 use Rattle.std.proofs.lemmas.Option.{slice_get_read}
 use Rattle.jn_table.proofs.RowSteps.{members_none, members_push, members_skip, members_all, at_is}
 use Rattle.jn_table.proofs.row.members_of.Goals as goal

@@ -1,4 +1,4 @@
-use Rattle.std.proofs.Common.{◌≡◌, ◌<◌, length, refl, arith, ap}
+use Rattle.std.proofs.Common.{◌<◌, length, refl, arith}
 use Rattle.std.proofs.lemmas.Option.{slice_get_read}
 use Rattle.jn_table.proofs.RowSteps.{gathered_order, shown_is}
 use Rattle.jn_table.proofs.row.row_of.Goals as goal

@@ -1,4 +1,4 @@
-use Rattle.std.proofs.Common.{◌<◌, ◌≡◌, Some, slice_get, length, arith, refl}
+use Rattle.std.proofs.Common.{refl}
 use Rattle.std.proofs.lemmas.Option.{slice_get_read}
 use Rattle.jn_reach.proofs.Searches.{not_when}
 use Rattle.jn_table.proofs.Mixed.{mixed_here, mixed_more, mixed_none}

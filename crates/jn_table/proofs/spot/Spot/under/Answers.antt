@@ -1,4 +1,3 @@
-use Rattle.std.proofs.Common.{◌∷◌, reverse}
 use Rattle.jn_table.proofs.Ups.{not_under}
 use Rattle.jn_table.proofs.spot.Spot.under.Goals as goal
 
