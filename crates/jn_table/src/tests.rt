@@ -207,3 +207,38 @@ fn universes_of_many_paths(rt: HostRuntime) -> Result<(), Fail> {
     }
     Ok(())
 }
+
+/// `package p0000 { }`, and packages that each extend the one before, with `inner` in each.
+fn chain(alloc: Global, count: u16, inner: &[Shape]) -> Result<Program, Fail> {
+    let mut names = texts(alloc, &["A", "B", "C"])?;
+    let mut decls = Items::new(alloc);
+    for number in 0..count {
+        let name = format!(in alloc; "p{number:04}")?;
+        names.push(Text {
+            bytes: Items::from_slice(alloc, name.as_bytes())?,
+        })?;
+        let own = u32::from(number) + 3;
+        let mut one = with_inner(alloc, &(PACKAGE, own, &[]), inner)?;
+        if number > 0 {
+            one.extends.push(named(own - 1))?;
+        }
+        decls.push(one)?;
+    }
+    Ok(Program {
+        names,
+        texts: Items::new(alloc),
+        decls,
+    })
+}
+
+/// Three classes, each of which extends the one before.
+const STEPS: [Shape; 3] = [(CLASS, 0, &[]), (CLASS, 1, &[0]), (CLASS, 2, &[1])];
+
+#[test]
+fn families_in_a_chain(rt: HostRuntime) -> Result<(), Fail> {
+    let families = chain(rt.alloc(), 64, &STEPS)?;
+    let (told, known, _) = answer(rt.alloc(), &families)?;
+    assert_eq!(rt; told, "Ok");
+    assert_eq!(rt; known, 256);
+    Ok(())
+}
