@@ -1,3 +1,5 @@
 pub mod Writing
 pub mod Words
 pub mod Pool
+pub mod Needed
+pub mod Turns

@@ -4,3 +4,6 @@ pub mod Writes
 pub mod Needs
 pub mod Acts
 pub mod Sizes
+pub mod Does
+pub mod Calls
+pub mod Wants

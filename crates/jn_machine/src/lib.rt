@@ -1,12 +1,16 @@
 //! The machine that runs images, in memory that was taken before: frames, operands, cells and output.
 #![tactic(auto)]
 
+mod call;
+mod cells;
+mod did;
 mod entries;
 mod frame;
 mod frames;
 mod heap;
 mod locals;
 mod numbers;
+mod obey;
 mod object;
 mod operands;
 mod output;
