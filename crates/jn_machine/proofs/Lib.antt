@@ -3,3 +3,4 @@ pub mod Words
 pub mod Pool
 pub mod Needed
 pub mod Turns
+pub mod Objects

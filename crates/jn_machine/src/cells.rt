@@ -32,7 +32,7 @@ pub fn make(image: &Image, heap: &mut Heap, f: &mut Frame) -> Did
     }
     let slots = image.groups.as_slice()[group as usize].slots.len();
     let used = heap.used();
-    if heap.limit() < used + 1 + slots {
+    if heap.limit() - used <= slots {
         return Did::Arena;
     }
     heap.add(group as i64, slots);

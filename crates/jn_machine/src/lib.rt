@@ -15,3 +15,5 @@ mod object;
 mod operands;
 mod output;
 mod plain;
+mod turn;
+mod widths;
