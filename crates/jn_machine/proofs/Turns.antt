@@ -47,7 +47,7 @@ drop_same (suc n) (z ∷ vals) = drop_same n vals
 abbrev with_frames : List code.Frame → List ℤ → List ℕ → Next code.Machine code.Halt
 with_frames fs h out = On (record { frames = fs; heap = h; output = out })
 
-abbrev begun_with : ℕ → List ℤ → code.Frame
+abbrev pub begun_with : ℕ → List ℤ → code.Frame
 begun_with b vars = record { code = b; place = 0; vars = vars; vals = []; keeps = true }
 
 module _ (i : Image) (s : Sizes) (f : Frame) (b n : ℕ) (z : ℤ) where

@@ -31,6 +31,7 @@ IsHigh high c = c.stack ≤ high
 pub record Roomy (i : Image) (s : Sizes) : Type 0 where
   pub wide : All (IsWide s.wide) i.codes
   pub high : All (IsHigh s.high) i.codes
+  pub short : s.wide < 18446744073709551616
 
 -- there is room for a result in the latest frame that waits, where it is kept
 abbrev pub RoomBack : ℕ → Option ℤ → List Frame → Type 0

@@ -25,6 +25,7 @@ use jn_code::Image;
 fn begin(image: &Image, frames: &mut Frames, now: &mut Frame, b: u32, z: i64, args: usize) -> Turn
     requires code { (c : Code) → slice_get image.now.codes b ≡ Some c → args + length c.locals + 1 ≤ frames.old.wide }
     requires there { b < length image.now.codes }
+    requires short { frames.old.wide < 2 ^ 64 }
     requires has { args ≤ length now.old.vals.words }
     requires under { HasUnder now.old.keeps (record { limit = now.old.vals.limit; words = drop_args args now.old.vals.words }) }
     requires sized { Sized frames.old.wide frames.old.high now.old }
