@@ -2,5 +2,6 @@ pub mod Writing
 pub mod Words
 pub mod Pool
 pub mod Needed
-pub mod Turns
 pub mod Objects
+pub mod Turns
+pub mod Fetching
