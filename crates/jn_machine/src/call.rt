@@ -11,7 +11,7 @@ ghost use Rattle.jn_steps.specs.Frames.{machine_does};
 ghost use Rattle.jn_machine.specs.Acts.{frame_of};
 ghost use Rattle.jn_machine.specs.Needs.{Has, OnTop, IsClass};
 ghost use Rattle.jn_machine.specs.Sizes.{Sized, HasUnder, taken, drop_args, under};
-ghost use Rattle.jn_machine.specs.Does.{next_of};
+ghost use Rattle.jn_machine.specs.Does.{next_of, IsTurn};
 ghost use Rattle.jn_machine.specs.Calls.{HasArgs, IsView, HasReceiver, Roomy, RoomBack, SameSizes};
 
 use crate::did::Turn;
@@ -31,6 +31,7 @@ fn begin(image: &Image, frames: &mut Frames, now: &mut Frame, b: u32, z: i64, ar
     requires sized { Sized frames.old.wide frames.old.high now.old }
     requires place { now.old.place + 1 < 2 ^ 64 }
     ensures turns { (m : ℕ) (h : List ℤ) (out : List ℕ) → machine_does (rules image.now m) frames.old.limit (Enters b (z ∷ taken args now.old.vals.words []) (waits now.old.keeps (frame_of now.old) (under now.old.keeps z (drop_args args now.old.vals.words))) h) (map frame_of frames.old.waiting) out ≡ next_of image.now result now.new frames.new h out }
+    ensures line { IsTurn image.now result }
     ensures same { SameSizes frames.new frames.old }
     ensures sized { Sized frames.old.wide frames.old.high now.new }
 {
@@ -52,6 +53,7 @@ pub fn call(image: &Image, frames: &mut Frames, now: &mut Frame, s: u32) -> Turn
     requires sized { Sized frames.old.wide frames.old.high now.old }
     requires place { now.old.place + 1 < 2 ^ 64 }
     ensures turns { (m : ℕ) (h : List ℤ) (out : List ℕ) → machine_does (rules image.now m) frames.old.limit (obey image.now m (Instr.Call s) (frame_of now.old) h) (map frame_of frames.old.waiting) out ≡ next_of image.now result now.new frames.new h out }
+    ensures line { IsTurn image.now result }
     ensures same { SameSizes frames.new frames.old }
     ensures sized { Sized frames.old.wide frames.old.high now.new }
 {
@@ -81,6 +83,7 @@ pub fn call_at(image: &Image, frames: &mut Frames, now: &mut Frame, s: u32) -> T
     requires sized { Sized frames.old.wide frames.old.high now.old }
     requires place { now.old.place + 1 < 2 ^ 64 }
     ensures turns { (m : ℕ) (h : List ℤ) (out : List ℕ) → machine_does (rules image.now m) frames.old.limit (obey image.now m (Instr.Callat s) (frame_of now.old) h) (map frame_of frames.old.waiting) out ≡ next_of image.now result now.new frames.new h out }
+    ensures line { IsTurn image.now result }
     ensures same { SameSizes frames.new frames.old }
     ensures sized { Sized frames.old.wide frames.old.high now.new }
 {
@@ -109,6 +112,7 @@ pub fn construct(image: &Image, frames: &mut Frames, now: &mut Frame, s: u32) ->
     requires sized { Sized frames.old.wide frames.old.high now.old }
     requires place { now.old.place + 1 < 2 ^ 64 }
     ensures turns { (m : ℕ) (h : List ℤ) (out : List ℕ) → machine_does (rules image.now m) frames.old.limit (obey image.now m (Instr.Ctor s) (frame_of now.old) h) (map frame_of frames.old.waiting) out ≡ next_of image.now result now.new frames.new h out }
+    ensures line { IsTurn image.now result }
     ensures same { SameSizes frames.new frames.old }
     ensures sized { Sized frames.old.wide frames.old.high now.new }
 {
@@ -137,6 +141,7 @@ pub fn back(frames: &mut Frames, now: &mut Frame, v: Option<i64>) -> Turn
     requires room { RoomBack frames.old.high v frames.old.waiting }
     requires sized { Sized frames.old.wide frames.old.high now.old }
     ensures turns { (i : Image) (m : ℕ) (h : List ℤ) (out : List ℕ) → machine_does (rules i m) frames.old.limit (Leaves v h) (map frame_of frames.old.waiting) out ≡ next_of i result now.new frames.new h out }
+    ensures line { (i : Image) → IsTurn i result }
     ensures same { SameSizes frames.new frames.old }
     ensures sized { Sized frames.old.wide frames.old.high now.new }
 {
