@@ -5,3 +5,4 @@ pub mod Needed
 pub mod Objects
 pub mod Turns
 pub mod Fetching
+pub mod Runs

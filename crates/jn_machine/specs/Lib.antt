@@ -7,3 +7,5 @@ pub mod Sizes
 pub mod Does
 pub mod Calls
 pub mod Wants
+pub mod Machines
+pub mod Ends

@@ -9,11 +9,16 @@ mod frame;
 mod frames;
 mod heap;
 mod locals;
+mod machine;
 mod numbers;
 mod obey;
 mod object;
 mod operands;
 mod output;
 mod plain;
+mod run;
 mod turn;
 mod widths;
+
+pub use machine::Machine;
+pub use run::Halt;
