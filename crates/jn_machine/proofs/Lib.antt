@@ -6,3 +6,4 @@ pub mod Objects
 pub mod Turns
 pub mod Fetching
 pub mod Runs
+pub mod Sizing

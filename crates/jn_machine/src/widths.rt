@@ -13,12 +13,10 @@ pub fn widest(image: &Image) -> usize
     ensures all { All (IsWide result) image.now.codes }
     ensures most { result ≤ 255 }
 {
-    let mut wide = 0;
-    for code in image.codes.as_slice() {
-        let count = code.params.len() + code.locals.len();
-        if wide < count {
-            wide = count;
-        }
+    let codes = image.codes.as_slice();
+    let mut wide: usize = 0;
+    for code in codes {
+        wide = wide.max(code.params.len() + code.locals.len());
     }
     wide
 }
@@ -29,11 +27,10 @@ pub fn highest(image: &Image) -> usize
     ensures all { All (IsHigh result) image.now.codes }
     ensures most { result ≤ 4096 }
 {
-    let mut high = 0;
-    for code in image.codes.as_slice() {
-        if high < code.stack as usize {
-            high = code.stack as usize;
-        }
+    let codes = image.codes.as_slice();
+    let mut high: usize = 0;
+    for code in codes {
+        high = high.max(code.stack as usize);
     }
     high
 }
