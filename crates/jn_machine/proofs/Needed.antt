@@ -84,33 +84,35 @@ module _ (i : Image) (p : List Cell) where
     reaches s f c ks z w = record {
       class = λ r e. let u = seen z r w e in get_below i.classes r.view u.views.row u.views.is;
       cell = λ r row slot e q t.
-      let u = seen z r w e in
-      let same : row ≡ u.views.row = let v = u.views.is in cc in
-      let t' : slot_in u.views.row s ≡ Some slot = ap (λ (row : ClassRow). slot_in row s) (sym same) ∙ t in
-      let d = slot_there i r.view u.views.row s slot (row_is i r.view u.views.row (rows r.view u.views.row u.views.is)) t' in
-      let b = get_below p (r.cell + 1 + slot) _ (cell_is i m rows p (frame_of f) c ks h hp r u s slot d) in
-      let l = pairs_long (CellHolds i p) p h hp.cells in
-      omega arith;
+          let u = seen z r w e in
+          let same : row ≡ u.views.row = let v = u.views.is in cc in
+          let t' : slot_in u.views.row s ≡ Some slot = ap (λ (row : ClassRow). slot_in row s) (sym same) ∙ t in
+          let d = slot_there i r.view u.views.row s slot (row_is i r.view u.views.row (rows r.view u.views.row u.views.is)) t' in
+          let b = get_below p (r.cell + 1 + slot) _ (cell_is i m rows p (frame_of f) c ks h hp r u s slot d) in
+          let l = pairs_long (CellHolds i p) p h hp.cells in
+          omega arith;
     }
 
     has_group : (z : ℤ) → IsWord i p kind.Class z → HasGroup i z
     has_group z w = record {
       class = class_below i p z w;
       group = λ row n e q.
-      let a = numbered_is row.group n q in
-      let g = group_there i (class_in z) row (row_is i (class_in z) row (rows (class_in z) row e)) a.1 in
-      let b = get_below i.groups row.group g.0 g.1 in
-      let d = a.0 in
-      omega arith;
+          let a = numbered_is row.group n q in
+          let g = group_there i (class_in z) row (row_is i (class_in z) row (rows (class_in z) row e)) a.1 in
+          let b = get_below i.groups row.group g.0 g.1 in
+          let d = a.0 in
+          omega arith;
     }
 
     receiver_is : (s : ℕ) (ks : List OperandKind) (zs : List ℤ) → all_suit (each_some (arguments_of i s ++ one kind.Reference)) ks ≡ true → Pairs (IsWord i p) ks zs → HasReceiver i s zs
-    receiver_is s ks zs e a = record { view = λ shape z q t.
-      let k = suit_at (each_some (arguments_of i s ++ one kind.Reference)) ks (length (arguments_of i s)) kind.Reference e (last_of (arguments_of i s) kind.Reference) in
-      let k' : slice_get ks (length shape.params) ≡ Some kind.Reference = ap (slice_get ks) (sym (arguments_long i s shape q)) ∙ k in
-      let y = pairs_get (IsWord i p) ks zs (length shape.params) kind.Reference a k' in
-      let same : y.0 ≡ z = let b = y.1 in cc in
-      view_is z (subst (λ (z : ℤ). IsWord i p kind.Reference z) same y.2) }
+    receiver_is s ks zs e a = record {
+      view = λ shape z q t.
+          let k = suit_at (each_some (arguments_of i s ++ one kind.Reference)) ks (length (arguments_of i s)) kind.Reference e (last_of (arguments_of i s) kind.Reference) in
+          let k' : slice_get ks (length shape.params) ≡ Some kind.Reference = ap (slice_get ks) (sym (arguments_long i s shape q)) ∙ k in
+          let y = pairs_get (IsWord i p) ks zs (length shape.params) kind.Reference a k' in
+          let same : y.0 ≡ z = let b = y.1 in cc in
+          view_is z (subst (λ (z : ℤ). IsWord i p kind.Reference z) same y.2);
+    }
 
 drop_one_long : {A : Type 0} (xs : List A) (n : ℕ) → suc n ≤ length xs → n ≤ length (drop 1 xs)
 drop_one_long [] n h = omega arith
@@ -181,8 +183,7 @@ module _ (i : Image) (m : ℕ) (p : List Cell) (rows : RowsOk i) (h : List ℤ) 
       ((omega arith, omega arith), top_is i p (HasGroup i) kind.Class [] ks f.vals.words r.own.suits r.vals.are (has_group i p m rows h hp))
   wanted (op.Ctor s) r =
       let n : suc (length (each_some (arguments_of i s))) ≤ length ks = r.own.many in
-      let args : HasArgs i s 0 (drop 1 f.vals.words) = args_are_there i s 0 (drop 1 f.vals.words) r.own.number (λ shape e. let a = arguments_long i s shape e in let b = each_long (arguments_of i s) in let q : suc (length shape.params + 0) ≤ length f.vals.words = omega arith in drop_one_long f.vals.words (length shape.params + 0) q) in
-      (
+      let args : HasArgs i s 0 (drop 1 f.vals.words) = args_are_there i s 0 (drop 1 f.vals.words) r.own.number (λ shape e. let a = arguments_long i s shape e in let b = each_long (arguments_of i s) in let q : suc (length shape.params + 0) ≤ length f.vals.words = omega arith in drop_one_long f.vals.words (length shape.params + 0) q) in (
         (omega arith, omega arith),
         top_is i p (IsView i) kind.Reference (each_some (arguments_of i s)) ks f.vals.words r.own.suits r.vals.are (view_is i p m rows h hp),
         args,
@@ -194,23 +195,20 @@ module _ (i : Image) (m : ℕ) (p : List Cell) (rows : RowsOk i) (h : List ℤ) 
   wanted (op.Callat s) r =
       let n : suc (length (each_some (arguments_of i s ++ one kind.Reference))) ≤ length ks = r.own.many in
       let w = each_some (arguments_of i s ++ one kind.Reference) in
-      let args : HasArgs i s 1 (drop 1 f.vals.words) = args_are_there i s 1 (drop 1 f.vals.words) r.own.number (λ shape e. let a = each_args i s shape e in let q : suc (length shape.params + 1) ≤ length f.vals.words = omega arith in drop_one_long f.vals.words (length shape.params + 1) q) in
-      (
+      let args : HasArgs i s 1 (drop 1 f.vals.words) = args_are_there i s 1 (drop 1 f.vals.words) r.own.number (λ shape e. let a = each_args i s shape e in let q : suc (length shape.params + 1) ≤ length f.vals.words = omega arith in drop_one_long f.vals.words (length shape.params + 1) q) in (
         (omega arith, omega arith),
         top_is i p (IsClass i) kind.Class w ks f.vals.words r.own.suits r.vals.are (class_below i p),
         args,
         receiver_is i p m rows h hp s (drop 1 ks) (drop 1 f.vals.words) (suit_rest (Some kind.Class) w ks r.own.suits) (drop_pairs (IsWord i p) ks f.vals.words r.vals.are),
       )
   wanted (op.Get s) r =
-      let n : 1 ≤ length ks = r.own.many in
-      (
+      let n : 1 ≤ length ks = r.own.many in (
         (omega arith, omega arith),
         top_is i p (Reaches i h s) kind.Reference [] ks f.vals.words r.own.suits r.vals.are (reaches i p m rows h hp s f c ks),
         ltb-true s (length i.fields) r.own.number,
       )
   wanted (op.Put s) r =
-      let n : 2 ≤ length ks = r.own.many in
-      (
+      let n : 2 ≤ length ks = r.own.many in (
         (omega arith, omega arith),
         below_is i p (Reaches i h s) (field_kind i s) kind.Reference ks f.vals.words r.own.suits r.vals.are (reaches i p m rows h hp s f c ks),
       )

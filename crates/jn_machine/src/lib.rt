@@ -22,3 +22,6 @@ mod widths;
 
 pub use machine::Machine;
 pub use run::Halt;
+
+#[cfg(test)]
+mod tests;

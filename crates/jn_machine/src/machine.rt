@@ -91,6 +91,14 @@ impl Machine {
     {
         self.fresh = false;
         let image = self.image.image();
-        run(image, &mut self.frames, &mut self.heap, &mut self.now, &mut self.output, steps, out)
+        run(
+            image,
+            &mut self.frames,
+            &mut self.heap,
+            &mut self.now,
+            &mut self.output,
+            steps,
+            out,
+        )
     }
 }

@@ -36,7 +36,15 @@ pub enum Halt {
 }
 
 // Runs until it ends or no step is left. What makes no whole piece waits.
-fn go<O: Sink>(image: &Image, frames: &mut Frames, heap: &mut Heap, now: &mut Frame, output: &mut Output, steps: u64, out: &mut O) -> Result<Halt, Failed>
+fn go<O: Sink>(
+    image: &Image,
+    frames: &mut Frames,
+    heap: &mut Heap,
+    now: &mut Frame,
+    output: &mut Output,
+    steps: u64,
+    out: &mut O,
+) -> Result<Halt, Failed>
     requires sound { IsSound image.now }
     requires form { InForm image.now }
     requires fresh { IsFresh image.now now.old frames.old heap.old output.old }
@@ -64,7 +72,15 @@ fn go<O: Sink>(image: &Image, frames: &mut Frames, heap: &mut Heap, now: &mut Fr
 }
 
 // The same, and then what waits is put.
-fn go_and_put<O: Sink>(image: &Image, frames: &mut Frames, heap: &mut Heap, now: &mut Frame, output: &mut Output, steps: u64, out: &mut O) -> Result<Halt, Failed>
+fn go_and_put<O: Sink>(
+    image: &Image,
+    frames: &mut Frames,
+    heap: &mut Heap,
+    now: &mut Frame,
+    output: &mut Output,
+    steps: u64,
+    out: &mut O,
+) -> Result<Halt, Failed>
     requires sound { IsSound image.now }
     requires form { InForm image.now }
     requires fresh { IsFresh image.now now.old frames.old heap.old output.old }
@@ -81,7 +97,15 @@ fn go_and_put<O: Sink>(image: &Image, frames: &mut Frames, heap: &mut Heap, now:
 }
 
 /// Runs the image from its fresh parts, for at most that many steps.
-pub fn run<O: Sink>(image: &Image, frames: &mut Frames, heap: &mut Heap, now: &mut Frame, output: &mut Output, steps: u64, out: &mut O) -> Halt
+pub fn run<O: Sink>(
+    image: &Image,
+    frames: &mut Frames,
+    heap: &mut Heap,
+    now: &mut Frame,
+    output: &mut Output,
+    steps: u64,
+    out: &mut O,
+) -> Halt
     requires sound { IsSound image.now }
     requires form { InForm image.now }
     requires fresh { IsFresh image.now now.old frames.old heap.old output.old }
