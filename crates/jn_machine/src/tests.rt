@@ -7,6 +7,7 @@ use jn_imagefile::read_image;
 use jn_io::MemSink;
 use jn_verify::verify;
 use std::alloc::Global;
+use std::process::Abort;
 use std::test::Fail;
 use world::image_of;
 
@@ -17,345 +18,133 @@ const SEVEN: [u8; 48] = [
     0x00, 0x01, 0x07, 0x00, 0x00, 0x00, 0x00, 0x00, 0x00, 0x00, 0x24, 0x27, 0x00, 0x00, 0x00, 0x00,
 ];
 
-/// The code with which the run begins, how it ends, and what it prints.
-const CODES: [(&str, Halt, &[u8]); 71] = [
-    // numbers and truth values
-    (
-        "INT:7 PRINTI BOOL:1 PRINTB BOOL:0 PRINTB RET",
-        Halt::Done,
-        b"7\ntrue\nfalse\n",
-    ),
-    (
-        "INT:-9223372036854775808 PRINTI RET",
-        Halt::Done,
-        b"-9223372036854775808\n",
-    ),
-    (
-        "INT:9223372036854775807 INT:1 ADD PRINTI RET",
-        Halt::Done,
-        b"-9223372036854775808\n",
-    ),
-    ("INT:2 INT:5 SUB PRINTI RET", Halt::Done, b"-3\n"),
-    (
-        "INT:-9223372036854775808 INT:1 SUB PRINTI RET",
-        Halt::Done,
-        b"9223372036854775807\n",
-    ),
-    (
-        "INT:4611686018427387904 INT:2 MUL PRINTI RET",
-        Halt::Done,
-        b"-9223372036854775808\n",
-    ),
-    (
-        "INT:-7 INT:2 DIV PRINTI INT:-7 INT:2 REM PRINTI RET",
-        Halt::Done,
-        b"-3\n-1\n",
-    ),
-    (
-        "INT:7 INT:-2 DIV PRINTI INT:7 INT:-2 REM PRINTI RET",
-        Halt::Done,
-        b"-3\n1\n",
-    ),
-    (
-        "INT:-9223372036854775808 INT:-1 DIV PRINTI RET",
-        Halt::Done,
-        b"-9223372036854775808\n",
-    ),
-    (
-        "INT:-9223372036854775808 INT:-1 REM PRINTI RET",
-        Halt::Done,
-        b"0\n",
-    ),
-    (
-        "INT:1 PRINTI INT:1 INT:0 DIV PRINTI RET",
-        Halt::Zero,
-        b"1\n",
-    ),
-    ("INT:1 INT:0 REM PRINTI RET", Halt::Zero, b""),
-    (
-        "INT:5 NEG PRINTI INT:-9223372036854775808 NEG PRINTI RET",
-        Halt::Done,
-        b"-5\n-9223372036854775808\n",
-    ),
-    (
-        "INT:-1 INT:0 LT PRINTB INT:0 INT:0 LT PRINTB RET",
-        Halt::Done,
-        b"true\nfalse\n",
-    ),
-    (
-        "INT:0 INT:0 LE PRINTB INT:1 INT:0 LE PRINTB RET",
-        Halt::Done,
-        b"true\nfalse\n",
-    ),
-    (
-        "INT:1 INT:0 GT PRINTB INT:0 INT:0 GT PRINTB RET",
-        Halt::Done,
-        b"true\nfalse\n",
-    ),
-    (
-        "INT:0 INT:0 GE PRINTB INT:-1 INT:0 GE PRINTB RET",
-        Halt::Done,
-        b"true\nfalse\n",
-    ),
-    (
-        "INT:-1 INT:-1 EQI PRINTB INT:1 INT:-1 EQI PRINTB RET",
-        Halt::Done,
-        b"true\nfalse\n",
-    ),
-    (
-        "BOOL:1 BOOL:1 EQB PRINTB BOOL:1 BOOL:0 EQB PRINTB RET",
-        Halt::Done,
-        b"true\nfalse\n",
-    ),
-    (
-        "BOOL:0 NOT PRINTB BOOL:1 NOT PRINTB RET",
-        Halt::Done,
-        b"true\nfalse\n",
-    ),
-    ("PRINTT:0 PRINTT:1 RET", Halt::Done, b"hi\n\xff\x00\xc3\n"),
-    // locals and jumps
-    (
-        "LOAD:1 PRINTI LOAD:2 PRINTB LOAD:0 NULL EQR PRINTB RET",
-        Halt::Done,
-        b"0\nfalse\ntrue\n",
-    ),
-    (
-        "INT:8 STORE:1 INT:1 LOAD:1 POP PRINTI LOAD:1 PRINTI RET",
-        Halt::Done,
-        b"1\n8\n",
-    ),
-    ("JUMP:3 INT:1 PRINTI INT:2 PRINTI RET", Halt::Done, b"2\n"),
-    (
-        "BOOL:0 JFALSE:4 INT:1 PRINTI BOOL:1 JFALSE:8 INT:3 PRINTI RET",
-        Halt::Done,
-        b"3\n",
-    ),
-    (
-        "BOOL:1 JTRUE:4 INT:1 PRINTI BOOL:0 JTRUE:8 INT:3 PRINTI RET",
-        Halt::Done,
-        b"3\n",
-    ),
-    // classes
-    (
-        "CLS:3 NEW VIEWOF NEW INT:7 CALL:0 PRINTI RET",
-        Halt::Done,
-        b"7\n",
-    ),
-    ("NULL VIEWOF POP RET", Halt::Null, b""),
-    (
-        "CLS:3 UP:1 DOWN:0 UP:0 NEW INT:7 CALL:0 PRINTI RET",
-        Halt::Done,
-        b"7\n",
-    ),
-    ("CLS:1 UP:2 POP RET", Halt::Null, b""),
-    ("CLS:0 UP:1 POP RET", Halt::Null, b""),
-    ("CLS:0 DOWN:1 POP RET", Halt::Null, b""),
-    ("CLS:4 DOWN:0 POP RET", Halt::Null, b""),
-    // objects
-    ("CLS:0 NEW POP RET", Halt::Null, b""),
-    (
-        "CLS:1 NEW STORE:0 LOAD:0 LOAD:0 EQR PRINTB LOAD:0 CLS:1 NEW EQR PRINTB RET",
-        Halt::Done,
-        b"true\nfalse\n",
-    ),
-    (
-        "CLS:1 NEW STORE:0 LOAD:0 LOAD:0 CLS:3 CONV EQR PRINTB RET",
-        Halt::Done,
-        b"true\n",
-    ),
-    ("CLS:1 NEW NULL EQR PRINTB RET", Halt::Done, b"false\n"),
-    (
-        "CLS:1 NEW STORE:0 LOAD:0 INT:5 PUT:0 LOAD:0 GET:0 PRINTI CLS:1 NEW GET:0 PRINTI RET",
-        Halt::Done,
-        b"5\n0\n",
-    ),
-    (
-        "CLS:1 NEW STORE:0 LOAD:0 INT:5 PUT:0 LOAD:0 CLS:3 CONV GET:0 PRINTI RET",
-        Halt::Done,
-        b"5\n",
-    ),
-    ("NULL GET:0 PRINTI RET", Halt::Null, b""),
-    ("CLS:5 NEW GET:0 PRINTI RET", Halt::Null, b""),
-    ("NULL INT:5 PUT:0 RET", Halt::Null, b""),
-    ("CLS:5 NEW INT:5 PUT:0 RET", Halt::Null, b""),
-    // a reference that is read in the family of its object's view
-    ("CLS:1 NEW GET:1 NULL EQR PRINTB RET", Halt::Done, b"true\n"),
-    (
-        "CLS:1 NEW STORE:0 LOAD:0 INT:5 PUT:0 LOAD:0 LOAD:0 PUT:1 LOAD:0 GET:1 INT:7 CALL:0 PRINTI RET",
-        Halt::Done,
-        b"12\n",
-    ),
-    (
-        "CLS:1 NEW STORE:0 LOAD:0 INT:5 PUT:0 LOAD:0 LOAD:0 PUT:1 LOAD:0 CLS:3 CONV GET:1 INT:7 CALL:0 PRINTI RET",
-        Halt::Done,
-        b"7\n",
-    ),
-    (
-        "CLS:5 NEW STORE:0 LOAD:0 CLS:1 NEW PUT:1 LOAD:0 GET:1 POP RET",
-        Halt::Null,
-        b"",
-    ),
-    (
-        "CLS:5 NEW STORE:0 LOAD:0 LOAD:0 PUT:1 LOAD:0 GET:1 LOAD:0 EQR PRINTB RET",
-        Halt::Done,
-        b"true\n",
-    ),
-    ("NULL CLS:4 CONV NULL EQR PRINTB RET", Halt::Done, b"true\n"),
-    ("CLS:1 NEW CLS:4 CONV POP RET", Halt::Null, b""),
-    (
-        "CLS:1 NEW CLS:2 CONV INT:7 CALL:0 PRINTI RET",
-        Halt::Done,
-        b"7\n",
-    ),
-    (
-        "CLS:1 NEW CHECK POP INT:1 PRINTI NULL CHECK POP RET",
-        Halt::Null,
-        b"1\n",
-    ),
-    // calls
-    (
-        "CLS:1 NEW STORE:0 LOAD:0 INT:5 PUT:0 LOAD:0 INT:7 CALL:0 PRINTI RET",
-        Halt::Done,
-        b"12\n",
-    ),
-    (
-        "CLS:1 NEW STORE:0 LOAD:0 INT:5 PUT:0 LOAD:0 CLS:3 CONV INT:7 CALL:0 PRINTI RET",
-        Halt::Done,
-        b"7\n",
-    ),
-    ("INT:4 CLS:1 NEW CALL:2 PRINTI RET", Halt::Done, b"hi\n4\n"),
-    ("NULL INT:7 CALL:0 PRINTI RET", Halt::Null, b""),
-    ("CLS:5 NEW INT:7 CALL:0 PRINTI RET", Halt::Null, b""),
-    (
-        "CLS:1 NEW STORE:0 LOAD:0 INT:5 PUT:0 LOAD:0 INT:7 CLS:3 CALLAT:0 PRINTI RET",
-        Halt::Done,
-        b"7\n",
-    ),
-    (
-        "CLS:1 NEW STORE:0 LOAD:0 INT:5 PUT:0 LOAD:0 CLS:3 CONV INT:7 CLS:1 CALLAT:0 PRINTI RET",
-        Halt::Done,
-        b"12\n",
-    ),
-    ("NULL INT:7 CLS:1 CALLAT:0 PRINTI RET", Halt::Null, b""),
-    ("CLS:1 NEW INT:7 CLS:5 CALLAT:0 PRINTI RET", Halt::Null, b""),
-    (
-        "INT:3 INT:5 CLS:1 NEW CTOR:1 GET:0 PRINTI PRINTI RET",
-        Halt::Done,
-        b"5\n3\n",
-    ),
-    (
-        "INT:3 INT:5 CLS:3 NEW CTOR:1 GET:0 PRINTI PRINTI RET",
-        Halt::Done,
-        b"0\n3\n",
-    ),
-    ("CLS:1 NEW CTOR:2 POP RET", Halt::Done, b"hi\n"),
-    ("INT:5 NULL CTOR:1 POP RET", Halt::Null, b""),
-    // three objects have nine cells
-    (
-        "CLS:1 NEW POP CLS:1 NEW POP CLS:3 NEW POP RET",
-        Halt::Done,
-        b"",
-    ),
-    (
-        "CLS:1 NEW POP CLS:1 NEW POP CLS:3 NEW POP INT:1 PRINTI CLS:5 NEW POP RET",
-        Halt::Arena,
-        b"1\n",
-    ),
-    // no end
-    ("JUMP:0", Halt::Steps, b""),
-    ("PRINTT:0 JUMP:1", Halt::Steps, b"hi\n"),
-    // code that is never reached
-    ("RET INT:1 POP RET", Halt::Done, b""),
-    ("RET", Halt::Done, b""),
-];
+/// Numbers, truth values and texts: the code with which the run begins, how it ends, and what it prints, where a stroke ends a line.
+const NUMBERS: &str = "\
+INT:7 PRINTI BOOL:1 PRINTB BOOL:0 PRINTB RET|Done|7/true/false/\n\
+INT:-9223372036854775808 PRINTI RET|Done|-9223372036854775808/\n\
+INT:9223372036854775807 INT:1 ADD PRINTI RET|Done|-9223372036854775808/\n\
+INT:2 INT:5 SUB PRINTI RET|Done|-3/\n\
+INT:-9223372036854775808 INT:1 SUB PRINTI RET|Done|9223372036854775807/\n\
+INT:4611686018427387904 INT:2 MUL PRINTI RET|Done|-9223372036854775808/\n\
+INT:-7 INT:2 DIV PRINTI INT:-7 INT:2 REM PRINTI RET|Done|-3/-1/\n\
+INT:7 INT:-2 DIV PRINTI INT:7 INT:-2 REM PRINTI RET|Done|-3/1/\n\
+INT:-9223372036854775808 INT:-1 DIV PRINTI RET|Done|-9223372036854775808/\n\
+INT:-9223372036854775808 INT:-1 REM PRINTI RET|Done|0/\n\
+INT:1 PRINTI INT:1 INT:0 DIV PRINTI RET|Zero|1/\n\
+INT:1 INT:0 REM PRINTI RET|Zero|\n\
+INT:5 NEG PRINTI INT:-9223372036854775808 NEG PRINTI RET|Done|-5/-9223372036854775808/\n\
+INT:-1 INT:0 LT PRINTB INT:0 INT:0 LT PRINTB RET|Done|true/false/\n\
+INT:0 INT:0 LE PRINTB INT:1 INT:0 LE PRINTB RET|Done|true/false/\n\
+INT:1 INT:0 GT PRINTB INT:0 INT:0 GT PRINTB RET|Done|true/false/\n\
+INT:0 INT:0 GE PRINTB INT:-1 INT:0 GE PRINTB RET|Done|true/false/\n\
+INT:-1 INT:-1 EQI PRINTB INT:1 INT:-1 EQI PRINTB RET|Done|true/false/\n\
+BOOL:1 BOOL:1 EQB PRINTB BOOL:1 BOOL:0 EQB PRINTB RET|Done|true/false/\n\
+BOOL:0 NOT PRINTB BOOL:1 NOT PRINTB RET|Done|true/false/\n\
+";
 
-/// The code, the cells, the depth and the steps that are allowed, how the run ends, and what it prints.
-const BOUNDS: [(&str, (u32, u32, u64), Halt, &[u8]); 17] = [
+/// Locals and jumps.
+const LOCALS: &str = "\
+LOAD:1 PRINTI LOAD:2 PRINTB LOAD:0 NULL EQR PRINTB RET|Done|0/false/true/\n\
+INT:8 STORE:1 INT:1 LOAD:1 POP PRINTI LOAD:1 PRINTI RET|Done|1/8/\n\
+JUMP:3 INT:1 PRINTI INT:2 PRINTI RET|Done|2/\n\
+BOOL:0 JFALSE:4 INT:1 PRINTI BOOL:1 JFALSE:8 INT:3 PRINTI RET|Done|3/\n\
+BOOL:1 JTRUE:4 INT:1 PRINTI BOOL:0 JTRUE:8 INT:3 PRINTI RET|Done|3/\n\
+";
+
+/// Classes, objects, fields, views.
+const OBJECTS: &str = "\
+CLS:3 NEW VIEWOF NEW INT:7 CALL:0 PRINTI RET|Done|7/\n\
+NULL VIEWOF POP RET|Null|\n\
+CLS:3 UP:1 DOWN:0 UP:0 NEW INT:7 CALL:0 PRINTI RET|Done|7/\n\
+CLS:1 UP:2 POP RET|Null|\n\
+CLS:0 UP:1 POP RET|Null|\n\
+CLS:0 DOWN:1 POP RET|Null|\n\
+CLS:4 DOWN:0 POP RET|Null|\n\
+CLS:0 NEW POP RET|Null|\n\
+CLS:1 NEW STORE:0 LOAD:0 LOAD:0 EQR PRINTB LOAD:0 CLS:1 NEW EQR PRINTB RET|Done|true/false/\n\
+CLS:1 NEW STORE:0 LOAD:0 LOAD:0 CLS:3 CONV EQR PRINTB RET|Done|true/\n\
+CLS:1 NEW NULL EQR PRINTB RET|Done|false/\n\
+CLS:1 NEW STORE:0 LOAD:0 INT:5 PUT:0 LOAD:0 GET:0 PRINTI CLS:1 NEW GET:0 PRINTI RET|Done|5/0/\n\
+CLS:1 NEW STORE:0 LOAD:0 INT:5 PUT:0 LOAD:0 CLS:3 CONV GET:0 PRINTI RET|Done|5/\n\
+NULL GET:0 PRINTI RET|Null|\n\
+CLS:5 NEW GET:0 PRINTI RET|Null|\n\
+NULL INT:5 PUT:0 RET|Null|\n\
+CLS:5 NEW INT:5 PUT:0 RET|Null|\n\
+CLS:1 NEW GET:1 NULL EQR PRINTB RET|Done|true/\n\
+CLS:1 NEW STORE:0 LOAD:0 INT:5 PUT:0 LOAD:0 LOAD:0 PUT:1 LOAD:0 GET:1 INT:7 CALL:0 PRINTI RET|Done|12/\n\
+CLS:1 NEW STORE:0 LOAD:0 INT:5 PUT:0 LOAD:0 LOAD:0 PUT:1 LOAD:0 CLS:3 CONV GET:1 INT:7 CALL:0 PRINTI RET|Done|7/\n\
+CLS:5 NEW STORE:0 LOAD:0 CLS:1 NEW PUT:1 LOAD:0 GET:1 POP RET|Null|\n\
+CLS:5 NEW STORE:0 LOAD:0 LOAD:0 PUT:1 LOAD:0 GET:1 LOAD:0 EQR PRINTB RET|Done|true/\n\
+NULL CLS:4 CONV NULL EQR PRINTB RET|Done|true/\n\
+CLS:1 NEW CLS:4 CONV POP RET|Null|\n\
+CLS:1 NEW CLS:2 CONV INT:7 CALL:0 PRINTI RET|Done|7/\n\
+CLS:1 NEW CHECK POP INT:1 PRINTI NULL CHECK POP RET|Null|1/\n\
+";
+
+/// Calls and constructors.
+const CALLS: &str = "\
+CLS:1 NEW STORE:0 LOAD:0 INT:5 PUT:0 LOAD:0 INT:7 CALL:0 PRINTI RET|Done|12/\n\
+CLS:1 NEW STORE:0 LOAD:0 INT:5 PUT:0 LOAD:0 CLS:3 CONV INT:7 CALL:0 PRINTI RET|Done|7/\n\
+INT:4 CLS:1 NEW CALL:2 PRINTI RET|Done|hi/4/\n\
+NULL INT:7 CALL:0 PRINTI RET|Null|\n\
+CLS:5 NEW INT:7 CALL:0 PRINTI RET|Null|\n\
+CLS:1 NEW STORE:0 LOAD:0 INT:5 PUT:0 LOAD:0 INT:7 CLS:3 CALLAT:0 PRINTI RET|Done|7/\n\
+CLS:1 NEW STORE:0 LOAD:0 INT:5 PUT:0 LOAD:0 CLS:3 CONV INT:7 CLS:1 CALLAT:0 PRINTI RET|Done|12/\n\
+NULL INT:7 CLS:1 CALLAT:0 PRINTI RET|Null|\n\
+CLS:1 NEW INT:7 CLS:5 CALLAT:0 PRINTI RET|Null|\n\
+INT:3 INT:5 CLS:1 NEW CTOR:1 GET:0 PRINTI PRINTI RET|Done|5/3/\n\
+INT:3 INT:5 CLS:3 NEW CTOR:1 GET:0 PRINTI PRINTI RET|Done|0/3/\n\
+CLS:1 NEW CTOR:2 POP RET|Done|hi/\n\
+INT:5 NULL CTOR:1 POP RET|Null|\n\
+";
+
+/// Three objects have nine cells; runs without an end; code that is never reached.
+const ENDS: &str = "\
+CLS:1 NEW POP CLS:1 NEW POP CLS:3 NEW POP RET|Done|\n\
+CLS:1 NEW POP CLS:1 NEW POP CLS:3 NEW POP INT:1 PRINTI CLS:5 NEW POP RET|Arena|1/\n\
+JUMP:0|Steps|\n\
+PRINTT:0 JUMP:1|Steps|hi/\n\
+RET INT:1 POP RET|Done|\n\
+RET|Done|\n\
+";
+
+/// The cells, the depth and the steps that are allowed, the code, how the run ends, and what it prints.
+const BOUNDS: [((u32, u32, u64), &str); 17] = [
+    ((3, 2, 100), "CLS:1 NEW POP INT:1 PRINTI RET|Done|1/"),
+    ((2, 2, 100), "CLS:1 NEW POP INT:1 PRINTI RET|Arena|"),
+    ((0, 2, 100), "CLS:1 NEW POP INT:1 PRINTI RET|Arena|"),
+    ((9, 1, 100), "CLS:1 NEW INT:7 CALL:0 PRINTI RET|Done|7/"),
+    ((9, 0, 100), "CLS:1 NEW INT:7 CALL:0 PRINTI RET|Depth|"),
     (
-        "CLS:1 NEW POP INT:1 PRINTI RET",
-        (3, 2, 100),
-        Halt::Done,
-        b"1\n",
-    ),
-    (
-        "CLS:1 NEW POP INT:1 PRINTI RET",
-        (2, 2, 100),
-        Halt::Arena,
-        b"",
-    ),
-    (
-        "CLS:1 NEW POP INT:1 PRINTI RET",
-        (0, 2, 100),
-        Halt::Arena,
-        b"",
-    ),
-    (
-        "CLS:1 NEW INT:7 CALL:0 PRINTI RET",
         (9, 1, 100),
-        Halt::Done,
-        b"7\n",
+        "CLS:3 NEW INT:7 CLS:1 CALLAT:0 PRINTI RET|Done|7/",
     ),
     (
-        "CLS:1 NEW INT:7 CALL:0 PRINTI RET",
         (9, 0, 100),
-        Halt::Depth,
-        b"",
+        "CLS:3 NEW INT:7 CLS:1 CALLAT:0 PRINTI RET|Depth|",
     ),
     (
-        "CLS:3 NEW INT:7 CLS:1 CALLAT:0 PRINTI RET",
         (9, 1, 100),
-        Halt::Done,
-        b"7\n",
+        "INT:7 CLS:1 NEW CTOR:1 GET:0 PRINTI RET|Done|7/",
     ),
     (
-        "CLS:3 NEW INT:7 CLS:1 CALLAT:0 PRINTI RET",
         (9, 0, 100),
-        Halt::Depth,
-        b"",
-    ),
-    (
-        "INT:7 CLS:1 NEW CTOR:1 GET:0 PRINTI RET",
-        (9, 1, 100),
-        Halt::Done,
-        b"7\n",
-    ),
-    (
-        "INT:7 CLS:1 NEW CTOR:1 GET:0 PRINTI RET",
-        (9, 0, 100),
-        Halt::Depth,
-        b"",
+        "INT:7 CLS:1 NEW CTOR:1 GET:0 PRINTI RET|Depth|",
     ),
     // it calls nothing where the class has no such constructor
     (
-        "INT:7 CLS:3 NEW CTOR:1 GET:0 PRINTI RET",
         (9, 0, 100),
-        Halt::Done,
-        b"0\n",
+        "INT:7 CLS:3 NEW CTOR:1 GET:0 PRINTI RET|Done|0/",
     ),
     // a call within a call
-    ("CLS:1 NEW CALL:2 RET", (9, 2, 100), Halt::Done, b"hi\n"),
-    ("CLS:1 NEW CALL:2 RET", (9, 1, 100), Halt::Depth, b"hi\n"),
-    (
-        "CLS:1 NEW CTOR:2 CHECK POP RET",
-        (9, 1, 100),
-        Halt::Depth,
-        b"hi\n",
-    ),
+    ((9, 2, 100), "CLS:1 NEW CALL:2 RET|Done|hi/"),
+    ((9, 1, 100), "CLS:1 NEW CALL:2 RET|Depth|hi/"),
+    ((9, 1, 100), "CLS:1 NEW CTOR:2 CHECK POP RET|Depth|hi/"),
     // a halting instruction is a step too
-    (
-        "INT:1 PRINTI NULL CHECK POP RET",
-        (9, 2, 4),
-        Halt::Null,
-        b"1\n",
-    ),
-    (
-        "INT:1 PRINTI NULL CHECK POP RET",
-        (9, 2, 3),
-        Halt::Steps,
-        b"1\n",
-    ),
-    ("RET", (9, 2, 1), Halt::Done, b""),
-    ("RET", (9, 2, 0), Halt::Steps, b""),
+    ((9, 2, 4), "INT:1 PRINTI NULL CHECK POP RET|Null|1/"),
+    ((9, 2, 3), "INT:1 PRINTI NULL CHECK POP RET|Steps|1/"),
+    ((9, 2, 1), "RET|Done|"),
+    ((9, 2, 0), "RET|Steps|"),
 ];
 
 /// Prints a line of 21 bytes 800 times.
@@ -408,27 +197,75 @@ fn run(
     Ok(machine.run(steps, sink))
 }
 
-#[test]
-fn each_instruction_does_what_the_table_says(rt: HostRuntime) -> Result<(), Fail> {
-    for (words, halt, output) in CODES {
-        let bytes = image_of(rt.alloc(), words)?;
-        let mut sink = MemSink::new(rt.alloc(), 100, &[])?;
-        let answer = run(rt.alloc(), &bytes, (9, 2, 100), &mut sink)?;
-        assert_eq!(rt; answer, halt, "{words}");
-        assert_eq!(rt; sink.bytes(), output, "{words}");
+fn name_of(halt: Halt) -> &'static str {
+    match halt {
+        Halt::Done => "Done",
+        Halt::Null => "Null",
+        Halt::Zero => "Zero",
+        Halt::Arena => "Arena",
+        Halt::Depth => "Depth",
+        Halt::Steps => "Steps",
+        Halt::WriteFault => "WriteFault",
+    }
+}
+
+fn are_lines(bytes: &[u8], text: &str) -> bool {
+    for (byte, wanted) in bytes.iter().zip(text.as_bytes()) {
+        let wanted = if *wanted == b'/' { b'\n' } else { *wanted };
+        if *byte != wanted {
+            return false;
+        }
+    }
+    bytes.len() == text.len()
+}
+
+fn check_row(
+    rt: &impl Abort,
+    alloc: Global,
+    row: &str,
+    bounds: (u32, u32, u64),
+) -> Result<(), Fail> {
+    let (words, rest) = row.split_once('|').ok_or("a row has three parts")?;
+    let (halt, output) = rest.split_once('|').ok_or("a row has three parts")?;
+    let bytes = image_of(alloc, words)?;
+    let mut sink = MemSink::new(alloc, 100, &[])?;
+    let answer = run(alloc, &bytes, bounds, &mut sink)?;
+    assert_eq!(rt; name_of(answer), halt, "{words}");
+    assert!(rt; are_lines(sink.bytes(), output), "{words}");
+    Ok(())
+}
+
+fn check_rows(rt: &impl Abort, alloc: Global, rows: &str) -> Result<(), Fail> {
+    for row in rows.lines() {
+        check_row(rt, alloc, row, (9, 2, 100))?;
     }
     Ok(())
 }
 
 #[test]
+fn each_instruction_does_what_the_table_says(rt: HostRuntime) -> Result<(), Fail> {
+    check_rows(&rt, rt.alloc(), NUMBERS)?;
+    check_rows(&rt, rt.alloc(), LOCALS)?;
+    check_rows(&rt, rt.alloc(), OBJECTS)?;
+    check_rows(&rt, rt.alloc(), CALLS)?;
+    check_rows(&rt, rt.alloc(), ENDS)?;
+    Ok(())
+}
+
+#[test]
 fn bounds_hold_at_their_last_value_and_past_it(rt: HostRuntime) -> Result<(), Fail> {
-    for (words, bounds, halt, output) in BOUNDS {
-        let bytes = image_of(rt.alloc(), words)?;
-        let mut sink = MemSink::new(rt.alloc(), 100, &[])?;
-        let answer = run(rt.alloc(), &bytes, bounds, &mut sink)?;
-        assert_eq!(rt; answer, halt, "{words}");
-        assert_eq!(rt; sink.bytes(), output, "{words}");
+    for (bounds, row) in BOUNDS {
+        check_row(&rt, rt.alloc(), row, bounds)?;
     }
+    Ok(())
+}
+
+#[test]
+fn a_text_is_any_bytes(rt: HostRuntime) -> Result<(), Fail> {
+    let bytes = image_of(rt.alloc(), "PRINTT:1 RET")?;
+    let mut sink = MemSink::new(rt.alloc(), 9, &[])?;
+    assert_eq!(rt; run(rt.alloc(), &bytes, (1, 1, 9), &mut sink)?, Halt::Done);
+    assert_eq!(rt; sink.bytes(), [0xff, 0x00, 0xc3, b'\n'].as_slice());
     Ok(())
 }
 

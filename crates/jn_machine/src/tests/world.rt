@@ -106,9 +106,9 @@ const INSTRUCTIONS: [(&str, usize); 40] = [
 
 /// The byte of an instruction, and how many bytes its operand has.
 fn instruction(name: &str) -> Option<(u8, usize)> {
-    let mut byte = 0;
+    let mut byte: u8 = 0;
     for (known, width) in INSTRUCTIONS {
-        byte += 1;
+        byte = byte.wrapping_add(1);
         if known == name {
             return Some((byte, width));
         }
