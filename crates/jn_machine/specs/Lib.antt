@@ -4,3 +4,8 @@ pub mod Writes
 pub mod Needs
 pub mod Acts
 pub mod Sizes
+pub mod Does
+pub mod Calls
+pub mod Wants
+pub mod Machines
+pub mod Ends

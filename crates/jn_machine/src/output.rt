@@ -2,9 +2,12 @@ ghost use Rattle.std.specs.Prelude.{◌≡◌, [], ◌∷◌, ◌++◌, IfOk, On
 ghost use Rattle.std.specs.Io.KnownBytes.{append_known};
 ghost use Rattle.jn_io.specs.Causes.{HasCause};
 ghost use Rattle.jn_steps.specs.Numbers.{line_of, number_line, truth_line};
+ghost use Rattle.jn_machine.specs.Does.{IsLine, bytes_of};
 ghost use Rattle.jn_machine.specs.Writes.{Wrote, Cut};
 
+use crate::did::Line;
 use itoa::Buffer;
+use jn_code::Image;
 use jn_io::{Failed, Sink};
 use std::alloc::{AllocError, Global};
 use std::marker::Model;
@@ -94,6 +97,20 @@ impl Output {
         }
     }
 
+    /// A line of a program.
+    pub fn show<K: Sink>(&mut self, image: &Image, line: Line, sink: &mut K) -> Result<(), Failed>
+        requires { IsLine image.now line }
+        ensures wrote { OnOk result (Wrote (K.taken sink.old) (K.taken sink.new) self.old self.new (bytes_of image.now line)) }
+        ensures cut { OnErr result (Cut (K.taken sink.old) (K.taken sink.new) (self.old ++ bytes_of image.now line)) }
+        ensures cause { HasCause (K.faults sink.old) (K.faults sink.new) result }
+    {
+        match line {
+            Line::Number(z) => self.number(z, sink),
+            Line::Truth(b) => self.truth(b, sink),
+            Line::Text(t) => self.line(image.texts.as_slice()[t as usize].bytes.as_slice(), sink),
+        }
+    }
+
     /// Puts what waits, where there is something. It is no more than one piece.
     pub fn flush<K: Sink>(&mut self, sink: &mut K) -> Result<(), Failed>
         ensures all { OnOk result (K.taken sink.new ≡ append_known (K.taken sink.old) self.old) }
@@ -101,6 +118,9 @@ impl Output {
         ensures empty { self.new ≡ [] }
         ensures cause { HasCause (K.faults sink.old) (K.faults sink.new) result }
     {
+        if self.bytes.is_empty() {
+            return Ok(());
+        }
         let done = sink.put(&self.bytes);
         self.bytes.clear();
         done
