@@ -1,21 +1,14 @@
-use Rattle.std.proofs.Common.{◌≡◌, ◌∙◌, length, arith}
-use Rattle.jn_base.specs.Tokens.{width}
-use Rattle.jn_lexer.proofs.Answer.{found_of, fault_of, only_of, order_of, width_of}
+use Rattle.std.proofs.Common.{subst, Vec, Global}
+use Rattle.jn_base.specs.declared.token.Token.{Token}
+use Rattle.jn_base.specs.Tokens.{TokensOf}
+use Rattle.jn_lexer.proofs.Answer.{only_found, only_fault, fault_of}
 use Rattle.jn_lexer.proofs.tokens.Goals as goal
 
-pub pieces-requires : goal.pieces-requires
-pieces-requires c =
-    let same : width c.as_slice.result.now ≡ length c.args.bytes.now = width_of c.args.bytes.now _ c.requires.utf8 (c.as_slice.ensures.value ∙ c.in_ok-characters.ensures) in
-    omega (arith, c.requires.within)
+pub returns-in-None-clause-only : goal.returns-in-None-clause-only
+returns-in-None-clause-only c = only_found (λ v. v.items) c.args.bytes.now c.in_ok-tokens.field-0.tokens (subst (λ f. TokensOf c.args.bytes.now c.in_ok-tokens.field-0.tokens.items f) c.in-None.is c.in_ok-tokens.ensures.found)
 
-pub returns-clause-found : goal.returns-clause-found
-returns-clause-found c = found_of (λ v. v.items) c.args.bytes.now _ c.pieces.result c.requires.utf8 (c.as_slice.ensures.value ∙ c.in_ok-characters.ensures) c.pieces.ensures.found
+pub returns-in-Some-clause-only : goal.returns-in-Some-clause-only
+returns-in-Some-clause-only c = only_fault (λ (v : Vec Token Global). v.items) c.args.bytes.now c.in_ok-tokens.field-0.tokens.items c.in-Some.fault (subst (λ f. TokensOf c.args.bytes.now c.in_ok-tokens.field-0.tokens.items f) c.in-Some.is c.in_ok-tokens.ensures.found)
 
-pub returns-clause-fault : goal.returns-clause-fault
-returns-clause-fault c = fault_of c.args.bytes.now _ c.pieces.result c.requires.utf8 (c.as_slice.ensures.value ∙ c.in_ok-characters.ensures) c.pieces.ensures.fault
-
-pub returns-clause-only : goal.returns-clause-only
-returns-clause-only c = only_of (λ v. v.items) c.args.bytes.now _ c.pieces.result (c.as_slice.ensures.value ∙ c.in_ok-characters.ensures) c.pieces.ensures.found c.pieces.ensures.fault
-
-pub returns-clause-in_order : goal.returns-clause-in_order
-returns-clause-in_order c = order_of (λ v. v.items) c.args.bytes.now _ c.pieces.result c.requires.utf8 (c.as_slice.ensures.value ∙ c.in_ok-characters.ensures) c.pieces.ensures.found
+pub returns-in-Some-clause-fault : goal.returns-in-Some-clause-fault
+returns-in-Some-clause-fault c = fault_of c.args.bytes.now c.in_ok-tokens.field-0.tokens.items c.in-Some.fault (subst (λ f. TokensOf c.args.bytes.now c.in_ok-tokens.field-0.tokens.items f) c.in-Some.is c.in_ok-tokens.ensures.found)
