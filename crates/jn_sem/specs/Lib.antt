@@ -5,3 +5,7 @@ pub mod Below
 pub mod RootClosure
 pub mod Normal
 pub mod Search
+pub mod Sharing
+pub mod Terms
+pub mod Slots
+pub mod Holds
