@@ -9,3 +9,7 @@ pub mod Sharing
 pub mod Terms
 pub mod Slots
 pub mod Holds
+pub mod Asks
+pub mod Acts
+pub mod State
+pub mod Does

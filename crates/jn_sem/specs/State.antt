@@ -1,0 +1,163 @@
+-- States of a run: objects, frames, and what a frame has still to do.
+use Rattle.std.specs.Prelude.{◌≡◌, ℕ, suc, ◌+◌, ◌-◌, List, [], ◌∷◌, ◌++◌, length, map, drop, reverse, Bool, true, false, ◌&&◌, not, cond, nat_eq, Option, Some, None, IsSome, slice_get, slice_set}
+use Rattle.std.specs.Option.{option_map, option_and_then}
+use Rattle.std.specs.List.{find, list_any}
+use Rattle.jn_base.specs.declared.tree.Name.{Name}
+use Rattle.jn_base.specs.declared.tree.Method.{Method}
+use Rattle.jn_base.specs.declared.tree.Program.{Program}
+use Rattle.jn_base.specs.declared.types.Ty.{Ty}
+use Rattle.jn_base.specs.declared.types.Ty.TheVariants as ty
+use Rattle.jn_base.specs.Paths.{Path}
+use Rattle.jn_base.specs.Scopes.{Bind, Scope, this_bind}
+use Rattle.jn_base.specs.Atoms.{Among}
+use Rattle.jn_sem.specs.Sets.{Views}
+use Rattle.jn_sem.specs.Values.{Value, Number, Truth, Null, Reference, ValueIn}
+use Rattle.jn_sem.specs.Slots.{Slot, IsSlot}
+use Rattle.jn_sem.specs.Terms.{Var, mask_names}
+use Rattle.jn_sem.specs.Acts.{Todo}
+
+-- ---- objects
+
+-- the value of a slot
+pub record Stored : Type 0 where
+  pub slot : Slot
+  pub value : Value
+
+-- An object is a group and a finite map from slots to values. The group is that of the class as which the object was made;
+-- the map has the latest value of a slot first, and the first one counts.
+pub record Object : Type 0 where
+  pub made : Path
+  pub stored : List Stored
+
+-- the objects in the order of their making, and the cells that they use
+pub record Heap : Type 0 where
+  pub objects : List Object
+  pub used : ℕ
+
+abbrev pub same_names : List Name → List Name → Bool
+same_names [] [] = true
+same_names [] (y ∷ ys) = false
+same_names (x ∷ xs) [] = false
+same_names (x ∷ xs) (y ∷ ys) = nat_eq x.0 y.0 && same_names xs ys
+
+abbrev pub same_slot : Slot → Slot → Bool
+same_slot s t = same_names s.class t.class && nat_eq s.field.0 t.field.0
+
+abbrev pub stored_value : List Stored → Slot → Option Value
+stored_value xs s = option_map (λ (x : Stored). x.value) (find (λ (x : Stored). same_slot x.slot s) xs)
+
+-- the value of a slot of an object, where it has one
+abbrev pub slot_value : Heap → ℕ → Slot → Option Value
+slot_value h o s = option_and_then (λ (x : Object). stored_value x.stored s) (slice_get h.objects o)
+
+-- the slot of this object gets the value
+abbrev pub with_slot : Heap → ℕ → Object → Slot → Value → Heap
+with_slot h o x s v = record h { objects = slice_set h.objects o (record x { stored = record { slot = s; value = v } ∷ x.stored }) }
+
+-- one more object
+abbrev pub with_object : Heap → (size : ℕ) → Object → Heap
+with_object h size x = record { objects = h.objects ++ x ∷ []; used = h.used + size }
+
+-- the field f of the object has a value, as the view V sees it
+pub record HasValue (p : Program) (h : Heap) (object : ℕ) (V : Path) (f : Name) : Type 0 where
+  pub slot : Slot
+  pub is_slot : IsSlot p V f slot
+  pub has : IsSome (slot_value h object slot)
+
+-- A value is in the type, where the paths have these views. One of class type is in it where it is null, or where its view
+-- is in each atom and each field of that view, but for the masked ones, has a value in its slot.
+abbrev pub IsIn : Program → Views → Heap → Ty → Value → Type 0
+IsIn p v h t value = ValueIn p (mask_names p) v (HasValue p h) t value
+
+-- ---- frames
+
+-- a variable in scope, with its value
+pub record Variable : Type 0 where
+  pub var : Var
+  pub value : Value
+
+-- A body at work.
+pub record Frame : Type 0 where
+  -- the declaration whose body it is
+  pub class : Path
+  pub method : Method
+  -- `this`, which is null in the frame that starts the program
+  pub this : Value
+  -- the variables in scope, the newest first
+  pub vars : List Variable
+  -- the operands already had, the latest first
+  pub vals : List Value
+  -- what is still to be done
+  pub todo : List Todo
+  -- whether the result of the call that it waits for is kept
+  pub keeps : Bool
+
+abbrev pub view_in : Value → Option Path
+view_in (Reference o V) = Some V
+view_in (Number z) = None
+view_in (Truth b) = None
+view_in Null = None
+
+abbrev pub view_of_var : List Variable → ℕ → Option Path
+view_of_var [] q = None
+view_of_var (x ∷ xs) q = cond (nat_eq q x.var.path) (view_in x.value) (view_of_var xs q)
+
+-- the view of each path's object: `this` is path 0, and each variable has its own number
+abbrev pub views : Value → List Variable → Views
+views this vars q = cond (nat_eq q 0) (view_in this) (view_of_var vars q)
+
+abbrev pub frame_views : Frame → Views
+frame_views f = views f.this f.vars
+
+abbrev pub declared_var : Variable → Var
+declared_var x = x.var
+
+-- the variables in scope, as they were declared
+abbrev pub declared_vars : Frame → List Var
+declared_vars f = map declared_var f.vars
+
+abbrev pub var_bind : Var → Bind
+var_bind x = record { path = x.path; ty = x.ty }
+
+-- the scope of a body of the class Q, with these variables
+abbrev pub scope_of : Path → List Var → Scope
+scope_of Q vars = map var_bind vars ++ this_bind Q ∷ []
+
+-- the newest variable of the name
+abbrev pub variable : List Variable → Name → Option Variable
+variable vars x = find (λ (y : Variable). nat_eq y.var.name.0 x.0) vars
+
+-- it gets the value
+abbrev pub assigned : List Variable → Name → Value → List Variable
+assigned [] x v = []
+assigned (y ∷ ys) x v = cond (nat_eq y.var.name.0 x.0) (record y { value = v } ∷ ys) (y ∷ assigned ys x v)
+
+-- the n oldest variables: those that are in scope again behind a block
+abbrev pub oldest : ℕ → List Variable → List Variable
+oldest n vars = drop (length vars - n) vars
+
+-- variables with their values, in one order
+abbrev pub with_values : List Var → List Value → List Variable
+with_values [] vs = []
+with_values (x ∷ xs) [] = []
+with_values (x ∷ xs) (v ∷ vs) = record { var = x; value = v } ∷ with_values xs vs
+
+abbrev pub is_class_type : Ty → Bool
+is_class_type (ty.Class xs m) = true
+is_class_type ty.Int = false
+is_class_type ty.Bool = false
+is_class_type ty.Null = false
+is_class_type ty.Void = false
+
+abbrev pub is_null : Value → Bool
+is_null Null = true
+is_null (Number z) = false
+is_null (Truth b) = false
+is_null (Reference o V) = false
+
+-- a `final` variable of class type is a path, and must not be null
+abbrev pub is_null_path : Var → Value → Bool
+is_null_path x v = x.fixed && (is_class_type x.ty && is_null v)
+
+abbrev pub has_null_path : List Variable → Bool
+has_null_path vars = list_any (λ (x : Variable). is_null_path x.var x.value) vars
