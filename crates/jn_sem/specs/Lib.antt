@@ -13,3 +13,5 @@ pub mod Asks
 pub mod Acts
 pub mod State
 pub mod Does
+pub mod Reports
+pub mod Run
