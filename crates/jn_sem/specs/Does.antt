@@ -2,7 +2,7 @@
 --
 -- At one act the order is: what is missing, a wrong kind, the act's own faults in the order written here, a slot without a
 -- value, a value outside its type. Where the receiver is null, what needs its view isn't asked: Null stands in that place.
-use Rattle.std.specs.Prelude.{◌≡◌, ℕ, zero, suc, ◌+◌, ◌-◌, drop, ℤ, pos, List, [], ◌∷◌, ◌++◌, length, reverse, Bool, true, false, not, Option, Some, None, IsSome, slice_get, nat_eq, nat_le, int_lt, int_le, codes, if◌then◌else◌, Contains, ◌↔◌}
+use Rattle.std.specs.Prelude.{◌≡◌, ℕ, zero, suc, ◌+◌, ℤ, pos, List, [], ◌∷◌, ◌++◌, length, Bool, true, false, not, Option, Some, None, IsSome, slice_get, nat_eq, nat_le, int_lt, int_le, codes, if◌then◌else◌, Contains, ◌↔◌}
 use Rattle.std.specs.Ordering.{int_eq}
 use Rattle.std.specs.List.Sorted.{IsStrictlySortedBy}
 use Rattle.jn_reach.specs.Each.{Each}
@@ -27,16 +27,17 @@ use Rattle.jn_base.specs.Paths.{Path}
 use Rattle.jn_base.specs.ClassOrder.{name_cmp}
 use Rattle.jn_base.specs.Members.{MethodAt, FieldAt, Least, IsField}
 use Rattle.jn_base.specs.Atoms.{Atom, atom_at}
-use Rattle.jn_base.specs.Scopes.{bound}
 use Rattle.jn_sem.specs.declared.outcome.Why.{Why}
 use Rattle.jn_sem.specs.declared.outcome.Why.TheVariants as why
 use Rattle.jn_sem.specs.Sets.{Views, AnchorSeen, view_at}
 use Rattle.jn_sem.specs.Values.{Value, Number, Truth, Null, Reference, HasField}
 use Rattle.jn_sem.specs.Sharing.{IsClass, Counterpart, HangsOnThis, family_of}
-use Rattle.jn_sem.specs.Terms.{Var, FieldTypeIs, NewTermIs, SuperTermIs, ViewIs, TypeIs}
+use Rattle.jn_base.specs.declared.names.Var.{Var}
+use Rattle.jn_base.specs.declared.names.Role.TheVariants as role
+use Rattle.jn_sem.specs.Terms.{FieldTypeIs, TermIs, SuperBound, ViewIs, TypeIs}
 use Rattle.jn_sem.specs.Slots.{Slot, IsSlot, IsSize, this_viewed}
 use Rattle.jn_sem.specs.Acts.{Act, Push, Read, This, Invert, Negate, Operate, Decide, Get, Call, Make, Super, View, Bind, Assign, Put, Choose, Repeat, Return, Print, PrintText, Begin, Open, Todo, todo, acts, stmts_acts, locals_in}
-use Rattle.jn_sem.specs.State.{Stored, Object, Heap, stored_value, slot_value, with_slot, with_object, IsIn, Variable, Frame, frame_views, declared_vars, scope_of, variable, assigned, is_null_path}
+use Rattle.jn_sem.specs.State.{Stored, Object, Heap, stored_value, slot_value, with_slot, with_object, IsIn, Variable, Frame, frame_views, site_of, result_site, variable, assigned, is_null_path}
 use Rattle.jn_sem.specs.Asks.{OnOnly, OnTest, OnSome, OnIf, OnFirst, It}
 
 -- how a run ends
@@ -48,7 +49,7 @@ pub data Ending : Type 0 where
   Depth : Ending
   Stuck : Why → Ending
 
--- A body that is called: the declaration that has it, the method, and its parameters as they were declared, the last first.
+-- A body that is called: the declaration that has it, the method, and its parameters as they are declared, in order.
 pub record Entry : Type 0 where
   pub class : Path
   pub method : Method
@@ -213,8 +214,8 @@ var x path fixed t = record { name = x; path = path; fixed = fixed; ty = t }
 abbrev pub AreParamsAfter : Program → Body → List Var → List Param → List Var → Type 0
 AreParamsAfter p b before [] all = all ≡ before
 AreParamsAfter p b before (x ∷ xs) all =
-    (t : Ty) × TypeIs p b.class b.method.name.name before x.ty t
-    × AreParamsAfter p b (var x.name.name (suc (length before)) x.fixed t ∷ before) xs all
+    (t : Ty) × TypeIs p (record { class = b.class; method = b.method.name.name; vars = before }) x.ty t
+    × AreParamsAfter p b (before ++ var x.name.name (suc (length before)) x.fixed t ∷ []) xs all
 
 abbrev pub AreParams : Program → Body → List Var → Type 0
 AreParams p b vars = AreParamsAfter p b [] b.method.params vars
@@ -251,20 +252,14 @@ pub record AreFresh (p : Program) (V : Path) (xs : List Stored) : Type 0 where
 -- the class that `new T` makes, by the views of the paths
 pub record IsNewClass (p : Program) (f : Frame) (t : Term) (V : Path) : Type 0 where
   pub atom : Atom
-  pub resolved : NewTermIs p f.class f.method.name.name (declared_vars f) t atom
+  pub resolved : TermIs p role.New (site_of f) t atom
   pub seen : AnchorSeen (frame_views f) atom.anchor
   pub is : V ≡ atom_at (view_at (frame_views f)) atom
-
--- the bound of the term of `super[T]`, so that the body is known when the caller is checked
-pub record IsSuperClass (p : Program) (f : Frame) (t : Term) (B : Path) : Type 0 where
-  pub atom : Atom
-  pub resolved : SuperTermIs p f.class f.method.name.name (declared_vars f) t atom
-  pub is : B ≡ bound (scope_of f.class (declared_vars f)) atom
 
 -- the family of the target of a view, by the views of the paths
 pub record IsTargetFamily (p : Program) (f : Frame) (t : ViewTerm) (Y : Name) : Type 0 where
   pub atom : Atom
-  pub resolved : ViewIs p f.class f.method.name.name (declared_vars f) t atom
+  pub resolved : ViewIs p (site_of f) t atom
   pub seen : AnchorSeen (frame_views f) atom.anchor
   pub is : family_of (atom_at (view_at (frame_views f)) atom) ≡ Some Y
 
@@ -341,19 +336,19 @@ abbrev pub decided : Frame → Expr → List Value → Heap → Bool → (goes_o
 decided f e vs h b true = goes_with f vs (acts (length f.vars) e f.todo) h
 decided f e vs h b false = goes f (Truth b ∷ vs) h
 
+abbrev pub bound_to : Var → Value → Variable
+bound_to x v = record { var = x; value = v }
+
 -- a local: a `final` one of class type must not be null
 abbrev pub binds : Program → Frame → Heap → Var → Value → List Value → Way
 binds p f h x v vs =
-    OnIf (not (is_null_path x v)) (ends AtNull) (on_typed p f h x.ty v (It (Goes (record f { vals = vs; vars = record { var = x; value = v } ∷ f.vars }) h [])))
+    OnIf (not (is_null_path (bound_to x v))) (ends AtNull)
+      (on_typed p f h x.ty v (It (Goes (record f { vals = vs; vars = f.vars ++ bound_to x v ∷ [] }) h [])))
 
--- the result's type is resolved with the parameters in scope
-abbrev pub param_vars : Frame → List Var
-param_vars f = drop (length f.vars - length f.method.params) (declared_vars f)
-
+-- a result: the method has one, and the value is in its type, in which the parameters are in scope
 abbrev pub returns : Program → Frame → Heap → Option TypeTerm → Value → Way
 returns p f h None v = wrong_kind
-returns p f h (Some t) v =
-    OnOnly (TypeIs p f.class f.method.name.name (param_vars f) t) missing (λ t. on_typed p f h t v (It (Leaves (Some v) h)))
+returns p f h (Some t) v = OnOnly (TypeIs p (result_site f) t) missing (λ t. on_typed p f h t v (It (Leaves (Some v) h)))
 
 abbrev pub returns_none : Option TypeTerm → Heap → Way
 returns_none None h = It (Leaves None h)
@@ -383,11 +378,11 @@ Does p m (Call name n keeps) f h =
 Does p m (Make t n keeps) f h =
     on_args n f (λ args vs. OnOnly (IsNewClass p f t) missing (λ V. makes p m V args keeps f vs h))
 Does p m (Super t name n keeps) f h =
-    on_args n f (λ args vs. OnOnly (IsSuperClass p f t) missing (λ B. calls p B name f.this args (waiting keeps f vs) h))
+    on_args n f (λ args vs. OnOnly (SuperBound p (site_of f) t) missing (λ B. calls p B name f.this args (waiting keeps f vs) h))
 Does p m (View t) f h =
     on_one f (λ v vs. OnOnly (IsTargetFamily p f t) missing (λ Y. on_viewed p Y v (λ w. goes f (w ∷ vs) h)))
 Does p m (Bind fixed t x path) f h =
-    on_one f (λ v vs. OnOnly (TypeIs p f.class f.method.name.name (declared_vars f) t) missing (λ t. binds p f h (var x path fixed t) v vs))
+    on_one f (λ v vs. OnOnly (TypeIs p (site_of f) t) missing (λ t. binds p f h (var x path fixed t) v vs))
 Does p m (Assign x) f h =
     on_one f (λ v vs. OnSome (variable f.vars x) missing (λ y. on_typed p f h y.var.ty v (It (Goes (record f { vals = vs; vars = assigned f.vars x v }) h []))))
 Does p m (Put field) f h =

@@ -1,5 +1,5 @@
 -- Run: what a program prints and how it ends, with so many charges, this arena and this depth.
-use Rattle.std.specs.Prelude.{◌≡◌, ℕ, suc, List, [], ◌∷◌, ◌++◌, length, reverse, true, false, not, Option, Some, None, nat_lt}
+use Rattle.std.specs.Prelude.{◌≡◌, ℕ, suc, List, [], ◌∷◌, ◌++◌, length, take, true, false, not, Option, Some, None, nat_lt}
 use Rattle.jn_steps.specs.Runs.{Next, On, End}
 use Rattle.jn_steps.specs.Steps.{Goes, Enters, Leaves, Falls, Faults}
 use Rattle.jn_steps.specs.Frames.{State}
@@ -12,7 +12,7 @@ use Rattle.jn_sem.specs.declared.outcome.Outcome.TheVariants as outcome
 use Rattle.jn_sem.specs.declared.outcome.Why.TheVariants as why
 use Rattle.jn_sem.specs.Values.{Value, Null}
 use Rattle.jn_sem.specs.Acts.{Act, Begin, Open, Todo, todo, stmts_acts}
-use Rattle.jn_sem.specs.State.{Heap, Variable, Frame, frame_views, IsIn, oldest, with_values, has_null_path}
+use Rattle.jn_sem.specs.State.{Heap, Variable, Frame, frame_views, IsIn, with_values, has_null_path}
 use Rattle.jn_sem.specs.Does.{Ending, Ends, AtNull, Zero, Arena, Depth, Stuck, Entry, Did, kept, Does}
 use Rattle.jn_sem.specs.Asks.{OnTest, OnIf, It}
 use Rattle.jn_sem.specs.Reports.{Reports}
@@ -64,7 +64,7 @@ frame_of e this args = record {
   class = e.class;
   method = e.method;
   this = this;
-  vars = with_values e.vars (reverse args);
+  vars = with_values e.vars args;
   vals = [];
   todo = stmts_acts (length e.vars) (suc (length e.vars)) e.method.body [];
   keeps = false;
@@ -97,7 +97,7 @@ proceeds p depth (Faults o) fs out = It (over o out)
 
 -- the frame without its next act, and without the variables of blocks that have ended
 abbrev pub acting : Todo → List Todo → Frame → Frame
-acting t k f = record f { vars = oldest t.scope f.vars; todo = k }
+acting t k f = record f { vars = take t.scope f.vars; todo = k }
 
 pub record Charged (p : Program) (capacity depth : ℕ) (t : Todo) (k : List Todo) (f : Frame) (fs : List Frame) (h : Heap) (out : List ℕ) (x : Then) : Type 0 where
   pub did : Did

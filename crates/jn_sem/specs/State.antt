@@ -1,5 +1,5 @@
 -- States of a run: objects, frames, and what a frame has still to do.
-use Rattle.std.specs.Prelude.{◌≡◌, ℕ, suc, ◌+◌, ◌-◌, List, [], ◌∷◌, ◌++◌, length, map, drop, reverse, Bool, true, false, ◌&&◌, not, cond, nat_eq, Option, Some, None, IsSome, slice_get, slice_set}
+use Rattle.std.specs.Prelude.{◌≡◌, ℕ, suc, ◌+◌, List, [], ◌∷◌, ◌++◌, length, map, take, reverse, Bool, true, false, ◌&&◌, not, cond, nat_eq, Option, Some, None, IsSome, slice_get, slice_set}
 use Rattle.std.specs.Option.{option_map, option_and_then}
 use Rattle.std.specs.List.{find, list_any}
 use Rattle.jn_base.specs.declared.tree.Name.{Name}
@@ -8,12 +8,12 @@ use Rattle.jn_base.specs.declared.tree.Program.{Program}
 use Rattle.jn_base.specs.declared.types.Ty.{Ty}
 use Rattle.jn_base.specs.declared.types.Ty.TheVariants as ty
 use Rattle.jn_base.specs.Paths.{Path}
-use Rattle.jn_base.specs.Scopes.{Bind, Scope, this_bind}
-use Rattle.jn_base.specs.Atoms.{Among}
 use Rattle.jn_sem.specs.Sets.{Views}
 use Rattle.jn_sem.specs.Values.{Value, Number, Truth, Null, Reference, ValueIn}
 use Rattle.jn_sem.specs.Slots.{Slot, IsSlot}
-use Rattle.jn_sem.specs.Terms.{Var, mask_names}
+use Rattle.jn_base.specs.declared.names.Var.{Var}
+use Rattle.jn_base.specs.ResolveTypes.{mask_names}
+use Rattle.jn_sem.specs.Terms.{Site}
 use Rattle.jn_sem.specs.Acts.{Todo}
 
 -- ---- objects
@@ -83,7 +83,7 @@ pub record Frame : Type 0 where
   pub method : Method
   -- `this`, which is null in the frame that starts the program
   pub this : Value
-  -- the variables in scope, the newest first
+  -- the variables in scope, in the order of their declarations
   pub vars : List Variable
   -- the operands already had, the latest first
   pub vals : List Value
@@ -102,41 +102,44 @@ abbrev pub view_of_var : List Variable → ℕ → Option Path
 view_of_var [] q = None
 view_of_var (x ∷ xs) q = cond (nat_eq q x.var.path) (view_in x.value) (view_of_var xs q)
 
--- the view of each path's object: `this` is path 0, and each variable has its own number
-abbrev pub views : Value → List Variable → Views
-views this vars q = cond (nat_eq q 0) (view_in this) (view_of_var vars q)
-
+-- rho: the view of each path's object; `this` is path 0, and each variable has its own number
 abbrev pub frame_views : Frame → Views
-frame_views f = views f.this f.vars
+frame_views f q = cond (nat_eq q 0) (view_in f.this) (view_of_var f.vars q)
 
 abbrev pub declared_var : Variable → Var
 declared_var x = x.var
 
--- the variables in scope, as they were declared
-abbrev pub declared_vars : Frame → List Var
-declared_vars f = map declared_var f.vars
+abbrev pub declared_vars : List Variable → List Var
+declared_vars vars = map declared_var vars
 
-abbrev pub var_bind : Var → Bind
-var_bind x = record { path = x.path; ty = x.ty }
+-- where a term of the body stands, with these variables in scope
+abbrev pub site : Frame → List Variable → Site
+site f vars = record { class = f.class; method = f.method.name.name; vars = declared_vars vars }
 
--- the scope of a body of the class Q, with these variables
-abbrev pub scope_of : Path → List Var → Scope
-scope_of Q vars = map var_bind vars ++ this_bind Q ∷ []
+-- with all those that are in scope
+abbrev pub site_of : Frame → Site
+site_of f = site f f.vars
+
+-- those of the result: the parameters, which are the first
+abbrev pub result_site : Frame → Site
+result_site f = site f (take (length f.method.params) f.vars)
+
+abbrev pub is_named : Name → Variable → Bool
+is_named x y = nat_eq y.var.name.0 x.0
 
 -- the newest variable of the name
 abbrev pub variable : List Variable → Name → Option Variable
-variable vars x = find (λ (y : Variable). nat_eq y.var.name.0 x.0) vars
+variable vars x = find (is_named x) (reverse vars)
+
+abbrev pub first_assigned : List Variable → Name → Value → List Variable
+first_assigned [] x v = []
+first_assigned (y ∷ ys) x v = cond (is_named x y) (record y { value = v } ∷ ys) (y ∷ first_assigned ys x v)
 
 -- it gets the value
 abbrev pub assigned : List Variable → Name → Value → List Variable
-assigned [] x v = []
-assigned (y ∷ ys) x v = cond (nat_eq y.var.name.0 x.0) (record y { value = v } ∷ ys) (y ∷ assigned ys x v)
+assigned vars x v = reverse (first_assigned (reverse vars) x v)
 
--- the n oldest variables: those that are in scope again behind a block
-abbrev pub oldest : ℕ → List Variable → List Variable
-oldest n vars = drop (length vars - n) vars
-
--- variables with their values, in one order
+-- variables with their values
 abbrev pub with_values : List Var → List Value → List Variable
 with_values [] vs = []
 with_values (x ∷ xs) [] = []
@@ -156,8 +159,8 @@ is_null (Truth b) = false
 is_null (Reference o V) = false
 
 -- a `final` variable of class type is a path, and must not be null
-abbrev pub is_null_path : Var → Value → Bool
-is_null_path x v = x.fixed && (is_class_type x.ty && is_null v)
+abbrev pub is_null_path : Variable → Bool
+is_null_path x = x.var.fixed && (is_class_type x.var.ty && is_null x.value)
 
 abbrev pub has_null_path : List Variable → Bool
-has_null_path vars = list_any (λ (x : Variable). is_null_path x.var x.value) vars
+has_null_path vars = list_any is_null_path vars
