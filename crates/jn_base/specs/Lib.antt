@@ -4,10 +4,15 @@ pub mod Duplicates
 pub mod DuplicatesExample
 pub mod ExampleTrees
 pub mod FamiliesExample
+pub mod Forms
+pub mod FormTests
 pub mod LawsOfSupers
 pub mod LawsOfTable
 pub mod Members
 pub mod Paths
+pub mod Resolve
+pub mod ResolveLaws
+pub mod ResolveTypes
 pub mod SmallExamples
 pub mod Supers
 pub mod TableRules

@@ -10,7 +10,9 @@
 #![tactic(auto)]
 
 pub mod examples;
+pub mod forms;
 pub mod laws;
+pub mod names;
 pub mod path;
 pub mod refusal;
 pub mod token;
