@@ -7,3 +7,6 @@ pub mod Seeking
 pub mod Endings
 pub mod FirstAtoms
 pub mod Levels
+pub mod TypeSets
+pub mod BelowProof
+pub mod NormalTypes

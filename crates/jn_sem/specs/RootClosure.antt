@@ -2,9 +2,12 @@
 use Rattle.std.specs.Prelude.{◌≡◌, ℕ, List}
 use Rattle.jn_base.specs.declared.tree.Program.{Program}
 use Rattle.jn_base.specs.declared.types.Anchor.TheVariants.{Root, Up}
+use Rattle.jn_base.specs.declared.types.Ty.{Ty}
+use Rattle.jn_base.specs.Paths.{Path}
 use Rattle.jn_base.specs.Universe.{InUniverse}
 use Rattle.jn_base.specs.Atoms.{Atom, atoms_in, Among}
 use Rattle.jn_base.specs.Scopes.{Bind, Scope, bound}
+use Rattle.jn_sem.specs.Sets.{no_views, InAtom}
 use Rattle.jn_sem.specs.Widening.{replaced}
 
 -- The root closure replaces each Up(q, k) by step 3 for each atom of q's type, until all anchors are Root. An atom whose
@@ -20,3 +23,8 @@ pub record InClosure (p : Program) (s : Scope) (xs : List Atom) (z : Atom) : Typ
   pub from : Atom
   pub among : Among xs from
   pub opens : Opens p s from z
+
+-- The classes of the root closure of a type: those in each of its atoms, in no state, since it has no paths. A closure left
+-- without atoms holds every class.
+abbrev pub InRootClosure : Program → Scope → Ty → Path → Type 0
+InRootClosure p s t V = (z : Atom) → InClosure p s (atoms_in t) z → InAtom p no_views z V

@@ -1,5 +1,5 @@
 -- Types as sets of classes, in a state that has views for its paths.
-use Rattle.std.specs.Prelude.{◌≡◌, ◌++◌, ℕ, List, Option, Some, length, drop, unwrap_or, IsSome, []}
+use Rattle.std.specs.Prelude.{◌≡◌, ◌++◌, ℕ, List, Option, None, length, drop, unwrap_or, IsSome, []}
 use Rattle.jn_base.specs.declared.tree.Program.{Program}
 use Rattle.jn_base.specs.declared.types.Anchor.{Anchor}
 use Rattle.jn_base.specs.declared.types.Anchor.TheVariants.{Root, Up}
@@ -14,6 +14,9 @@ use Rattle.jn_base.specs.Scopes.{Bind, Scope, Binds}
 -- rho: the view of each path's object, where it has one. A path that is bound to null, or not in scope, has none.
 abbrev pub Views : Type 0
 Views = ℕ → Option Path
+
+abbrev pub no_views : Views
+no_views q = None
 
 abbrev pub Seen : Views → ℕ → Type 0
 Seen v q = IsSome (v q)

@@ -37,10 +37,10 @@ FieldsFilled p names Filled m V = (f : Name) → HasField p V f → (Masked name
 -- type is the null type and it is null; or the type is a class type and it is null, or a reference whose view is in the type
 -- and each field of that view, but for the masked ones, has a value in its slot.
 -- `Filled o V f` says that the slot of the field f at the view V of the object o has a value.
-pub data ValueIn (p : Program) (names : List Name) (v : Views) (Filled : ℕ → Path → Name → Type 0) (t : Ty) (value : Value) : Type 0 where
-  number : (z : ℤ) → t ≡ ty.Int → value ≡ Number z → ValueIn p names v Filled t value
-  truth : (b : Bool) → t ≡ ty.Bool → value ≡ Truth b → ValueIn p names v Filled t value
-  null : t ≡ ty.Null → value ≡ Null → ValueIn p names v Filled t value
-  no_object : (xs : List ShownAtom) (m : Masks) → t ≡ ty.Class xs m → value ≡ Null → ValueIn p names v Filled t value
-  object : (xs : List ShownAtom) (m : Masks) (o : ℕ) (V : Path) → t ≡ ty.Class xs m → value ≡ Reference o V → InType p v t V
-      → FieldsFilled p names (Filled o V) m V → ValueIn p names v Filled t value
+pub data ValueIn (p : Program) (names : List Name) (v : Views) (Filled : ℕ → Path → Name → Type 0) : Ty → Value → Type 0 where
+  number : {z : ℤ} → ValueIn p names v Filled ty.Int (Number z)
+  truth : {b : Bool} → ValueIn p names v Filled ty.Bool (Truth b)
+  null : ValueIn p names v Filled ty.Null Null
+  no_object : {xs : List ShownAtom} {m : Masks} → ValueIn p names v Filled (ty.Class xs m) Null
+  object : {xs : List ShownAtom} {m : Masks} {o : ℕ} {V : Path} → InType p v (ty.Class xs m) V → FieldsFilled p names (Filled o V) m V
+      → ValueIn p names v Filled (ty.Class xs m) (Reference o V)

@@ -1,9 +1,35 @@
-ghost use Rattle.jn_base.specs.declared.tree.Program.{Program};
-ghost use Rattle.jn_base.specs.declared.types.Ty.TheVariants as ty;
-ghost use Rattle.jn_base.specs.Paths.{Path};
-ghost use Rattle.jn_sem.specs.Sets.{Views, InType};
+ghost use Rattle.jn_sem.specs.LawsOfTypes.{NormalForm, Searching, Substitution, Widening};
 
-/// No class is in `int`.
-pub fn no_class_in_int()
-    ensures { (p : Program) (v : Views) (V : Path) → InType p v ty.Int V → ⊥ }
+/// Each step of widening goes from a set of classes to one that holds it, and so do "below" and the root closure.
+pub fn widening()
+    ensures { Widening }
 {}
+
+/// A substituted type has the classes and values of the type with the new paths' views put for the old ones, and a normal
+/// form those of its type.
+pub fn substitution()
+    ensures { Substitution }
+{}
+
+/// The normal form of an atom is what repeated rewriting ends with.
+pub fn normal_form()
+    ensures { NormalForm }
+{}
+
+/// A chain of widening steps is what one turn of the search asks, and the search goes to older paths.
+pub fn searching()
+    ensures { Searching }
+{}
+
+#[cfg(test)]
+mod tests {
+    use super::*;
+
+    #[test]
+    fn each_law_holds() {
+        widening();
+        substitution();
+        normal_form();
+        searching();
+    }
+}

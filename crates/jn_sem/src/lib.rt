@@ -5,3 +5,4 @@
 
 pub mod laws;
 pub mod outcome;
+pub mod type_examples;
