@@ -5,7 +5,6 @@ pub mod Below
 pub mod RootClosure
 pub mod Normal
 pub mod Search
-<<<<<<< HEAD
 pub mod Sharing
 pub mod Terms
 pub mod Slots
@@ -16,7 +15,5 @@ pub mod State
 pub mod Does
 pub mod Reports
 pub mod Run
-=======
 pub mod LawsOfTypes
 pub mod BelowExample
->>>>>>> a5f60f8dc71f8014cd474459ac8a5b638f16bef1
