@@ -1,3 +1,7 @@
+mod Sure
+mod SureActs
+mod SureCharges
+mod RunLaws
 pub mod Under
 pub mod Widenings
 pub mod Substitutions

@@ -17,3 +17,4 @@ pub mod Reports
 pub mod Run
 pub mod LawsOfTypes
 pub mod BelowExample
+pub mod LawsOfRuns

@@ -5,4 +5,5 @@
 
 pub mod laws;
 pub mod outcome;
+pub mod runs;
 pub mod type_examples;
