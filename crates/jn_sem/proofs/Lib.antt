@@ -2,6 +2,7 @@ mod Sure
 mod SureActs
 mod SureCharges
 mod RunLaws
+mod ActLaws
 pub mod Under
 pub mod Widenings
 pub mod Substitutions

@@ -1,15 +1,15 @@
 -- What a body has to do, as the list of its acts: each node acts once its operands are had.
-use Rattle.std.specs.Prelude.{ℕ, ◌+◌, List, [], ◌∷◌, length, map, Bool, true, false, Option, Some, None}
+use Rattle.std.specs.Prelude.{ℕ, suc, List, [], ◌∷◌, length, map, Bool, true, false, Option, Some, None}
 use Rattle.jn_base.specs.declared.tree.Name.{Name}
 use Rattle.jn_base.specs.declared.tree.Term.{Term}
 use Rattle.jn_base.specs.declared.tree.ViewTerm.{ViewTerm}
 use Rattle.jn_base.specs.declared.tree.TypeTerm.{TypeTerm}
 use Rattle.jn_base.specs.declared.tree.Op.{Op}
 use Rattle.jn_base.specs.declared.tree.Op.TheVariants as op
-use Rattle.jn_base.specs.declared.tree.Node.{Node}
+use Rattle.jn_base.specs.declared.tree.Node.{Node, para-Node}
 use Rattle.jn_base.specs.declared.tree.Expr.{Expr, para-Expr}
-use Rattle.jn_base.specs.declared.tree.Link.{Link}
-use Rattle.jn_base.specs.declared.tree.Suffix.{Suffix}
+use Rattle.jn_base.specs.declared.tree.Link.{Link, para-Link}
+use Rattle.jn_base.specs.declared.tree.Suffix.{Suffix, para-Suffix}
 use Rattle.jn_base.specs.declared.tree.Node.TheOpen.{Node-F, Expr-F, Link-F, Suffix-F}
 use Rattle.jn_base.specs.declared.tree.Stmt.{Stmt, para-Stmt}
 use Rattle.jn_base.specs.declared.tree.Stmt.TheOpen.{Stmt-F}
@@ -114,8 +114,17 @@ suffix_at name (Some args) keeps n k = all_do args n (todo n (Call name (length 
 abbrev pub suffix_step : Suffix-F (Node × Doing) (Expr × Doing) (Link × Doing) (Suffix × Doing) → Doing
 suffix_step s = suffix_at s.name.name s.args
 
+abbrev pub node_does : Node → Doing
+node_does = para-Node Doing Doing Doing Doing node_step expr_step link_step suffix_step
+
 abbrev pub expr_does : Expr → Doing
 expr_does = para-Expr Doing Doing Doing Doing node_step expr_step link_step suffix_step
+
+abbrev pub link_does : Link → Doing
+link_does = para-Link Doing Doing Doing Doing node_step expr_step link_step suffix_step
+
+abbrev pub suffix_does : Suffix → Doing
+suffix_does = para-Suffix Doing Doing Doing Doing node_step expr_step link_step suffix_step
 
 -- what an expression has to do, with n variables in scope, and then k
 abbrev pub acts : ℕ → Expr → List Todo → List Todo
@@ -127,21 +136,22 @@ call_acts n e k = expr_does e false n k
 
 -- ---- statements
 
--- What a statement has to do, with n variables in scope and `path` the number of the next local; how many variables it
--- brings into scope behind it; and how many locals it has at all. The locals of a body are numbered in source order.
+-- What a statement has to do, with `scope` variables in scope and `path` the number of the next local, and then `rest`; how
+-- many variables are in scope behind it, and the number of the next local. The locals of a body are numbered in source
+-- order, those of inner blocks too.
 pub record InBody : Type 0 where
-  pub binds : ℕ
-  pub locals : ℕ
+  pub scope_after : ℕ → ℕ
+  pub path_after : ℕ → ℕ
   pub does : (scope path : ℕ) (rest : List Todo) → List Todo
 
 -- Blocks are free: their statements are done one after the other.
 abbrev pub block_does : List (Stmt × InBody) → (scope path : ℕ) (rest : List Todo) → List Todo
 block_does [] n path k = k
-block_does (s ∷ ss) n path k = s.1.does n path (block_does ss (n + s.1.binds) (path + s.1.locals) k)
+block_does (s ∷ ss) n path k = s.1.does n path (block_does ss (s.1.scope_after n) (s.1.path_after path) k)
 
-abbrev pub block_locals : List (Stmt × InBody) → ℕ
-block_locals [] = 0
-block_locals (s ∷ ss) = s.1.locals + block_locals ss
+abbrev pub block_after : List (Stmt × InBody) → ℕ → ℕ
+block_after [] path = path
+block_after (s ∷ ss) path = block_after ss (s.1.path_after path)
 
 abbrev pub tree_of : Stmt × InBody → Stmt
 tree_of s = s.0
@@ -149,33 +159,34 @@ tree_of s = s.0
 abbrev pub trees : List (Stmt × InBody) → List Stmt
 trees ss = map tree_of ss
 
+abbrev pub as_it_was : ℕ → ℕ
+as_it_was n = n
+
+-- one that brings no variable into scope and has no local
 abbrev pub simple : ((scope : ℕ) (rest : List Todo) → List Todo) → InBody
-simple does = record { binds = 0; locals = 0; does = λ n path k. does n k }
+simple does = record { scope_after = as_it_was; path_after = as_it_was; does = λ n path k. does n k }
+
+-- one with blocks, which bring no variable into scope behind it
+abbrev pub with_blocks : (path_after : ℕ → ℕ) → ((scope path : ℕ) (rest : List Todo) → List Todo) → InBody
+with_blocks after does = record { scope_after = as_it_was; path_after = after; does = does }
 
 abbrev pub return_does : Option Expr → ℕ → List Todo → List Todo
 return_does None n k = todo n (Return false) ∷ k
 return_does (Some e) n k = acts n e (todo n (Return true) ∷ k)
 
 abbrev pub stmt_step : Stmt-F (Stmt × InBody) → InBody
-stmt_step (Stmt-F.Block body) = record { binds = 0; locals = block_locals body; does = block_does body }
+stmt_step (Stmt-F.Block body) = with_blocks (block_after body) (block_does body)
 stmt_step (Stmt-F.Local fixed ty name e) = record {
-  binds = 1;
-  locals = 1;
+  scope_after = suc;
+  path_after = suc;
   does = λ n path k. acts n e (todo n (Bind fixed ty name.name path) ∷ k);
 }
 stmt_step (Stmt-F.Assign name e) = simple (λ n k. acts n e (todo n (Assign name.name) ∷ k))
 stmt_step (Stmt-F.Set of name e) = simple (λ n k. acts n of (acts n e (todo n (Put name.name) ∷ k)))
 stmt_step (Stmt-F.Do e) = simple (λ n k. call_acts n e k)
-stmt_step (Stmt-F.If e body other at) = record {
-  binds = 0;
-  locals = block_locals body + block_locals other;
-  does = λ n path k. acts n e (todo n (Choose path (trees body) (trees other)) ∷ k);
-}
-stmt_step (Stmt-F.While e body at) = record {
-  binds = 0;
-  locals = block_locals body;
-  does = λ n path k. acts n e (todo n (Repeat path e (trees body)) ∷ k);
-}
+stmt_step (Stmt-F.If e body other at) = with_blocks (λ path. block_after other (block_after body path))
+  (λ n path k. acts n e (todo n (Choose path (trees body) (trees other)) ∷ k))
+stmt_step (Stmt-F.While e body at) = with_blocks (block_after body) (λ n path k. acts n e (todo n (Repeat path e (trees body)) ∷ k))
 stmt_step (Stmt-F.Return e at) = simple (return_does e)
 stmt_step (Stmt-F.Print e at) = simple (λ n k. acts n e (todo n Print ∷ k))
 stmt_step (Stmt-F.PrintText text at) = simple (λ n k. todo n (PrintText text) ∷ k)
@@ -191,6 +202,6 @@ with_work s = (s, in_body s)
 abbrev pub stmts_acts : (scope path : ℕ) → List Stmt → List Todo → List Todo
 stmts_acts n path ss k = block_does (map with_work ss) n path k
 
--- how many locals they have, in inner blocks too
-abbrev pub locals_in : List Stmt → ℕ
-locals_in ss = block_locals (map with_work ss)
+-- the number of the next local behind them
+abbrev pub path_behind : List Stmt → ℕ → ℕ
+path_behind ss path = block_after (map with_work ss) path

@@ -36,7 +36,7 @@ use Rattle.jn_base.specs.declared.names.Var.{Var}
 use Rattle.jn_base.specs.declared.names.Role.TheVariants as role
 use Rattle.jn_sem.specs.Terms.{FieldTypeIs, TermIs, SuperBound, ViewIs, TypeIs}
 use Rattle.jn_sem.specs.Slots.{Slot, IsSlot, IsSize, this_viewed}
-use Rattle.jn_sem.specs.Acts.{Act, Push, Read, This, Invert, Negate, Operate, Decide, Get, Call, Make, Super, View, Bind, Assign, Put, Choose, Repeat, Return, Print, PrintText, Begin, Open, Todo, todo, acts, stmts_acts, locals_in}
+use Rattle.jn_sem.specs.Acts.{Act, Push, Read, This, Invert, Negate, Operate, Decide, Get, Call, Make, Super, View, Bind, Assign, Put, Choose, Repeat, Return, Print, PrintText, Begin, Open, Todo, todo, acts, stmts_acts, path_behind}
 use Rattle.jn_sem.specs.State.{Stored, Object, Heap, stored_value, slot_value, with_slot, with_object, IsIn, Variable, Frame, frame_views, site_of, result_site, variable, assigned, is_null_path}
 use Rattle.jn_sem.specs.Asks.{OnOnly, OnTest, OnSome, OnIf, OnFirst, It}
 
@@ -324,7 +324,7 @@ on_typed p f h t v go = OnTest (IsIn p (frame_views f) h t v) foreign go
 
 abbrev pub chosen : Frame → (path : ℕ) → (one other : List Stmt) → Bool → List Todo
 chosen f path one other true = stmts_acts (length f.vars) path one f.todo
-chosen f path one other false = stmts_acts (length f.vars) (path + locals_in one) other f.todo
+chosen f path one other false = stmts_acts (length f.vars) (path_behind one path) other f.todo
 
 abbrev pub repeated : Frame → (path : ℕ) → Expr → List Stmt → Bool → List Todo
 repeated f path e body true =

@@ -18,3 +18,4 @@ pub mod Run
 pub mod LawsOfTypes
 pub mod BelowExample
 pub mod LawsOfRuns
+pub mod LawsOfActs

@@ -3,6 +3,7 @@
 //! Nothing here computes: `specs/` has the definitions, and `laws` carries what is proved of them.
 #![tactic(auto)]
 
+pub mod acts;
 pub mod laws;
 pub mod outcome;
 pub mod runs;
