@@ -3,6 +3,7 @@ mod SureActs
 mod SureCharges
 mod RunLaws
 mod ActLaws
+mod TwoPrintsProof
 pub mod Under
 pub mod Widenings
 pub mod Substitutions

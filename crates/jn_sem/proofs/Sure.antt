@@ -49,3 +49,7 @@ pub sure_first : {A D : Type 0} (xs : List A) (Else : D → Type 0) (Go : A → 
     → ((a : A) (rest : List A) → Sure (Go a rest)) → Sure (OnFirst xs Else Go)
 sure_first [] Else Go s t = s
 sure_first (a ∷ rest) Else Go s t = t a rest
+
+pub if_so : {D : Type 0} (b : Bool) (Else Go : D → Type 0) (d : D) → b ≡ true → Go d → OnIf b Else Go d
+if_so true Else Go d e g = g
+if_so false Else Go d e g = cc

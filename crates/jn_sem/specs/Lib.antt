@@ -19,3 +19,4 @@ pub mod LawsOfTypes
 pub mod BelowExample
 pub mod LawsOfRuns
 pub mod LawsOfActs
+pub mod TwoPrints

@@ -6,5 +6,6 @@
 pub mod acts;
 pub mod laws;
 pub mod outcome;
+pub mod run_examples;
 pub mod runs;
 pub mod type_examples;
