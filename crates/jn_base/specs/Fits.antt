@@ -1,12 +1,12 @@
 -- Which types fit a scope, and which scopes fit.
-use Rattle.std.specs.Prelude.{◌≡◌, ◌<◌, ◌≤◌, ℕ, List, [], ◌∷◌, length}
+use Rattle.std.specs.Prelude.{◌≡◌, ◌<◌, ◌≤◌, List, [], ◌∷◌, length}
 use Rattle.jn_base.specs.declared.types.Anchor.{Anchor}
 use Rattle.jn_base.specs.declared.types.Anchor.TheVariants.{Root, Up}
 use Rattle.jn_base.specs.declared.types.Ty.{Ty}
 use Rattle.jn_base.specs.declared.types.Ty.TheVariants as ty
 use Rattle.jn_base.specs.Paths.{Path}
 use Rattle.jn_base.specs.Atoms.{Atom, atoms_in, Among}
-use Rattle.jn_base.specs.Scopes.{Bind, Scope, bound_of, bound, Binds, this_bind}
+use Rattle.jn_base.specs.Scopes.{Scope, bound_of, bound, Binds, this_bind}
 
 -- the path of the anchor is in the scope, and fewer names are taken off than its bound has
 abbrev pub Anchored : Scope → Anchor → Type 0

@@ -1,5 +1,5 @@
 -- Normal forms of types: they fit, there is one at most, and it is its own.
-use Rattle.std.proofs.Common.{◌≡◌, ◌↔◌, ℕ, List, [], ◌∷◌, length, map, reverse, refl, sym, ap, ◌∙◌, subst, arith, ◌≤◌, ◌⊎◌, inl, inr}
+use Rattle.std.proofs.Common.{◌≡◌, ◌↔◌, ℕ, List, [], ◌∷◌, length, map, reverse, refl, sym, ap, ◌∙◌, subst, ◌≤◌, ◌⊎◌, inl, inr}
 use Rattle.std.proofs.lemmas.List.{reverse-reverse}
 use Rattle.std.specs.declared.cmp.Ordering.{Ordering}
 use Rattle.std.specs.declared.cmp.Ordering.TheVariants.{Less, Equal, Greater}
@@ -18,8 +18,10 @@ use Rattle.jn_base.specs.declared.types.Ty.TheVariants as ty
 use Rattle.jn_base.specs.Atoms.{Atom, atom, atom_of, shown_atom, atoms_in, Among, first, later}
 use Rattle.jn_base.specs.Scopes.{Bind, Scope, bound}
 use Rattle.jn_base.specs.Fits.{Anchored, IsClass, AtomsFit, TypeFits, BindsFit}
-use Rattle.jn_sem.specs.Normal.{normal, rewritten, moved_anchor, moved, same_path, atom_cmp, atom_total, IsSubst, TypeSubst, NormalType, MovedFits, EndsWith}
+use Rattle.jn_sem.specs.Normal.{normal, rewritten, moved_anchor, moved, same_path, atom_total, IsSubst, TypeSubst, NormalType, MovedFits, EndsWith}
 use Rattle.jn_sem.proofs.Normals.{Turns, turned, left, rewritten_is, normal_ends}
+use Rattle.jn_sem.specs.NormalFunction.{moved_normal, subst_atoms, subst_type}
+use Rattle.jn_sem.proofs.AtomOrder.{order_sorted, order_each, order_only}
 use Rattle.jn_sem.proofs.Levels.{normal_anchored, normal_depth}
 
 -- elements
@@ -217,3 +219,37 @@ normal_type_again s ty.Int u g i = subst (λ (t : Ty). NormalType s t t) (sym i)
 normal_type_again s ty.Bool u g i = subst (λ (t : Ty). NormalType s t t) (sym i) refl
 normal_type_again s ty.Null u g i = subst (λ (t : Ty). NormalType s t t) (sym i) refl
 normal_type_again s ty.Void u g i = subst (λ (t : Ty). NormalType s t t) (sym i) refl
+
+-- the functions give what the relations pin down
+
+subst_atoms_is : (s : Scope) (f : ℕ → ℕ) (xs : List Atom) → IsSubst s f xs (subst_atoms s f xs)
+subst_atoms_is s f xs = record {
+  each = λ x m. order_each (map (moved_normal s f) xs) (normal s (moved f x)) (among_map (moved_normal s f) xs x m);
+  only = λ y m.
+      let r = map_among (moved_normal s f) xs y (order_only (map (moved_normal s f) xs) y m) in
+      (r.0, r.1, sym r.2);
+  sorted = order_sorted (map (moved_normal s f) xs);
+}
+
+atom_back : (x : Atom) → atom_of (shown_atom x) ≡ x
+atom_back x = ap (λ (es : List Name). atom x.anchor es (reverse (reverse x.names))) (reverse-reverse x.exact) ∙ ap (λ (ns : List Name). atom x.anchor x.exact ns) (reverse-reverse x.names)
+
+pub atoms_back : (xs : List Atom) → map atom_of (map shown_atom xs) ≡ xs
+atoms_back [] = refl
+atoms_back (x ∷ xs) = ap (λ (y : Atom). y ∷ map atom_of (map shown_atom xs)) (atom_back x) ∙ ap (λ (ys : List Atom). x ∷ ys) (atoms_back xs)
+
+subst_type_is : (s : Scope) (f : ℕ → ℕ) (t : Ty) → TypeSubst s f t (subst_type s f t)
+subst_type_is s f (ty.Class xs m) = (
+  subst (IsSubst s f (map atom_of xs)) (sym (atoms_back (subst_atoms s f (map atom_of xs)))) (subst_atoms_is s f (map atom_of xs)),
+  refl,
+)
+subst_type_is s f ty.Int = refl
+subst_type_is s f ty.Bool = refl
+subst_type_is s f ty.Null = refl
+subst_type_is s f ty.Void = refl
+
+pub type_subst_is : (s : Scope) (f : ℕ → ℕ) (t u : Ty) → TypeSubst s f t u ↔ (u ≡ subst_type s f t)
+type_subst_is s f t u = (
+  λ a. type_subst_once s f t u (subst_type s f t) a (subst_type_is s f t),
+  λ e. subst (TypeSubst s f t) (sym e) (subst_type_is s f t),
+)

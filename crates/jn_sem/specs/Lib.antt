@@ -15,8 +15,10 @@ pub mod State
 pub mod Does
 pub mod Reports
 pub mod Run
-pub mod LawsOfTypes
-pub mod BelowExample
 pub mod LawsOfRuns
 pub mod LawsOfActs
 pub mod TwoPrints
+pub mod LawsOfTypes
+pub mod BelowExample
+pub mod NormalFunction
+pub mod TypesExample
