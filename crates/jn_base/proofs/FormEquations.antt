@@ -1,7 +1,5 @@
 -- What a tree mentions, one level deep, and whether it has a form.
-use Rattle.std.proofs.Common.{◌≡◌, ℕ, ℤ, Bool, true, false, IsTrue, List, [], ◌∷◌, ◌++◌, ◌||◌, ◌&&◌, not, map, refl, sym, ap, ◌∙◌, Option, Some, None, Contains, ◌↔◌}
-use Rattle.std.specs.List.{list_any}
-use Rattle.std.proofs.lemmas.List.Folds.{list_any-append}
+use Rattle.std.proofs.Common.{◌≡◌, ℕ, ℤ, Bool, List, [], ◌∷◌, ◌++◌, map, refl, ap, ◌∙◌, Option, Some, None}
 use Rattle.jn_base.specs.declared.tree.Name.{Name}
 use Rattle.jn_base.specs.declared.tree.Named.{Named}
 use Rattle.jn_base.specs.declared.tree.Place.{Place}
@@ -30,7 +28,7 @@ use Rattle.jn_base.specs.declared.tree.Member.TheOpen.{Member-F}
 use Rattle.jn_base.specs.declared.tree.Member.TheFolds.{map-Member, fold_out-Member, fold_out-Decl}
 use Rattle.jn_base.specs.declared.tree.Member.TheVariants as member
 use Rattle.jn_base.specs.declared.tree.Member.TheVariants.{outs-Inner, outs-Slot, outs-Body}
-use Rattle.jn_base.specs.Forms.{Mention, Mentions, Shared, Adapted, Constrained, Viewed, Termed, Masked, all_of, given, of_type, of_view, of_node, of_expr, of_link, of_suffix, of_stmt, of_field, of_method, of_member, of_decl, node_step, expr_step, link_step, suffix_step, stmt_step, member_step, decl_step}
+use Rattle.jn_base.specs.Forms.{Mentions, Shared, Adapted, Viewed, Termed, all_of, given, of_type, of_view, of_node, of_expr, of_link, of_suffix, of_stmt, of_field, of_method, of_member, of_decl, node_step, expr_step, link_step, suffix_step, stmt_step, member_step, decl_step}
 
 -- ---- what is mentioned, one level deep
 

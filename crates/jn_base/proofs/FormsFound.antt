@@ -1,8 +1,7 @@
 -- Whether what is mentioned has a form.
-use Rattle.std.proofs.Common.{◌≡◌, ℕ, Bool, true, false, IsTrue, List, [], ◌∷◌, ◌++◌, ◌||◌, ◌&&◌, not, ◌==◌, length, map, refl, sym, ap, ◌∙◌, Contains, ◌↔◌, ◌⊎◌, inl, inr, arith, ◌<◌, ◌≤◌, ◌+◌, suc, add-one, get_or, drop}
+use Rattle.std.proofs.Common.{◌≡◌, ℕ, Bool, true, false, List, [], ◌∷◌, ◌++◌, ◌||◌, not, ◌==◌, length, map, refl, sym, ap, ◌∙◌, Contains, ◌⊎◌, inl, inr, arith, ◌<◌, ◌≤◌, ◌+◌, suc, add-one, get_or, drop}
 use Rattle.std.proofs.Math.Seq.{drop-cons}
 use Rattle.std.proofs.Math.ListN.{drop_of_length-le}
-use Rattle.std.specs.List.{list_any}
 use Rattle.std.proofs.lemmas.List.Folds.{list_any-append}
 use Rattle.jn_base.specs.declared.tree.Named.{Named}
 use Rattle.jn_base.specs.declared.forms.Form.{Form}
@@ -10,7 +9,7 @@ use Rattle.jn_base.specs.declared.forms.Form.TheVariants as form
 use Rattle.jn_base.specs.Forms.{Mention, Mentions, Mentioned, mentions, all_of, Masked, Shared, Adapted}
 use Rattle.jn_base.proofs.NameTests.{in_cons, in_none, first, later}
 use Rattle.jn_base.specs.declared.tree.Program.{Program}
-use Rattle.jn_base.specs.FormTests.{asks_sharing, is_form, has}
+use Rattle.jn_base.specs.FormTests.{is_form, has}
 
 pub has_none : (f : Form) → has f [] ≡ false
 unfolding has

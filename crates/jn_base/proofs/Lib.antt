@@ -26,3 +26,4 @@ pub mod ExampleSource
 pub mod FormEquations
 pub mod FormsFound
 pub mod ResolveOnce
+pub mod ResolveShown

@@ -1,6 +1,5 @@
 -- A term, a type and a view resolve to one answer.
-use Rattle.std.proofs.Common.{◌≡◌, ◌<◌, ◌≤◌, ◌^◌, ◌*◌, ◌+◌, ◌/◌, ◌%◌, ℕ, zero, suc, Bool, true, false, List, [], ◌∷◌, ◌++◌, length, drop, reverse, get_or, refl, sym, ap, ◌∙◌, subst, ◌⊎◌, inl, inr, Option, Some, None, Result, Ok, Err, Contains, arith, ◌↔◌}
-use Rattle.std.specs.Prelude.{All}
+use Rattle.std.proofs.Common.{◌≡◌, ◌<◌, ◌^◌, ◌*◌, ◌+◌, ◌/◌, ◌%◌, ℕ, zero, suc, Bool, true, false, List, [], ◌∷◌, ◌++◌, length, drop, reverse, get_or, refl, sym, ap, ◌∙◌, subst, ◌⊎◌, inl, inr, Option, Some, None, Result, Ok, Err, arith, ◌↔◌}
 use Rattle.std.specs.Int.{bit_at}
 use Rattle.std.proofs.lemmas.Bool.{cases_order}
 use Rattle.std.proofs.lemmas.Nat.Bits.{bit_at-suc, bit_at_lowest}
@@ -26,10 +25,8 @@ use Rattle.jn_base.specs.declared.names.Vars.{Vars}
 use Rattle.jn_base.specs.declared.refusal.Refusal.{Refusal}
 use Rattle.jn_base.specs.declared.refusal.Rule.TheVariants as rule
 use Rattle.jn_base.specs.Paths.{Path}
-use Rattle.jn_base.specs.Supers.{Member}
-use Rattle.jn_base.specs.Scopes.{Scope, bound_of}
-use Rattle.jn_base.specs.Resolve.{class_of, scope_at, unknown, at_term, FirstUnknown, FoundOut, FoundNowhere, sought_gives, FirstSought, nowhere, found, Sought, Before, IsPath, NotInScope, NoPath, path_before, taken_off, IsAbove, names_of, Behind, unknown_name, not_above, above, BoundGives, PathGives, plain_gives, PlainGiven, PrefixGives, PrefixGiven, AnchorGiven, suits, IsOfClass, atom_with, bound_at, ClassGives, no_class, in_class, SuitGives, AtomGives, Resolve}
-use Rattle.jn_base.specs.ResolveTypes.{IsMask, MasksAre, MaskFits, FirstUnfit, before_all, ResolveAll, none, refused, first, bounds_at, OneDepth, may_mask, mask_unfit, masks_forbidden, Taken, UnfitGives, MaskedGives, UnmaskedGives, MasksGive, DepthsGive, many, one, AtomsGive, ResolveClass, ResolveType, ResolveView}
+use Rattle.jn_base.specs.Resolve.{class_of, scope_at, unknown, at_term, FirstUnknown, FoundOut, sought_gives, FirstSought, nowhere, found, Sought, Before, IsPath, NotInScope, NoPath, names_of, Behind, unknown_name, not_above, above, BoundGives, PathGives, plain_gives, PrefixGives, AnchorGiven, atom_with, bound_at, ClassGives, no_class, in_class, SuitGives, AtomGives, Resolve}
+use Rattle.jn_base.specs.ResolveTypes.{IsMask, MasksAre, FirstUnfit, before_all, ResolveAll, none, refused, first, bounds_at, may_mask, Taken, UnfitGives, UnmaskedGives, MasksGive, DepthsGive, many, one, AtomsGive, ResolveClass, ResolveType, ResolveView}
 
 -- two of one value
 same : {A : Type 0} {a b c : A} → a ≡ c → b ≡ c → a ≡ b
@@ -104,7 +101,7 @@ module _ (p : Program) where
     anchor_once (head.Own r) a b h k = path_once None _ a b h k
     anchor_once (head.Prefix P r) a b h k =
         prefix_gives_once P r h.found a b h.gives
-            (subst (λ (x : Result ℕ Name). PrefixGives p spot vars t P r x b) (sought_once (class_of spot) P k.found h.found k.sought h.sought) k.gives)
+        (subst (λ (x : Result ℕ Name). PrefixGives p spot vars t P r x b) (sought_once (class_of spot) P k.found h.found k.sought h.sought) k.gives)
 
     class_once : (B : Path) (x : ShownAtom) (a b : Result ShownAtom Refusal) → ClassGives p spot t B x a → ClassGives p spot t B x b → a ≡ b
     class_once B x a b (no_class n e) (no_class m f) = same e f
@@ -123,7 +120,7 @@ module _ (p : Program) where
     pub term_once : (a b : Result ShownAtom Refusal) → Resolve p spot vars t a → Resolve p spot vars t b → a ≡ b
     term_once a b h k =
         atom_once h.anchor a b h.gives
-            (subst (λ (x : Result Anchor Refusal). AtomGives p spot vars t x b) (anchor_once t.head k.anchor h.anchor k.given h.given) k.gives)
+        (subst (λ (x : Result Anchor Refusal). AtomGives p spot vars t x b) (anchor_once t.head k.anchor h.anchor k.given h.given) k.gives)
 
 -- ---- sets of masks
 
@@ -145,24 +142,28 @@ same_bits (suc k) m n h j e =
     let lowest : m % 2 ≡ n % 2 = same_parity (m % 2) (n % 2) (omega arith) (omega arith) there back in
     let double : 2 ^ suc k ≡ 2 * 2 ^ k = pow-succ' 2 k in
     let rest : m / 2 ≡ n / 2 = same_bits k (m / 2) (n / 2) (omega arith) (omega arith)
-        (λ i l. (λ x. sym (bit_at-suc n i) ∙ (e (suc i) (omega arith)).0 (bit_at-suc m i ∙ x), λ x. sym (bit_at-suc m i) ∙ (e (suc i) (omega arith)).1 (bit_at-suc n i ∙ x))) in
+    (λ i l. (λ x. sym (bit_at-suc n i) ∙ (e (suc i) (omega arith)).0 (bit_at-suc m i ∙ x), λ x. sym (bit_at-suc m i) ∙ (e (suc i) (omega arith)).1 (bit_at-suc n i ∙ x))) in
     omega arith
 
 masks_once : (names : List Name) (ms : List Named) (a b : Masks) → MasksAre names ms a → MasksAre names ms b → a ≡ b
 masks_once names ms a b h k =
     ap (λ (xs : List ℕ). let m : Masks = record { 0 = xs } in m) (same_number_lists a.0 b.0 (h.words ∙ sym k.words) each_word) where
-  number : (w i : ℕ) → w < 4 → i < 64 → (w * 64 + i) / 64 ≡ w
-  number w i l j = omega arith
-  place : (w i : ℕ) → w < 4 → i < 64 → (w * 64 + i) % 64 ≡ i
-  place w i l j = omega arith
-  bits : (m : Masks) → MasksAre names ms m → (w i : ℕ) → w < 4 → i < 64 → bit_at (get_or m.0 w 0) i ≡ 1 ↔ IsMask names ms (w * 64 + i)
-  bits m are w i l j = let e : w * 64 + i < 256 = omega arith in
-      rw (number w i l j, place w i l j) at (are.each (w * 64 + i) e)
-  wide : (m : Masks) → MasksAre names ms m → (w : ℕ) → w < 4 → get_or m.0 w 0 < 2 ^ 64
-  wide m are w l = are.wide w 0 (omega (arith, are.words, l))
-  each_word : (w : ℕ) → w < length a.0 → get_or a.0 w 0 ≡ get_or b.0 w 0
-  each_word w l = let l4 : w < 4 = omega (arith, h.words, l) in
-      same_bits 64 (get_or a.0 w 0) (get_or b.0 w 0) (wide a h w l4) (wide b k w l4)
+      number : (w i : ℕ) → w < 4 → i < 64 → (w * 64 + i) / 64 ≡ w
+      number w i l j = omega arith
+
+      place : (w i : ℕ) → w < 4 → i < 64 → (w * 64 + i) % 64 ≡ i
+      place w i l j = omega arith
+
+      bits : (m : Masks) → MasksAre names ms m → (w i : ℕ) → w < 4 → i < 64 → bit_at (get_or m.0 w 0) i ≡ 1 ↔ IsMask names ms (w * 64 + i)
+      bits m are w i l j = let e : w * 64 + i < 256 = omega arith in
+          rw (number w i l j, place w i l j) at (are.each (w * 64 + i) e)
+
+      wide : (m : Masks) → MasksAre names ms m → (w : ℕ) → w < 4 → get_or m.0 w 0 < 2 ^ 64
+      wide m are w l = are.wide w 0 (omega (arith, are.words, l))
+
+      each_word : (w : ℕ) → w < length a.0 → get_or a.0 w 0 ≡ get_or b.0 w 0
+      each_word w l = let l4 : w < 4 = omega (arith, h.words, l) in
+          same_bits 64 (get_or a.0 w 0) (get_or b.0 w 0) (wide a h w l4) (wide b k w l4)
           (λ i j. (λ x. (bits b k w i l4 j).1 ((bits a h w i l4 j).0 x), λ x. (bits a h w i l4 j).1 ((bits b k w i l4 j).0 x)))
 
 -- ---- types and views
@@ -177,8 +178,8 @@ module _ (p : Program) (names : List Name) (spot : Spot) (vars : Vars) where
   all_once (t ∷ ts) a b (first x others k l f) (refused r h e) = absurd (let i = term_once p spot vars t (Ok x) (Err r) k h in cc)
   all_once (t ∷ ts) a b (first x others h l e) (first y rest k m f) =
       e ∙ (joined (term_once p spot vars t (Ok x) (Ok y) h k) (all_once ts others rest l m) ∙ sym f) where
-    joined : ◌≡◌ {A = Result ShownAtom Refusal} (Ok x) (Ok y) → others ≡ rest → before_all x others ≡ before_all y rest
-    joined i j = let k' : x ≡ y = cc in ap (λ (z : ShownAtom). before_all z others) k' ∙ ap (before_all y) j
+        joined : ◌≡◌ {A = Result ShownAtom Refusal} (Ok x) (Ok y) → others ≡ rest → before_all x others ≡ before_all y rest
+        joined i j = let k' : x ≡ y = cc in ap (λ (z : ShownAtom). before_all z others) k' ∙ ap (before_all y) j
 
   taken_once : (xs : List ShownAtom) (ms : List Named) (a b : Result Ty Refusal) → Taken names xs ms a → Taken names xs ms b → a ≡ b
   taken_once xs ms a b h k = h.gives ∙ (ap (λ (m : Masks). Ok (ty.Class xs m)) (masks_once names ms h.masks k.masks h.are k.are) ∙ sym k.gives)
@@ -201,15 +202,15 @@ module _ (p : Program) (names : List Name) (spot : Spot) (vars : Vars) where
       → MasksGive p names spot bounds xs ms may a → MasksGive p names spot bounds xs ms may b → a ≡ b
   masks_give_once bounds xs ms true a b h k =
       unfit_gives_once xs ms h.first a b h.gives
-          (subst (λ (m : Option Named). UnfitGives names spot xs ms m b) (unfit_once bounds ms [] k.first h.first k.unfit h.unfit) k.gives)
+      (subst (λ (m : Option Named). UnfitGives names spot xs ms m b) (unfit_once bounds ms [] k.first h.first k.unfit h.unfit) k.gives)
   masks_give_once bounds xs ms false a b h k = unmasked_once xs ms a b h k
 
   depths_once : (ts : List Term) (ms : List Named) (bounds : List Path) (xs : List ShownAtom) (a b : Result Ty Refusal)
       → DepthsGive p names spot ts ms bounds xs a → DepthsGive p names spot ts ms bounds xs b → a ≡ b
   depths_once ts ms bounds xs a b (many t u us n e f) (many v w ws m g h) =
       let i : u ≡ w = second u w (sym e ∙ g) in f ∙ (ap (λ (x : Term). Err (at_term rule.E15 spot x)) i ∙ sym h) where
-    second : (x y : Term) → t ∷ x ∷ us ≡ v ∷ y ∷ ws → x ≡ y
-    second x y i = cc
+        second : (x y : Term) → t ∷ x ∷ us ≡ v ∷ y ∷ ws → x ≡ y
+        second x y i = cc
   depths_once ts ms bounds xs a b (many t u us n e f) (one h k) = absurd (n h)
   depths_once ts ms bounds xs a b (one h k) (many t u us n e f) = absurd (n h)
   depths_once ts ms bounds xs a b (one h k) (one i j) = masks_give_once bounds xs ms (may_mask spot.role) a b k j
@@ -223,7 +224,7 @@ module _ (p : Program) (names : List Name) (spot : Spot) (vars : Vars) where
       → ResolveClass p names spot vars ts ms a → ResolveClass p names spot vars ts ms b → a ≡ b
   class_type_once ts ms a b h k =
       atoms_once ts ms h.atoms a b h.gives
-          (subst (λ (x : Result (List ShownAtom) Refusal). AtomsGive p names spot vars ts ms x b) (all_once ts k.atoms h.atoms k.all h.all) k.gives)
+      (subst (λ (x : Result (List ShownAtom) Refusal). AtomsGive p names spot vars ts ms x b) (all_once ts k.atoms h.atoms k.all h.all) k.gives)
 
   pub type_once : (t : TypeTerm) (a b : Result Ty Refusal) → ResolveType p names spot vars t a → ResolveType p names spot vars t b → a ≡ b
   type_once type.Int a b h k = same h k

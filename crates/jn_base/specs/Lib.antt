@@ -11,6 +11,7 @@ pub mod LawsOfTable
 pub mod Members
 pub mod Paths
 pub mod Resolve
+pub mod ResolveExamples
 pub mod ResolveLaws
 pub mod ResolveTypes
 pub mod SmallExamples

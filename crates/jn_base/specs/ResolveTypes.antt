@@ -1,5 +1,5 @@
 -- What a type or a view stands for: its atoms with its masks, or the first refusal. The numbers of masks.
-use Rattle.std.specs.Prelude.{◌≡◌, ◌<◌, ◌^◌, ℕ, Bool, true, false, not, List, [], ◌∷◌, ◌++◌, map, length, All, Contains, slice_get, Option, Some, None, Result, Ok, Err, ◌⊎◌, ◌↔◌}
+use Rattle.std.specs.Prelude.{◌≡◌, ◌<◌, ◌^◌, ℕ, Bool, true, false, not, List, [], ◌∷◌, ◌++◌, length, All, Contains, slice_get, Option, Some, None, Result, Ok, Err, ◌⊎◌, ◌↔◌}
 use Rattle.jn_base.specs.declared.tree.Name.{Name}
 use Rattle.jn_base.specs.declared.tree.Named.{Named}
 use Rattle.jn_base.specs.declared.tree.Term.{Term}
@@ -21,7 +21,7 @@ use Rattle.jn_base.specs.Paths.{Path}
 use Rattle.jn_base.specs.Members.{FieldDecls}
 use Rattle.jn_base.specs.Atoms.{HasMask}
 use Rattle.jn_base.specs.Duplicates.{only_if, has_name}
-use Rattle.jn_base.specs.Forms.{Mention, Mentions, Shared, Adapted, Constrained, Viewed, Termed, Masked, mentions}
+use Rattle.jn_base.specs.Forms.{Mentions, Shared, Adapted, Constrained, Viewed, Termed, Masked, mentions}
 use Rattle.jn_base.specs.Resolve.{bound_at, at_term, Resolve}
 
 -- ---- the numbers of masks

@@ -4,7 +4,10 @@ ghost use Rattle.std.specs.Prelude.{◌≡◌, ◌||◌, ◌↔◌, IsTrue, map}
 ghost use Rattle.jn_base.specs.Forms.{all_of, given, Termed, Masked, Shared, Adapted, of_type, of_view, of_node, of_expr, of_link, of_suffix, of_stmt, of_param, of_constraint, of_field, of_method, of_member, of_decl, is_variable, head_names, HasSharing, NamesPaths};
 ghost use Rattle.jn_base.specs.FormTests.{asks_sharing, is_form, has};
 
-use crate::tree::{Constraint, Decl, Expr, Head, Link, Member, Method, Named, Node, Param, Program, Ref, Stmt, Suffix, Term, TypeTerm, ViewTerm};
+use crate::tree::{
+    Constraint, Decl, Expr, Head, Link, Member, Method, Named, Node, Param, Program, Ref, Stmt,
+    Suffix, Term, TypeTerm, ViewTerm,
+};
 
 // What is asked for: a form of sharing, or a term that names a path other than `this`.
 #[derive(Clone, Copy, Debug, PartialEq, Eq)]
@@ -334,4 +337,61 @@ pub fn names_paths(p: &Program) -> bool
     ensures { IsTrue result ↔ NamesPaths p.now }
 {
     in_decls(Form::Path, p.decls.as_slice())
+}
+
+#[cfg(test)]
+mod tests {
+    use super::*;
+    use crate::tree::{Field, Kind, Name, Place};
+    use sqlite_items::Items;
+    use std::alloc::{AllocError, Global};
+
+    fn named(number: u32) -> Named {
+        let at = Place { line: 1, column: 1 };
+        Named {
+            name: Name(number),
+            at,
+        }
+    }
+
+    /// class N adapts .. { f.class g; }, with a field of a type that begins so
+    fn program(alloc: Global, head: Head, adapts: &[Named]) -> Result<Program, AllocError> {
+        let mut terms = Items::new(alloc);
+        terms.push(Term {
+            head,
+            exact: Items::new(alloc),
+            names: Items::from_slice(alloc, &[Name(1)])?,
+            at: named(0).at,
+        })?;
+        let mut members = Items::new(alloc);
+        members.push(Member::Slot(Field {
+            ty: TypeTerm::Class(terms, Items::new(alloc)),
+            name: named(2),
+        }))?;
+        let mut decls = Items::new(alloc);
+        decls.push(Decl {
+            kind: Kind::Class,
+            name: named(0),
+            extends: Items::new(alloc),
+            shares: Items::new(alloc),
+            adapts: Items::from_slice(alloc, adapts)?,
+            members,
+        })?;
+        Ok(Program {
+            names: Items::new(alloc),
+            texts: Items::new(alloc),
+            decls,
+        })
+    }
+
+    #[test]
+    fn finds_forms(rt: HostRuntime) -> Result<(), AllocError> {
+        let own = program(rt.alloc(), Head::Own(Ref::This), &[])?;
+        assert!(rt; !has_sharing(&own));
+        assert!(rt; !names_paths(&own));
+        let adapted = program(rt.alloc(), Head::Own(Ref::Var(Name(1))), &[named(1)])?;
+        assert!(rt; has_sharing(&adapted));
+        assert!(rt; names_paths(&adapted));
+        Ok(())
+    }
 }

@@ -1,4 +1,4 @@
-use Rattle.std.proofs.Common.{◌≡◌, List, ◌∙◌, sym, ap, map}
+use Rattle.std.proofs.Common.{List, ◌∙◌, sym, ap, map}
 use Rattle.jn_base.specs.declared.tree.Decl.{Decl}
 use Rattle.jn_base.specs.declared.forms.Form.TheVariants as form
 use Rattle.jn_base.specs.Forms.{all_of, of_decl}
