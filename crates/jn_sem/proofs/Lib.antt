@@ -1,9 +1,11 @@
-mod Sure
-mod SureActs
-mod SureCharges
-mod RunLaws
-mod ActLaws
-mod TwoPrintsProof
+pub mod Sure
+pub mod SureActs
+pub mod SureCharges
+pub mod RunLaws
+pub mod ActLaws
+pub mod TwoPrintsProof
+mod SlotTools
+mod SlotsProof
 pub mod Under
 pub mod Widenings
 pub mod Substitutions

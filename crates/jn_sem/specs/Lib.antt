@@ -18,6 +18,7 @@ pub mod Run
 pub mod LawsOfRuns
 pub mod LawsOfActs
 pub mod TwoPrints
+pub mod SlotsExample
 pub mod LawsOfTypes
 pub mod BelowExample
 pub mod NormalFunction
