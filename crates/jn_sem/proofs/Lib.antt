@@ -6,6 +6,7 @@ pub mod ActLaws
 pub mod TwoPrintsProof
 mod SlotTools
 mod SlotsProof
+mod LinkedProof
 pub mod Under
 pub mod Widenings
 pub mod Substitutions
