@@ -7,6 +7,7 @@ pub mod TwoPrintsProof
 mod SlotTools
 mod SlotsProof
 mod LinkedProof
+pub mod FindingLaws
 pub mod Under
 pub mod Widenings
 pub mod Substitutions

@@ -16,6 +16,7 @@ pub mod Does
 pub mod Reports
 pub mod Run
 pub mod LawsOfRuns
+pub mod LawsOfFinding
 pub mod LawsOfActs
 pub mod TwoPrints
 pub mod SlotsExample

@@ -4,6 +4,7 @@
 #![tactic(auto)]
 
 pub mod acts;
+pub mod finding;
 pub mod laws;
 pub mod outcome;
 pub mod run_examples;
