@@ -8,6 +8,7 @@ mod SlotTools
 mod SlotsProof
 mod LinkedProof
 pub mod FindingLaws
+pub mod SharedLaws
 pub mod Under
 pub mod Widenings
 pub mod Substitutions

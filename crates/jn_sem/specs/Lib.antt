@@ -17,6 +17,8 @@ pub mod Reports
 pub mod Run
 pub mod LawsOfRuns
 pub mod LawsOfFinding
+pub mod LawsOfSharing
+pub mod OperatorsExample
 pub mod LawsOfActs
 pub mod TwoPrints
 pub mod SlotsExample

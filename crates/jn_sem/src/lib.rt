@@ -9,5 +9,6 @@ pub mod laws;
 pub mod outcome;
 pub mod run_examples;
 pub mod runs;
+pub mod sharing;
 pub mod sharing_examples;
 pub mod type_examples;
