@@ -92,7 +92,7 @@ links_are n (l ∷ ls) k =
 
 at_part : (x : Named) (args : Option (List Expr)) (keeps : Bool) (n : ℕ) (k : List Todo)
     → suffix_step (map-Suffix _ _ _ _ _ _ _ _ node_pair expr_pair link_pair suffix_pair (record { name = x; args = args })) keeps n k
-      ≡ part_acts x.name args keeps n k
+    ≡ part_acts x.name args keeps n k
 at_part x None keeps n k = refl
 at_part x (Some es) keeps n k =
     ap (λ (c : ℕ). all_do (map expr_pair es) n (todo n (Call x.name c keeps) ∷ k)) (counted es) ∙ args_are n es (todo n (Call x.name (length es) keeps) ∷ k)
@@ -141,8 +141,8 @@ trees_are (s ∷ ss) = ap (λ (t : List Stmt). s ∷ t) (trees_are ss)
 -- the statement s, whose layer is d, and those behind it
 first_of_all : (s : Stmt) (d : Stmt-F Stmt) → roll-Stmt d ≡ s → (n path : ℕ) (ss : List Stmt) (k : List Todo)
     → stmts_acts n path (s ∷ ss) k
-      ≡ (stmt_step (map-Stmt _ _ with_work d)).does n path
-        (stmts_acts ((stmt_step (map-Stmt _ _ with_work d)).scope_after n) ((stmt_step (map-Stmt _ _ with_work d)).path_after path) ss k)
+    ≡ (stmt_step (map-Stmt _ _ with_work d)).does n path
+    (stmts_acts ((stmt_step (map-Stmt _ _ with_work d)).scope_after n) ((stmt_step (map-Stmt _ _ with_work d)).path_after path) ss k)
 first_of_all s d e n path ss k =
     ap (λ (b : InBody). b.does n path (stmts_acts (b.scope_after n) (b.path_after path) ss k)) (stmt_is s d e)
 

@@ -93,7 +93,7 @@ params_once p b before [] u w h k = h ∙ sym k
 params_once p b before (x ∷ xs) u w h k =
     let e = type_once_at p (record { class = b.class; method = b.method.name.name; vars = before }) x.ty h.0 k.0 h.1 k.1 in
     params_once p b (before ++ var x.name.name (suc (length before)) x.fixed k.0 ∷ []) xs u w
-      (subst (λ (t : Ty). AreParamsAfter p b (before ++ var x.name.name (suc (length before)) x.fixed t ∷ []) xs u) e h.2) k.2
+    (subst (λ (t : Ty). AreParamsAfter p b (before ++ var x.name.name (suc (length before)) x.fixed t ∷ []) xs u) e h.2) k.2
 
 -- ---- sizes
 
@@ -194,7 +194,7 @@ field_once p ok V f a b h k =
     let e = k.is_field.only h.class h.is_field.declares in
     let x = one_field_at p ok.once k.class f h.field k.field (subst (λ (Q : Path). FieldAt p Q f h.field) e h.at) k.at in
     same_type a b (type_once p (mask_names p) _ _ k.field.ty (Ok a) (Ok b)
-      (subst (λ (y : Field). FieldTypeIs p k.class f y.ty a) x (subst (λ (Q : Path). FieldTypeIs p Q f h.field.ty a) e h.type)) k.type)
+    (subst (λ (y : Field). FieldTypeIs p k.class f y.ty a) x (subst (λ (Q : Path). FieldTypeIs p Q f h.field.ty a) e h.type)) k.type)
 
 either_way : (p : Program) (T : Path → Type 0) (R S : Path) → IsFirst p T R → IsFirst p T S → (R ≡ S) ⊎ (Before p R S ⊎ Before p S R) → R ≡ S
 either_way p T R S r s (inl e) = e
@@ -205,9 +205,9 @@ slot_once : (p : Program) → HasDistinctNames p → NamesItsPaths p → (V : Pa
 slot_once p names its V f s t h k =
     let named = λ (R : Path) (o : OneSlot p R V f). universe_named p its R o.both.related.one.universe in
     same_slot s t
-      (either_way p (λ W. OneSlot p W V f) s.class t.class h.first k.first
-        (before_total p names s.class t.class (named s.class h.first.holds) (named t.class k.first.holds)))
-      (h.field ∙ sym k.field)
+    (either_way p (λ W. OneSlot p W V f) s.class t.class h.first k.first
+    (before_total p names s.class t.class (named s.class h.first.holds) (named t.class k.first.holds)))
+    (h.field ∙ sym k.field)
 
 stored_once : (p : Program) → DeclarationsPass p → HasDistinctNames p → NamesItsPaths p → (V : Path) (f : Name) → IsOne (IsFresh p V f)
 stored_once p ok names its V f x y h k =

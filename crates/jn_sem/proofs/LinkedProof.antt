@@ -106,7 +106,7 @@ same_type a b e = cc
 type_here : (f : Name) (x : Field) (t : Ty) → FieldAt linked (in_base Lit) f x → FieldTypeIs linked (in_base Lit) f x.ty t → t ≡ in_namespace Lit
 type_here f x t h k =
     same_type t (in_namespace Lit) (type_once linked (mask_names linked) _ _ (named_type Lit) (Ok t) (Ok (in_namespace Lit))
-      (subst (λ (y : Field). FieldTypeIs linked (in_base Lit) f y.ty t) (sym (field_is f x h)) k) (next_type f))
+    (subst (λ (y : Field). FieldTypeIs linked (in_base Lit) f y.ty t) (sym (field_is f x h)) k) (next_type f))
 
 type_is : (Q : Path) (f : Name) (x : Field) (t : Ty) → FieldAt linked Q f x → FieldTypeIs linked Q f x.ty t → t ≡ in_namespace Lit
 type_is Q f x t h k =
@@ -156,7 +156,7 @@ under V U (inr i) e = two_names U disp (e ∙ ap (λ (P : Path). drop 1 P) i)
 in_type : (V U : Path) (t : Ty) → IsLit V → t ≡ in_namespace Lit → IsClass linked U → InType linked (this_viewed V) t U → IsLit U
 in_type V U t w e c h =
     which own [] is_flat_here lits_only bare_tops U
-      (under V U w (at_in linked Lit V U (subst (λ (u : Ty). InType linked (this_viewed V) u U) e h)).0) c.universe
+    (under V U w (at_in linked Lit V U (subst (λ (u : Ty). InType linked (this_viewed V) u U) e h)).0) c.universe
 
 -- and each is the counterpart of both in its own family
 match_base : (U : Path) → IsLit U → MatchAt linked (in_base Lit) (in_namespace Lit) U (in_base Lit)
@@ -252,8 +252,8 @@ in_list s x =
     let w = other_of h in
     let y = subst (λ (f : Name). IsSlot linked x.view f s) n x.slot in
     subst (Contains (slot_next ∷ []))
-      (same_slot slot_next s (sym (class_is x.view s (to_base_related x.view w) w y (one_of h))) (sym n ∙ sym x.slot.field))
-      (at_first slot_next [])
+    (same_slot slot_next s (sym (class_is x.view s (to_base_related x.view w) w y (one_of h))) (sym n ∙ sym x.slot.field))
+    (at_first slot_next [])
 
 no_second : (s : Slot) → ◌≡◌ {A = Option Slot} None (Some s) → ⊥
 no_second s e = cc
@@ -273,7 +273,7 @@ linked_is = record {
     slots = slot_next ∷ [];
     exact = λ s. (
       λ c. record { view = in_base Lit; related = lits; field = next; slot = subst (IsSlot linked (in_base Lit) next) (alone slot_next s c) (first_next (in_base Lit) base_itself (inl refl)) },
-      in_list s
+      in_list s,
     );
     once = each_once;
     is = refl;

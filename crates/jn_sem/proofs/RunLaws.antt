@@ -105,5 +105,5 @@ run_goes_on p m n a d o q out put le f g =
     record {
       output = followed.output;
       ended = λ more. let e = has_ended f.ending o f.outcome more in
-        of_reports g.ending f.ending q o put out g.outcome f.outcome (followed.ended e.0 e.1);
+          of_reports g.ending f.ending q o put out g.outcome f.outcome (followed.ended e.0 e.1);
     }

@@ -277,7 +277,7 @@ lit_place = field_place tagged_own tagged_further tagged_flat tagged_lits tagged
 named_so : (C A : Name) (f : Name) (x : Field) → FieldAt tagged (C ∷ A ∷ []) f x → cond (same A base) (same f v) (same f tag) ≡ true
 named_so C A f x h =
     subst (λ (n : Name). cond (same A base) (same n v) (same n tag) ≡ true) h.name
-      (passes (own_name A) (fields h.decl.members) x (at_inner tagged (λ B d. list_all (own_name B) (fields d.members)) own_names C A h.decl h.stands) h.has)
+    (passes (own_name A) (fields h.decl.members) x (at_inner tagged (λ B d. list_all (own_name B) (fields d.members)) own_names C A h.decl h.stands) h.has)
 
 is_v : (R : Path) (x : Field) → FieldAt tagged R v x → R ≡ in_base Lit
 is_v R x h =
@@ -315,8 +315,8 @@ none_hangs V T f Q ty h =
     let at = lit_place Q f h.field h.at in
     let x = subst (λ (R : Path). FieldAt tagged R f h.field) at.1 h.at in
     int_hangs tagged Q f h.field.ty ty
-      (passes is_int (fields x.decl.members) h.field (at_inner tagged (λ B d. list_all is_int (fields d.members)) all_ints Lit at.0 x.decl x.stands) x.has)
-      h.type h.hangs
+    (passes is_int (fields x.decl.members) h.field (at_inner tagged (λ B d. list_all is_int (fields d.members)) all_ints Lit at.0 x.decl x.stands) x.has)
+    h.type h.hangs
 
 never_two : (c : Compared) → MakesTwo tagged c → ⊥
 never_two c (declared_apart Q R b h k n) = n (one_place c.field Q R h.field k.field h.at k.at (its_name Q c.field h.field h.at))
@@ -479,7 +479,7 @@ found_tag : (V : Path) (s : Slot) → IsSlot tagged V tag s → Contains tagged_
 found_tag V s x =
     let b = x.first.holds.both in
     subst (Contains tagged_slots) (same_one slot_tag s (sym (only_tag s.class (its_classes s.class tag b.related.one b.in_one) b.in_one)) (sym x.field))
-      (behind slot_v (slot_tag ∷ []) slot_tag (at_first slot_tag []))
+    (behind slot_v (slot_tag ∷ []) slot_tag (at_first slot_tag []))
 
 found_either : (V : Path) (f : Name) (s : Slot) → Related tagged (in_base Lit) V → IsSlot tagged V f s → (f ≡ v) ⊎ (f ≡ tag) → Contains tagged_slots s
 found_either V f s r x (inl e) = found_v V s r (subst (λ (n : Name). IsSlot tagged V n s) e x)

@@ -63,7 +63,7 @@ sure_constructs p m V args keeps f vs h size fresh =
     let r = Reference (length h.objects) V in
     let made = with_object h size (record { made = V; stored = fresh }) in
     sure_only (sure_first args _ _ (sure_cells m h size _ (sure_it _)) (λ a rest. sure_it _))
-      (λ b. sure_entry p b args _ (λ e. sure_cells m h size _ (sure_it (Enters e (r ∷ args) (waiting false f (kept keeps r vs)) made))))
+    (λ b. sure_entry p b args _ (λ e. sure_cells m h size _ (sure_it (Enters e (r ∷ args) (waiting false f (kept keeps r vs)) made))))
 
 sure_makes : (p : Program) (m : ℕ) (V : Path) (args : List Value) (keeps : Bool) (f : Frame) (vs : List Value) (h : Heap) → Sure (makes p m V args keeps f vs h)
 sure_makes p m V args keeps f vs h =

@@ -92,7 +92,7 @@ enters_keeps : (p : Program) (e : Entry) (args : List Value) (fs : List Frame) (
 enters_keeps p e [] fs h out x g = it_keeps out _ x (kept_whole out) g
 enters_keeps p e (r ∷ args) fs h out x g =
     if_keeps (not (has_null_path (frame_of e r args).vars)) _ _ out x (λ y. it_keeps out _ y (kept_whole out))
-      (λ y. test_keeps _ _ _ out y (λ z. it_keeps out _ z (kept_whole out)) (λ z. it_keeps out _ z (settled_keeps (frame_of e r args ∷ fs) h out))) g
+    (λ y. test_keeps _ _ _ out y (λ z. it_keeps out _ z (kept_whole out)) (λ z. it_keeps out _ z (settled_keeps (frame_of e r args ∷ fs) h out))) g
 
 proceeds_keeps : (p : Program) (depth : ℕ) (d : Did) (fs : List Frame) (out : List ℕ) (x : Then) → proceeds p depth d fs out x → KeepsOutput shown out x
 proceeds_keeps p depth (Goes f h bytes) fs out x g =

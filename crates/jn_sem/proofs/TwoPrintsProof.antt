@@ -56,7 +56,7 @@ one_method = simp (outs-Body)
 nothing_inside : (P : Path) (C : Name) (d : Decl) → StandsIn two_prints (C ∷ P) d → ⊥
 nothing_inside [] C d s =
     in_none d (subst (λ (ds : List Decl). Contains ds d) none_nested
-        (subst (λ (e : Decl). Contains (nested e.members) d) (sym (is_the_class s.0 s.1)) s.3))
+    (subst (λ (e : Decl). Contains (nested e.members) d) (sym (is_the_class s.0 s.1)) s.3))
 nothing_inside (D ∷ P) C d s = nothing_inside P D s.0 s.1
 
 stands_at : (R : Path) (d : Decl) → StandsAt two_prints R d → (R ≡ Main ∷ []) × (the_class ≡ d)
@@ -70,7 +70,7 @@ no_field W f h =
     let at = h.declares.at in
     let e = (stands_at h.at at.decl at.stands).1 in
     in_none h.declares.field (subst (λ (fs : List Field). Contains fs h.declares.field) no_fields
-        (subst (λ (d : Decl). Contains (fields d.members) h.declares.field) (sym e) at.has))
+    (subst (λ (d : Decl). Contains (fields d.members) h.declares.field) (sym e) at.has))
 
 -- Main has no super but itself
 no_direct : (S : Path) → Direct two_prints (Main ∷ []) S → ⊥

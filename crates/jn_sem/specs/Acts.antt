@@ -185,7 +185,7 @@ stmt_step (Stmt-F.Assign name e) = simple (λ n k. acts n e (todo n (Assign name
 stmt_step (Stmt-F.Set of name e) = simple (λ n k. acts n of (acts n e (todo n (Put name.name) ∷ k)))
 stmt_step (Stmt-F.Do e) = simple (λ n k. call_acts n e k)
 stmt_step (Stmt-F.If e body other at) = with_blocks (λ path. block_after other (block_after body path))
-  (λ n path k. acts n e (todo n (Choose path (trees body) (trees other)) ∷ k))
+    (λ n path k. acts n e (todo n (Choose path (trees body) (trees other)) ∷ k))
 stmt_step (Stmt-F.While e body at) = with_blocks (block_after body) (λ n path k. acts n e (todo n (Repeat path e (trees body)) ∷ k))
 stmt_step (Stmt-F.Return e at) = simple (return_does e)
 stmt_step (Stmt-F.Print e at) = simple (λ n k. acts n e (todo n Print ∷ k))

@@ -291,14 +291,14 @@ constructs p capacity V args keeps f vs h size fresh =
     let r = Reference (length h.objects) V in
     let made = with_object h size (record { made = V; stored = fresh }) in
     OnOnly (IsConstructorBody p V)
-      (OnFirst args (on_cells capacity h size (goes f (kept keeps r vs) made)) (λ a rest. missing))
-      (λ b. on_entry p b args (λ e. on_cells capacity h size (It (Enters e (r ∷ args) (waiting false f (kept keeps r vs)) made))))
+    (OnFirst args (on_cells capacity h size (goes f (kept keeps r vs) made)) (λ a rest. missing))
+    (λ b. on_entry p b args (λ e. on_cells capacity h size (It (Enters e (r ∷ args) (waiting false f (kept keeps r vs)) made))))
 
 -- A new object of the class V: it takes the cells of its group, and each field of the class has its zero.
 abbrev pub makes : Program → (capacity : ℕ) → Path → List Value → (keeps : Bool) → Frame → List Value → Heap → Way
 makes p capacity V args keeps f vs h =
     OnTest (IsClass p V) missing
-      (OnOnly (IsSize p V) missing (λ size. OnOnly (AreFresh p V) missing (λ fresh. constructs p capacity V args keeps f vs h size fresh)))
+    (OnOnly (IsSize p V) missing (λ size. OnOnly (AreFresh p V) missing (λ fresh. constructs p capacity V args keeps f vs h size fresh)))
 
 -- the counterpart of a reference in a family; null stays null
 abbrev pub on_viewed : Program → Name → Value → (Value → Way) → Way
@@ -343,7 +343,7 @@ bound_to x v = record { var = x; value = v }
 abbrev pub binds : Program → Frame → Heap → Var → Value → List Value → Way
 binds p f h x v vs =
     OnIf (not (is_null_path (bound_to x v))) (ends AtNull)
-      (on_typed p f h x.ty v (It (Goes (record f { vals = vs; vars = f.vars ++ bound_to x v ∷ [] }) h [])))
+    (on_typed p f h x.ty v (It (Goes (record f { vals = vs; vars = f.vars ++ bound_to x v ∷ [] }) h [])))
 
 -- a result: the method has one, and the value is in its type, in which the parameters are in scope
 abbrev pub returns : Program → Frame → Heap → Option TypeTerm → Value → Way

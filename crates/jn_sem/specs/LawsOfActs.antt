@@ -86,7 +86,7 @@ pub record StmtActs (n path : ℕ) (ss : List Stmt) (k : List Todo) : Type 0 whe
   pub call : (e : Expr) → stmts_acts n path (stmt.Do e ∷ ss) k ≡ call_acts n e (stmts_acts n path ss k)
   pub choice : (e : Expr) (one other : List Stmt) (at : Place)
       → stmts_acts n path (stmt.If e one other at ∷ ss) k
-        ≡ acts n e (todo n (Choose path one other) ∷ stmts_acts n (path_behind other (path_behind one path)) ss k)
+      ≡ acts n e (todo n (Choose path one other) ∷ stmts_acts n (path_behind other (path_behind one path)) ss k)
   pub loop : (e : Expr) (body : List Stmt) (at : Place)
       → stmts_acts n path (stmt.While e body at ∷ ss) k ≡ acts n e (todo n (Repeat path e body) ∷ stmts_acts n (path_behind body path) ss k)
   pub returns : (e : Expr) (at : Place) → stmts_acts n path (stmt.Return (Some e) at ∷ ss) k ≡ acts n e (todo n (Return true) ∷ stmts_acts n path ss k)

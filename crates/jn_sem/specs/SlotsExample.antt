@@ -101,8 +101,8 @@ pub record Tagged : Type 0 where
 -- package disp extends base adapts base { class Exp { int tag; } }
 abbrev pub two_slots : Program
 two_slots = adapting
-  (class_in Exp [] [] ∷ class_in Add (Exp ∷ []) (field_of Exp l ∷ field_of Exp r ∷ []) ∷ [])
-  (class_in Exp [] (field tag ∷ []) ∷ [])
+    (class_in Exp [] [] ∷ class_in Add (Exp ∷ []) (field_of Exp l ∷ field_of Exp r ∷ []) ∷ [])
+    (class_in Exp [] (field tag ∷ []) ∷ [])
 
 pub record TwoSlots : Type 0 where
   -- an Exp of `disp` has a field that an Exp of `base` hasn't: l has two slots, whichever view comes first
