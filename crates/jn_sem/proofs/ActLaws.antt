@@ -1,12 +1,12 @@
 -- What each form has to do.
-use Rattle.std.proofs.Common.{◌≡◌, ℕ, zero, suc, List, [], ◌∷◌, length, map, Option, Some, None, Bool, true, false, refl, sym, ap, ◌∙◌, subst}
+use Rattle.std.proofs.Common.{◌≡◌, ℕ, suc, List, [], ◌∷◌, length, map, Option, Some, None, Bool, true, refl, sym, ap, ◌∙◌}
 use Rattle.jn_base.specs.declared.tree.Named.{Named}
 use Rattle.jn_base.specs.declared.tree.Place.{Place}
 use Rattle.jn_base.specs.declared.tree.Op.{Op}
 use Rattle.jn_base.specs.declared.tree.Op.TheVariants as op
 use Rattle.jn_base.specs.declared.tree.Expr.{Expr}
 use Rattle.jn_base.specs.declared.tree.Link.{Link}
-use Rattle.jn_base.specs.declared.tree.Suffix.{Suffix, Suffix-F, out-Suffix, roll-Suffix, roll-out-Suffix}
+use Rattle.jn_base.specs.declared.tree.Suffix.{Suffix, out-Suffix, roll-out-Suffix}
 use Rattle.jn_base.specs.declared.tree.Node.{Node, roll-Node}
 use Rattle.jn_base.specs.declared.tree.Node.TheOpen.{Node-F}
 use Rattle.jn_base.specs.declared.tree.Stmt.{Stmt, roll-Stmt}
@@ -16,7 +16,7 @@ use Rattle.jn_base.specs.declared.tree.Node.TheFolds.{para-roll-Expr, para-roll-
 use Rattle.jn_base.specs.declared.tree.Node.TheVariants as node
 use Rattle.jn_base.specs.declared.tree.Stmt.TheVariants as stmt
 use Rattle.jn_base.specs.Parts.{expr}
-use Rattle.jn_sem.specs.Acts.{Doing, InBody, todo, Todo, Make, Super, Call, Choose, Repeat, stmt_step, node_step, expr_step, link_step, suffix_step, node_does, expr_does, link_does, suffix_does, all_do, links_do, suffixes_do, link_at, suffix_at, acts, in_body, with_work, trees, block_does, stmts_acts, path_behind}
+use Rattle.jn_sem.specs.Acts.{Doing, InBody, todo, Todo, Make, Super, Call, Choose, Repeat, stmt_step, node_step, expr_step, link_step, suffix_step, node_does, expr_does, link_does, suffix_does, all_do, links_do, suffixes_do, link_at, acts, in_body, with_work, trees, stmts_acts, path_behind}
 use Rattle.jn_sem.specs.LawsOfActs.{args_acts, link_acts, links_acts, part_acts, suffix_acts, parts_acts, ExprActs, StmtActs, ActsAre}
 
 -- ---- one level

@@ -1,11 +1,9 @@
 -- What a step asks for is one thing at most.
-use Rattle.std.proofs.Common.{◌≡◌, ◌≤◌, ℕ, zero, suc, List, [], ◌∷◌, ◌++◌, length, map, Option, Some, None, Contains, refl, sym, ap, ◌∙◌, subst, ◌⊎◌, inl, inr, arith}
-use Rattle.std.specs.Prelude.{Result, Ok, slice_get, reverse}
+use Rattle.std.proofs.Common.{◌≡◌, ◌≤◌, ℕ, suc, List, [], ◌∷◌, ◌++◌, length, Some, Contains, refl, sym, ap, ◌∙◌, subst, ◌⊎◌, inl, inr, arith}
+use Rattle.std.specs.Prelude.{Result, Ok, slice_get}
 use Rattle.jn_reach.specs.Each.{Each, none, more}
 use Rattle.jn_base.specs.declared.tree.Name.{Name}
-use Rattle.jn_base.specs.declared.tree.Text.{Text}
 use Rattle.jn_base.specs.declared.tree.Field.{Field}
-use Rattle.jn_base.specs.declared.tree.Method.{Method}
 use Rattle.jn_base.specs.declared.tree.Param.{Param}
 use Rattle.jn_base.specs.declared.tree.Term.{Term}
 use Rattle.jn_base.specs.declared.tree.ViewTerm.{ViewTerm}
@@ -20,7 +18,7 @@ use Rattle.jn_base.specs.declared.names.Role.{Role}
 use Rattle.jn_base.specs.declared.names.Role.TheVariants as role
 use Rattle.jn_base.specs.declared.refusal.Refusal.{Refusal}
 use Rattle.jn_base.specs.Paths.{Path}
-use Rattle.jn_base.specs.Supers.{Sup, IsOwnSuper}
+use Rattle.jn_base.specs.Supers.{IsOwnSuper}
 use Rattle.jn_base.specs.Universe.{InUniverse}
 use Rattle.jn_base.specs.ClassOrder.{Before, IsFirst, HasDistinctNames, name_total}
 use Rattle.jn_base.specs.Members.{MethodAt, FieldAt}
@@ -37,12 +35,12 @@ use Rattle.jn_base.proofs.ClassOrders.{before_total}
 use Rattle.jn_base.proofs.Reaching.{sup_in_universe}
 use Rattle.jn_sem.specs.Normal.{same_path, NormalType}
 use Rattle.jn_sem.specs.Sets.{view_at}
-use Rattle.jn_sem.specs.Sharing.{Counterpart, family_of}
+use Rattle.jn_sem.specs.Sharing.{family_of}
 use Rattle.jn_sem.specs.Slots.{Slot, IsSlot, IsSize, OneSlot}
 use Rattle.jn_sem.specs.Terms.{Site, spot_at, vars_at, FieldTypeIs, TypeIs, TermIs, SuperBound, ViewIs}
 use Rattle.jn_sem.specs.State.{Stored, Frame, frame_views, site_of}
-use Rattle.jn_sem.specs.Does.{Body, IsBody, AreParamsAfter, AreParams, FieldType, IsFresh, AreFresh, IsNewClass, IsTargetFamily, IsSpelled, zero_of, var}
-use Rattle.jn_sem.specs.LawsOfFinding.{IsOne, FoundOnce, FoundOnceIn, FindsOne, FindsOneIn}
+use Rattle.jn_sem.specs.Does.{Body, IsBody, AreParamsAfter, FieldType, IsFresh, AreFresh, IsNewClass, IsTargetFamily, zero_of, var}
+use Rattle.jn_sem.specs.LawsOfFinding.{IsOne, FindsOne, FindsOneIn}
 use Rattle.jn_sem.proofs.NormalTypes.{type_subst_once, sorted_once}
 
 -- ---- terms

@@ -1,5 +1,5 @@
 -- One slot for a field whose type is its own class.
-use Rattle.std.proofs.Common.{◌≡◌, ◌<◌, ◌≤◌, ℕ, zero, suc, List, [], ◌∷◌, ◌++◌, length, drop, Option, Some, None, Contains, Bool, true, false, not, nat_eq, refl, sym, ap, ◌∙◌, subst, ◌⊎◌, inl, inr, arith, rules}
+use Rattle.std.proofs.Common.{◌≡◌, ℕ, zero, suc, List, [], ◌∷◌, length, drop, Option, Some, None, Contains, true, refl, sym, ap, ◌∙◌, subst, ◌⊎◌, inl, inr, arith}
 use Rattle.std.specs.Prelude.{Result, Ok, slice_get}
 use Rattle.jn_reach.specs.Derived.{Derived, seed, rule}
 use Rattle.jn_reach.specs.Equivalent as link
@@ -9,22 +9,22 @@ use Rattle.jn_base.specs.declared.tree.Decl.{Decl}
 use Rattle.jn_base.specs.declared.tree.Member.{Member as Inside}
 use Rattle.jn_base.specs.declared.tree.Field.{Field}
 use Rattle.jn_base.specs.declared.tree.Kind.TheVariants as kind
-use Rattle.jn_base.specs.declared.tree.Member.TheVariants.{outs-Inner, outs-Slot, outs-Body}
+use Rattle.jn_base.specs.declared.tree.Member.TheVariants.{outs-Inner, outs-Slot}
 use Rattle.jn_base.specs.declared.types.Ty.{Ty}
 use Rattle.jn_base.specs.declared.refusal.Refusal.{Refusal}
 use Rattle.jn_base.specs.Paths.{Path, StandsAt, nested, fields}
 use Rattle.jn_base.specs.Supers.{Sup, itself, Member}
-use Rattle.jn_base.specs.Members.{FieldAt, FieldDecls}
+use Rattle.jn_base.specs.Members.{FieldAt}
 use Rattle.jn_base.specs.ExampleTrees.{declaration, class_in, word}
 use Rattle.jn_base.specs.ResolveTypes.{mask_names}
 use Rattle.jn_base.proofs.ResolveOnce.{type_once}
-use Rattle.jn_base.proofs.NameTests.{in_cons, in_none, same_name, first as at_first, later as behind}
+use Rattle.jn_base.proofs.NameTests.{in_cons, in_none, same_name, first as at_first}
 use Rattle.jn_base.proofs.SuperLaws.{sup_inherited}
 use Rattle.jn_base.proofs.ExampleTools.{at_inner, tops, inner_has, anything, is_class, inner_member, inner_class, inners, same}
 use Rattle.jn_sem.specs.Sets.{InType}
 use Rattle.jn_sem.specs.Values.{HasField}
-use Rattle.jn_sem.specs.Sharing.{IsClass, Related, Counterpart}
-use Rattle.jn_sem.specs.Slots.{ClassAt, MatchAt, Unmatched, BothHave, BothHang, IsApart, only_other, only_one, MakesTwo, declared_apart, unmatched, unmatched_back, fields_apart, MakesTwoBy, Compared, this_viewed, Slot, IsSlot, SlotOfGroup, IsSize, OneSlot}
+use Rattle.jn_sem.specs.Sharing.{IsClass, Related}
+use Rattle.jn_sem.specs.Slots.{MatchAt, Unmatched, BothHave, IsApart, only_other, only_one, MakesTwo, declared_apart, unmatched, unmatched_back, fields_apart, MakesTwoBy, Compared, this_viewed, Slot, IsSlot, SlotOfGroup, OneSlot}
 use Rattle.jn_sem.specs.Terms.{FieldTypeIs}
 use Rattle.jn_sem.specs.SlotsExample.{base, disp, Lit, next, base_decl, disp_decl, in_base, in_disp, named_type, field_of, slot, linked, Linked}
 use Rattle.jn_sem.proofs.SlotTools.{above_base, the_related, back, in_namespace, is_flat, type_of_name, in_at, at_in, stands_in_base, one_name, bare, IsLit, field_place, which, with_field}

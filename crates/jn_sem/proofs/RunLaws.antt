@@ -1,15 +1,14 @@
 -- A program has one run, it is there, and with more charges it goes on from where it was.
-use Rattle.std.proofs.Common.{◌≡◌, ◌≢◌, ℕ, zero, suc, ◌≤◌, List, [], ◌∷◌, ◌++◌, Option, Some, None, refl, sym, ap, ◌∙◌, subst, arith}
+use Rattle.std.proofs.Common.{◌≡◌, ◌≢◌, ℕ, zero, suc, ◌≤◌, List, [], ◌++◌, Option, Some, None, refl, sym, ap, ◌∙◌, subst, arith}
 use Rattle.std.proofs.lemmas.List.{append-nil, append_assoc}
 use Rattle.jn_steps.specs.Runs.{Report, Next, On, End, report}
 use Rattle.jn_steps.specs.Laws.{IsPrefix, KeepsOutput}
-use Rattle.jn_base.specs.declared.tree.Program.{Program}
 use Rattle.jn_sem.specs.declared.outcome.Outcome.{Outcome}
 use Rattle.jn_sem.specs.declared.outcome.Outcome.TheVariants as outcome
 use Rattle.jn_sem.specs.Reports.{Reports}
 use Rattle.jn_sem.specs.Does.{Ending}
-use Rattle.jn_sem.specs.Run.{Running, Charge, shown, start, outcome_of, Run}
-use Rattle.jn_sem.specs.LawsOfRuns.{SameRun, RunIsOne, RunIsThere, GoesOnWith, RunGoesOn}
+use Rattle.jn_sem.specs.Run.{Charge, shown, start, outcome_of}
+use Rattle.jn_sem.specs.LawsOfRuns.{SameRun, RunIsOne, RunIsThere, RunGoesOn}
 use Rattle.jn_sem.proofs.Sure.{Sure}
 use Rattle.jn_sem.proofs.SureCharges.{sure_charge, charge_keeps}
 

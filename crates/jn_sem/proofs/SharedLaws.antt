@@ -1,11 +1,11 @@
 -- Families, related classes and counterparts; and the rows of operators.
-use Rattle.std.proofs.Common.{◌≡◌, ℕ, List, [], ◌∷◌, Option, Some, None, refl, sym, ap, ◌∙◌, subst}
+use Rattle.std.proofs.Common.{◌≡◌, [], ◌∷◌, Some, None, refl, sym, ap, ◌∙◌}
 use Rattle.jn_reach.specs.Equivalent as link
 use Rattle.jn_base.specs.declared.tree.Name.{Name}
 use Rattle.jn_base.specs.declared.tree.Program.{Program}
 use Rattle.jn_base.specs.Paths.{Path}
-use Rattle.jn_sem.specs.Sharing.{IsClass, family_of, in_family, Related, Counterpart}
-use Rattle.jn_sem.specs.LawsOfSharing.{SharingOf, SharingLaws}
+use Rattle.jn_sem.specs.Sharing.{IsClass, family_of, in_family, Related}
+use Rattle.jn_sem.specs.LawsOfSharing.{SharingLaws}
 use Rattle.jn_sem.specs.OperatorsExample.{OperatorRows}
 
 none_some : (X : Name) → None ≡ Some X → ⊥

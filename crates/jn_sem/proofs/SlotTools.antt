@@ -1,7 +1,6 @@
 -- Facts of programs with two families, by tests that compute.
-use Rattle.std.proofs.Common.{◌≡◌, ◌<◌, ◌≤◌, ◌^◌, ℕ, zero, suc, List, [], ◌∷◌, ◌++◌, length, drop, Option, Some, None, Contains, Bool, true, false, nat_eq, refl, sym, ap, ◌∙◌, subst, get_or, ◌⊎◌, inl, inr, arith, rules}
-use Rattle.std.specs.Prelude.{Ok, All}
-use Rattle.std.proofs.lemmas.List.Elements.{All-from_recursion}
+use Rattle.std.proofs.Common.{◌≡◌, ◌<◌, ◌^◌, ℕ, zero, suc, List, [], ◌∷◌, length, drop, None, Contains, Bool, true, nat_eq, refl, sym, ap, ◌∙◌, subst, get_or, ◌⊎◌, inl, inr, arith}
+use Rattle.std.specs.Prelude.{Ok}
 use Rattle.jn_reach.specs.Equivalent.{pair, turned}
 use Rattle.jn_base.specs.declared.tree.Name.{Name}
 use Rattle.jn_base.specs.declared.tree.Decl.{Decl}
@@ -9,23 +8,23 @@ use Rattle.jn_base.specs.declared.tree.Member.{Member as Inside}
 use Rattle.jn_base.specs.declared.tree.Field.{Field}
 use Rattle.jn_base.specs.declared.tree.Kind.TheVariants as kind
 use Rattle.jn_base.specs.declared.tree.Program.{Program}
-use Rattle.jn_base.specs.declared.types.Anchor.TheVariants.{Root, Up}
+use Rattle.jn_base.specs.declared.types.Anchor.TheVariants.{Up}
 use Rattle.jn_base.specs.declared.types.Ty.{Ty}
 use Rattle.jn_base.specs.declared.types.Ty.TheVariants as ty
 use Rattle.jn_base.specs.Universe.{InUniverse}
 use Rattle.jn_base.specs.Duplicates.{has_name}
 use Rattle.jn_base.specs.Paths.{Path, StandsIn, StandsAt, Declared, nested, fields}
 use Rattle.jn_base.specs.Supers.{Sup, itself, Member}
-use Rattle.jn_base.specs.Members.{HasKind, FieldAt, FieldDecls}
-use Rattle.jn_base.specs.Atoms.{Atom, atom, shown_atom, no_masks, Among, first, later, HasMask}
+use Rattle.jn_base.specs.Members.{HasKind, FieldAt}
+use Rattle.jn_base.specs.Atoms.{Atom, atom, shown_atom, no_masks, Among, first, later}
 use Rattle.jn_base.specs.ExampleTrees.{word}
-use Rattle.jn_base.specs.Resolve.{FoundOut, FirstSought, found, PlainGiven, ClassGives, in_class, Resolve}
-use Rattle.jn_base.specs.ResolveTypes.{mask_names, MasksAre, ResolveAll, none, first as first_term, DepthsGive, one, Taken, ResolveClass}
+use Rattle.jn_base.specs.Resolve.{found, in_class}
+use Rattle.jn_base.specs.ResolveTypes.{mask_names, MasksAre, none, first as first_term, one}
 use Rattle.jn_base.proofs.NameTests.{in_cons, in_none, has_in, first as at_first, later as behind}
 use Rattle.jn_base.proofs.SuperLaws.{member_heir, sup_inherited, sup_level}
 use Rattle.jn_base.proofs.ExampleTools.{tops, at_top, has_only, inners, at_inner, top_member, top_above, anything, inner_has, inner_member, inner_class, is_class}
 use Rattle.jn_sem.proofs.BelowProof.{no_mask}
-use Rattle.jn_sem.specs.Sharing.{IsClass, Shares, adapted, Related, Counterpart, HangsOnThis}
+use Rattle.jn_sem.specs.Sharing.{IsClass, adapted, Related, HangsOnThis}
 use Rattle.jn_sem.specs.Sets.{InAtom, InType}
 use Rattle.jn_sem.specs.Values.{HasField}
 use Rattle.jn_sem.specs.Slots.{this_viewed}

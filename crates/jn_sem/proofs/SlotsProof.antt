@@ -1,5 +1,5 @@
 -- The slots of the examples.
-use Rattle.std.proofs.Common.{◌≡◌, ◌<◌, ◌≤◌, ℕ, zero, suc, List, [], ◌∷◌, ◌++◌, length, drop, Option, Some, None, Contains, Bool, true, false, not, nat_eq, refl, sym, ap, ◌∙◌, subst, ◌⊎◌, inl, inr, arith, rules}
+use Rattle.std.proofs.Common.{◌≡◌, ℕ, zero, suc, List, [], ◌∷◌, Option, Some, None, Contains, Bool, true, false, refl, sym, ap, ◌∙◌, subst, ◌⊎◌, inl, inr, arith}
 use Rattle.jn_reach.specs.Derived.{Derived, seed, rule}
 use Rattle.jn_reach.specs.Equivalent as link
 use Rattle.jn_base.specs.ClassOrder.{Before}
@@ -18,20 +18,19 @@ use Rattle.jn_base.specs.declared.types.Ty.{Ty}
 use Rattle.jn_base.specs.declared.types.Ty.TheVariants as ty
 use Rattle.jn_base.specs.declared.refusal.Refusal.{Refusal}
 use Rattle.std.specs.Prelude.{Result, Ok, cond, slice_get}
-use Rattle.jn_base.specs.Paths.{Path, StandsAt, nested, fields}
+use Rattle.jn_base.specs.Paths.{Path, nested, fields}
 use Rattle.jn_base.specs.Supers.{Sup, itself, Member}
-use Rattle.jn_base.specs.Members.{HasKind, FieldAt, FieldDecls}
-use Rattle.jn_base.specs.Atoms.{atoms_in, Among, first, later}
+use Rattle.jn_base.specs.Members.{FieldAt, FieldDecls}
+use Rattle.jn_base.specs.Atoms.{atoms_in, Among}
 use Rattle.jn_base.proofs.NameTests.{in_cons, in_none, passes, same_name, first as at_first, later as behind}
-use Rattle.jn_base.proofs.SuperLaws.{member_heir, sup_inherited}
-use Rattle.jn_base.proofs.ExampleTools.{at_inner, tops, inner_has, anything, is_class, inner_member, inner_class, inner_field, has_field, inners, if_field, field_in, same, OneOf, one, sups_kept, has_only}
-use Rattle.jn_sem.specs.Sets.{InType}
+use Rattle.jn_base.proofs.SuperLaws.{sup_inherited}
+use Rattle.jn_base.proofs.ExampleTools.{at_inner, tops, inner_has, anything, is_class, inner_member, inner_class, inners, field_in, same, OneOf, one, sups_kept, has_only}
 use Rattle.jn_sem.specs.Values.{HasField}
-use Rattle.jn_sem.specs.Sharing.{IsClass, Related, Counterpart, HangsOnThis}
-use Rattle.jn_sem.specs.Slots.{ClassAt, MatchAt, BothHave, BothHang, IsApart, only_other, only_one, MakesTwo, declared_apart, unmatched, unmatched_back, fields_apart, MakesTwoBy, Diff, Compared, compared, this_viewed, Slot, IsSlot, SlotOfGroup, IsSize, OneSlot}
+use Rattle.jn_sem.specs.Sharing.{IsClass, Related, HangsOnThis}
+use Rattle.jn_sem.specs.Slots.{BothHang, only_other, only_one, MakesTwo, declared_apart, unmatched, unmatched_back, fields_apart, MakesTwoBy, Compared, Slot, IsSlot, SlotOfGroup, OneSlot}
 use Rattle.jn_sem.specs.Terms.{FieldTypeIs}
-use Rattle.jn_sem.specs.SlotsExample.{base, disp, Exp, Add, Lit, l, r, v, tag, next, adapting, in_base, in_disp, named_type, field_of, slot, tagged, Tagged, two_slots, TwoSlots, linked, Linked}
-use Rattle.jn_sem.proofs.SlotTools.{above_base, base_class, disp_class, the_related, back, in_namespace, is_flat, type_of_name, in_at, at_in, it_hangs, stands_in_base, stands_in_disp, one_name, bare, IsLit, field_place, which, with_field}
+use Rattle.jn_sem.specs.SlotsExample.{base, disp, Exp, Add, Lit, l, r, v, tag, in_base, in_disp, named_type, field_of, slot, tagged, Tagged, two_slots, TwoSlots}
+use Rattle.jn_sem.proofs.SlotTools.{above_base, the_related, back, in_namespace, is_flat, type_of_name, in_at, it_hangs, stands_in_base, stands_in_disp, one_name, bare, IsLit, field_place, with_field}
 
 abbrev int_type : TypeTerm → Bool
 int_type type.Int = true

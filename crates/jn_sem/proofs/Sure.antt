@@ -1,6 +1,6 @@
 -- Each way allows one step, and one alone.
-use Rattle.std.proofs.Common.{◌≡◌, ℕ, zero, suc, List, [], ◌∷◌, Option, Some, None, Bool, true, false, refl, sym, ◌∙◌, subst}
-use Rattle.jn_sem.specs.Asks.{Only, OnOnly, found, missing, OnTest, holds, fails, OnSome, OnIf, OnFirst, It}
+use Rattle.std.proofs.Common.{◌≡◌, List, [], ◌∷◌, Option, Some, None, Bool, true, false, refl, sym, ◌∙◌, subst}
+use Rattle.jn_sem.specs.Asks.{OnOnly, found, missing, OnTest, holds, fails, OnSome, OnIf, OnFirst, It}
 
 pub record Sure {D : Type 0} (W : D → Type 0) : Type 0 where
   pub one : (d e : D) → W d → W e → d ≡ e

@@ -1,5 +1,5 @@
 -- Each act does one thing, and one alone.
-use Rattle.std.proofs.Common.{◌≡◌, ℕ, zero, suc, ◌+◌, List, [], ◌∷◌, length, Option, Some, None, Bool, true, false, refl}
+use Rattle.std.proofs.Common.{ℕ, ◌+◌, List, [], ◌∷◌, length, Option, Some, None, Bool, true, false}
 use Rattle.std.specs.Prelude.{ℤ, not, nat_eq, nat_le, slice_get}
 use Rattle.jn_steps.specs.Steps.{Enters}
 use Rattle.jn_base.specs.declared.tree.Name.{Name}
@@ -11,10 +11,9 @@ use Rattle.jn_base.specs.declared.names.Var.{Var}
 use Rattle.jn_base.specs.Paths.{Path}
 use Rattle.jn_sem.specs.Sharing.{family_of}
 use Rattle.jn_sem.specs.Values.{Value, Number, Truth, Null, Reference}
-use Rattle.jn_sem.specs.Asks.{OnOnly, OnTest, OnSome, OnIf, OnFirst, It}
 use Rattle.jn_sem.specs.Acts.{Act, Push, Read, This, Invert, Negate, Operate, Decide, Get, Call, Make, Super, View, Bind, Assign, Put, Choose, Repeat, Return, Print, PrintText, Begin, Open}
-use Rattle.jn_sem.specs.State.{Stored, Heap, Variable, Frame, with_object, slot_value, variable, is_null_path}
-use Rattle.jn_sem.specs.Does.{Ending, Entry, Body, Way, Made, Gives, Fails, kept, waiting, on_one, on_two, args_of, on_args, on_number, on_truth, on_object, on_made, result_of, on_entry, calls, on_cells, constructs, makes, on_viewed, on_read, on_typed, decided, bound_to, binds, returns, returns_none, prints_value, Does}
+use Rattle.jn_sem.specs.State.{Stored, Heap, Frame, with_object, slot_value, variable, is_null_path}
+use Rattle.jn_sem.specs.Does.{Entry, Body, Way, Made, Gives, Fails, kept, waiting, on_one, on_two, args_of, on_args, on_number, on_truth, on_object, on_made, result_of, on_entry, calls, on_cells, constructs, makes, on_viewed, on_read, on_typed, decided, bound_to, binds, returns, returns_none, prints_value, Does}
 use Rattle.jn_sem.proofs.Sure.{Sure, sure_it, sure_only, sure_test, sure_some, sure_if, sure_first}
 
 sure_on_one : (f : Frame) (go : Value → List Value → Way) → ((v : Value) (vs : List Value) → Sure (go v vs)) → Sure (on_one f go)

@@ -1,8 +1,8 @@
 -- Each charge leads to one state, and one alone; and it keeps what was printed.
-use Rattle.std.proofs.Common.{◌≡◌, ℕ, zero, suc, ◌+◌, List, [], ◌∷◌, ◌++◌, length, Option, Some, None, Bool, true, false, refl, sym, ◌∙◌, subst}
+use Rattle.std.proofs.Common.{◌≡◌, ℕ, List, [], ◌∷◌, ◌++◌, length, Option, Some, None, Bool, true, false, sym, ◌∙◌, subst}
 use Rattle.std.specs.Prelude.{not, nat_lt}
 use Rattle.std.proofs.lemmas.List.{append-nil, append_assoc}
-use Rattle.jn_steps.specs.Runs.{Next, On, End}
+use Rattle.jn_steps.specs.Runs.{On, End}
 use Rattle.jn_steps.specs.Steps.{Goes, Enters, Leaves, Falls, Faults}
 use Rattle.jn_steps.specs.Laws.{IsPrefix, KeepsOutput}
 use Rattle.jn_base.specs.declared.tree.TypeTerm.{TypeTerm}
@@ -10,9 +10,9 @@ use Rattle.jn_base.specs.declared.tree.Program.{Program}
 use Rattle.jn_sem.specs.Values.{Value}
 use Rattle.jn_sem.specs.Acts.{Todo}
 use Rattle.jn_sem.specs.State.{Heap, Frame, has_null_path}
-use Rattle.jn_sem.specs.Does.{Entry, Did, Does}
+use Rattle.jn_sem.specs.Does.{Entry, Did}
 use Rattle.jn_sem.specs.Asks.{OnTest, holds, fails, OnIf}
-use Rattle.jn_sem.specs.Run.{Running, Then, ended, settled_at, settled, given_first, frame_of, begins, enters, proceeds, acting, Charged, charged, frames_charged, Charge, shown}
+use Rattle.jn_sem.specs.Run.{Running, Then, ended, settled_at, settled, given_first, frame_of, begins, enters, proceeds, acting, charged, frames_charged, Charge, shown}
 use Rattle.jn_sem.proofs.Sure.{Sure, sure_it, sure_test, sure_if}
 use Rattle.jn_sem.proofs.SureActs.{sure_does}
 

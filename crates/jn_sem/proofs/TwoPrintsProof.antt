@@ -1,5 +1,5 @@
 -- The run of two prints, charge by charge.
-use Rattle.std.proofs.Common.{◌≡◌, ℕ, zero, suc, List, [], ◌∷◌, length, Option, Some, None, Contains, ◌↔◌, Bool, true, false, refl, sym, ap, ◌∙◌, subst, ◌⊎◌, inl, inr, slice_get, get_or, arith, rules}
+use Rattle.std.proofs.Common.{◌≡◌, ℕ, zero, suc, List, [], ◌∷◌, length, Option, Some, None, Contains, true, refl, sym, ap, ◌∙◌, subst, inl, inr, slice_get, get_or, arith}
 use Rattle.std.specs.Prelude.{◌≤◌, pos, codes, nat_le, nat_lt}
 use Rattle.std.specs.Fmt.{digits}
 use Rattle.jn_steps.specs.Numbers.{number_line}
@@ -19,16 +19,14 @@ use Rattle.jn_base.specs.ClassOrder.{bytes_of}
 use Rattle.jn_base.specs.declared.tree.Decl.{Decl}
 use Rattle.jn_base.specs.declared.tree.Method.{Method}
 use Rattle.jn_base.specs.declared.tree.Field.{Field}
-use Rattle.jn_base.specs.declared.tree.Kind.TheVariants as kind
 use Rattle.jn_base.specs.declared.tree.Member.TheVariants.{outs-Body}
-use Rattle.jn_base.specs.declared.names.Var.{Var}
 use Rattle.jn_base.specs.Paths.{Path, StandsIn, StandsAt, nested, methods, fields}
 use Rattle.jn_base.specs.Supers.{Sup, itself, above, Direct}
-use Rattle.jn_base.specs.Members.{HasKind, MethodAt, FieldAt, Decls, Least}
+use Rattle.jn_base.specs.Members.{MethodAt}
 use Rattle.jn_base.proofs.NameTests.{in_cons, in_none, first}
 use Rattle.jn_base.proofs.SuperLaws.{top_direct}
 use Rattle.jn_base.proofs.ExampleTools.{top_member}
-use Rattle.jn_sem.specs.Asks.{Only, OnOnly, found, missing, OnTest, holds}
+use Rattle.jn_sem.specs.Asks.{Only, found, missing, holds}
 use Rattle.jn_sem.specs.Values.{HasField}
 use Rattle.jn_sem.specs.Sharing.{IsClass}
 use Rattle.jn_sem.specs.Slots.{Slot, SlotOfGroup, IsSize}

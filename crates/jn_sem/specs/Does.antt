@@ -2,7 +2,7 @@
 --
 -- At one act the order is: what is missing, a wrong kind, the act's own faults in the order written here, a slot without a
 -- value, a value outside its type. Where the receiver is null, what needs its view isn't asked: Null stands in that place.
-use Rattle.std.specs.Prelude.{◌≡◌, ℕ, zero, suc, ◌+◌, ℤ, pos, List, [], ◌∷◌, ◌++◌, length, Bool, true, false, not, Option, Some, None, IsSome, slice_get, nat_eq, nat_le, int_lt, int_le, codes, if◌then◌else◌, Contains, ◌↔◌}
+use Rattle.std.specs.Prelude.{◌≡◌, ℕ, zero, suc, ◌+◌, ℤ, pos, List, [], ◌∷◌, ◌++◌, length, Bool, true, false, not, Option, Some, None, slice_get, nat_eq, nat_le, int_lt, int_le, codes, Contains, ◌↔◌}
 use Rattle.std.specs.Ordering.{int_eq}
 use Rattle.std.specs.List.Sorted.{IsStrictlySortedBy}
 use Rattle.jn_reach.specs.Each.{Each}
@@ -29,15 +29,15 @@ use Rattle.jn_base.specs.Members.{MethodAt, FieldAt, Least, IsField}
 use Rattle.jn_base.specs.Atoms.{Atom, atom_at}
 use Rattle.jn_sem.specs.declared.outcome.Why.{Why}
 use Rattle.jn_sem.specs.declared.outcome.Why.TheVariants as why
-use Rattle.jn_sem.specs.Sets.{Views, AnchorSeen, view_at}
+use Rattle.jn_sem.specs.Sets.{AnchorSeen, view_at}
 use Rattle.jn_sem.specs.Values.{Value, Number, Truth, Null, Reference, HasField}
 use Rattle.jn_sem.specs.Sharing.{IsClass, Counterpart, HangsOnThis, family_of}
 use Rattle.jn_base.specs.declared.names.Var.{Var}
 use Rattle.jn_base.specs.declared.names.Role.TheVariants as role
 use Rattle.jn_sem.specs.Terms.{FieldTypeIs, TermIs, SuperBound, ViewIs, TypeIs}
-use Rattle.jn_sem.specs.Slots.{Slot, IsSlot, IsSize, this_viewed}
+use Rattle.jn_sem.specs.Slots.{IsSlot, IsSize, this_viewed}
 use Rattle.jn_sem.specs.Acts.{Act, Push, Read, This, Invert, Negate, Operate, Decide, Get, Call, Make, Super, View, Bind, Assign, Put, Choose, Repeat, Return, Print, PrintText, Begin, Open, Todo, todo, acts, stmts_acts, path_behind}
-use Rattle.jn_sem.specs.State.{Stored, Object, Heap, stored_value, slot_value, with_slot, with_object, IsIn, Variable, Frame, frame_views, site_of, result_site, variable, assigned, is_null_path}
+use Rattle.jn_sem.specs.State.{Stored, Heap, slot_value, with_slot, with_object, IsIn, Variable, Frame, frame_views, site_of, result_site, variable, assigned, is_null_path}
 use Rattle.jn_sem.specs.Asks.{OnOnly, OnTest, OnSome, OnIf, OnFirst, It}
 
 -- how a run ends

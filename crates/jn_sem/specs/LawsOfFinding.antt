@@ -6,17 +6,15 @@ use Rattle.jn_base.specs.declared.tree.Term.{Term}
 use Rattle.jn_base.specs.declared.tree.ViewTerm.{ViewTerm}
 use Rattle.jn_base.specs.declared.tree.TypeTerm.{TypeTerm}
 use Rattle.jn_base.specs.declared.tree.Program.{Program}
-use Rattle.jn_base.specs.declared.types.Ty.{Ty}
-use Rattle.jn_base.specs.declared.names.Var.{Var}
 use Rattle.jn_base.specs.Paths.{Path}
 use Rattle.jn_base.specs.Universe.{InUniverse}
 use Rattle.jn_base.specs.ClassOrder.{HasDistinctNames}
 use Rattle.jn_base.specs.TableRules.{DeclarationsPass}
 use Rattle.jn_base.specs.LawsOfTable.{NamesItsPaths}
 use Rattle.jn_sem.specs.Sharing.{Counterpart}
-use Rattle.jn_sem.specs.Slots.{Slot, IsSlot, IsSize}
+use Rattle.jn_sem.specs.Slots.{IsSlot, IsSize}
 use Rattle.jn_sem.specs.Terms.{Site, TypeIs, SuperBound}
-use Rattle.jn_sem.specs.State.{Stored, Frame}
+use Rattle.jn_sem.specs.State.{Frame}
 use Rattle.jn_sem.specs.Does.{Body, IsBody, AreParams, FieldType, AreFresh, IsNewClass, IsTargetFamily, IsSpelled}
 
 -- two that are so are the same

@@ -3,7 +3,7 @@ use Rattle.std.specs.Prelude.{◌≡◌, Some}
 use Rattle.jn_base.specs.declared.tree.Name.{Name}
 use Rattle.jn_base.specs.declared.tree.Program.{Program}
 use Rattle.jn_base.specs.Paths.{Path}
-use Rattle.jn_sem.specs.Sharing.{IsClass, family_of, in_family, Related, Counterpart}
+use Rattle.jn_sem.specs.Sharing.{IsClass, family_of, Related, Counterpart}
 
 pub record SharingOf (p : Program) : Type 0 where
   -- to be related is an equivalence on the classes of the universe

@@ -1,5 +1,5 @@
 -- Run: what a program prints and how it ends, with so many charges, this arena and this depth.
-use Rattle.std.specs.Prelude.{◌≡◌, ℕ, suc, List, [], ◌∷◌, ◌++◌, length, take, true, false, not, Option, Some, None, nat_lt}
+use Rattle.std.specs.Prelude.{◌≡◌, ℕ, suc, List, [], ◌∷◌, ◌++◌, length, take, false, not, Option, Some, None, nat_lt}
 use Rattle.jn_steps.specs.Runs.{Next, On, End}
 use Rattle.jn_steps.specs.Steps.{Goes, Enters, Leaves, Falls, Faults}
 use Rattle.jn_steps.specs.Frames.{State}
@@ -11,7 +11,7 @@ use Rattle.jn_sem.specs.declared.outcome.Outcome.{Outcome}
 use Rattle.jn_sem.specs.declared.outcome.Outcome.TheVariants as outcome
 use Rattle.jn_sem.specs.declared.outcome.Why.TheVariants as why
 use Rattle.jn_sem.specs.Values.{Value, Null}
-use Rattle.jn_sem.specs.Acts.{Act, Begin, Open, Todo, todo, stmts_acts}
+use Rattle.jn_sem.specs.Acts.{Begin, Open, Todo, todo, stmts_acts}
 use Rattle.jn_sem.specs.State.{Heap, Variable, Frame, frame_views, IsIn, with_values, has_null_path}
 use Rattle.jn_sem.specs.Does.{Ending, Ends, AtNull, Zero, Arena, Depth, Stuck, Entry, Did, kept, Does}
 use Rattle.jn_sem.specs.Asks.{OnTest, OnIf, It}

@@ -1,5 +1,5 @@
 -- States of a run: objects, frames, and what a frame has still to do.
-use Rattle.std.specs.Prelude.{◌≡◌, ℕ, suc, ◌+◌, List, [], ◌∷◌, ◌++◌, length, map, take, reverse, Bool, true, false, ◌&&◌, not, cond, nat_eq, Option, Some, None, IsSome, slice_get, slice_set}
+use Rattle.std.specs.Prelude.{ℕ, ◌+◌, List, [], ◌∷◌, ◌++◌, length, map, take, reverse, Bool, true, false, ◌&&◌, cond, nat_eq, Option, Some, None, IsSome, slice_get, slice_set}
 use Rattle.std.specs.Option.{option_map, option_and_then}
 use Rattle.std.specs.List.{find, list_any}
 use Rattle.jn_base.specs.declared.tree.Name.{Name}
