@@ -134,6 +134,9 @@ acts n e k = expr_does e true n k
 abbrev pub call_acts : ℕ → Expr → List Todo → List Todo
 call_acts n e k = expr_does e false n k
 
+-- Examples: `a + b * c` has to read a, b and c, and then to multiply and to add. `a && b && c` has to read a and to decide
+-- twice: what is held back at the first is b, at the second c.
+
 -- ---- statements
 
 -- What a statement has to do, with `scope` variables in scope and `path` the number of the next local, and then `rest`; how
@@ -205,3 +208,6 @@ stmts_acts n path ss k = block_does (map with_work ss) n path k
 -- the number of the next local behind them
 abbrev pub path_behind : List Stmt → ℕ → ℕ
 path_behind ss path = block_after (map with_work ss) path
+
+-- Example: `{ int x = 1; } print(2);` has to push 1, to bind x, to push 2 and to print. The first two acts have
+-- n variables in scope, and so have the last two: x is gone before 2 is pushed.

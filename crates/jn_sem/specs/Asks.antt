@@ -36,3 +36,5 @@ OnFirst (a ∷ rest) Else Go d = Go a rest d
 -- that step and no other
 abbrev pub It : {D : Type 0} → D → D → Type 0
 It x d = d ≡ x
+
+-- Example: `OnOnly (IsBody p V m) missing go` goes on with the least body of m at V, where there is one, and else is missing.

@@ -396,3 +396,6 @@ Does p m (PrintText t) f h = OnSome (slice_get p.texts t) missing (λ x. prints 
 Does p m Begin f h = OnOnly (IsSpelled p (codes "Main")) missing (λ n. makes p m (n ∷ []) [] true f f.vals h)
 Does p m Open f h =
     on_one f (λ r vs. on_object r (λ o V. OnOnly (IsSpelled p (codes "main")) missing (λ n. calls p V n r [] (waiting false f vs) h)))
+
+-- Examples: the rows of operators (OperatorsExample), and a whole run (TwoPrints). `e.m()` with e null is Null, whatever m is.
+-- `s.show()` runs the body at the view of s: where s is (view shower!.Exp) e, that of shower.

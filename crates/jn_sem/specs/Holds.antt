@@ -73,6 +73,12 @@ pub data RefutedBy (p : Program) (c : Sides) (shown : Path) (field : Option Name
   unshared : (U W : Path) (f : Name) → IsFirst p (Fails p c) U → Turns p c U W → IsFirstName p (Blocks p c U W) f
       → shown ≡ W → field ≡ Some f → RefutedBy p c shown field
 
+-- Example: in
+--   package base { class Exp { } class Add extends Exp { Exp l; Exp r; } }
+--   package disp extends base adapts base { class Exp { int tag; } }
+-- base!.Exp -> disp!.Exp\tag doesn't hold. base.Add is the first class that fails: its counterpart disp.Add has the fields l,
+-- r and tag, of which tag is masked, and l has two slots. So disp.Add and l refute it.
+
 -- ---- a constraint in a header, with `this` at a class
 
 -- An anchor Up(this, k) is replaced by Root, with the names of R less its last k as further exact names in front.
@@ -89,3 +95,6 @@ with_this R c = record c { from = map (rooted_at R) c.from; to = rooted_at R c.t
 -- A constraint S -> T holds with `this` at R where Holds is true of S and T with their masks, after this replacement.
 abbrev pub HoldsAt : Program → Path → Sides → Type 0
 HoldsAt p R c = Holds p (with_this R c)
+
+-- Example: base!.Exp -> Exp, written in base.Make, is at base.Make base!.Exp -> base!.Exp, and at heir.Make base!.Exp ->
+-- heir!.Exp. The first holds always; the second where heir shares its classes with base.

@@ -59,6 +59,10 @@ pub record Counterpart (p : Program) (Y : Name) (U W : Path) : Type 0 where
   pub is : W ≡ in_family Y U
   pub related : Related p U W
 
+-- Example: with `package base { class Lit { .. } }` and `package disp extends base adapts base { }` the classes base.Lit and
+-- disp.Lit are related, and each is the other's counterpart in its family (SlotsExample). Where `package more extends base
+-- adapts base { }` is there too, all three are one group.
+
 -- ---- types that hang on `this`
 
 -- A type hangs on `this` where one of its atoms has an anchor Up(this, k); `this` is path 0.
@@ -67,3 +71,6 @@ pub record HangsOnThis (t : Ty) : Type 0 where
   pub among : Among (atoms_in t) atom
   pub levels : ℕ
   pub anchor : atom.anchor ≡ Up 0 levels
+
+-- Example: in a class of the package base the type `Exp` is the atom of the anchor Up(this, 1) and the name Exp, and hangs on
+-- `this`; `base.Exp` has the anchor Root, and doesn't.

@@ -124,3 +124,6 @@ pub record IsSize (p : Program) (V : Path) (size : ℕ) : Type 0 where
   pub exact : (s : Slot) → Contains slots s ↔ SlotOfGroup p V s
   pub once : (i j : ℕ) (s : Slot) → slice_get slots i ≡ Some s → slice_get slots j ≡ Some s → i ≡ j
   pub is : size ≡ suc (length slots)
+
+-- Examples (SlotsExample): v of base.Lit and disp.Lit is one slot, tag of disp.Lit another, and the size is 3. Where an Exp of
+-- disp has a field that an Exp of base hasn't, a field `Exp l` has two slots. A field `Lit next` of the class Lit has one.

@@ -62,3 +62,6 @@ pub record ViewIs (p : Program) (at : Site) (t : ViewTerm) (x : Atom) : Type 0 w
   pub masks : Masks
   pub resolved : ResolveView p (mask_names p) (spot_at at role.View) (vars_at at) t (Ok (ty.Class (given ∷ []) masks))
   pub is : x ≡ atom_of given
+
+-- Example: in a body of base.Make the term `Lit` stands for the atom of the anchor Up(this, 1) and the name Lit. Where the
+-- view of `this` is both.Make, `new Lit(..)` makes a both.Lit.
