@@ -9,6 +9,7 @@ mod SlotsProof
 mod LinkedProof
 pub mod FindingLaws
 pub mod SharedLaws
+pub mod SlotLaws
 pub mod Under
 pub mod Widenings
 pub mod Substitutions

@@ -18,6 +18,7 @@ pub mod Run
 pub mod LawsOfRuns
 pub mod LawsOfFinding
 pub mod LawsOfSharing
+pub mod LawsOfSlots
 pub mod OperatorsExample
 pub mod LawsOfActs
 pub mod TwoPrints

@@ -1,16 +1,24 @@
 ghost use Rattle.jn_sem.specs.LawsOfSharing.{SharingLaws};
+ghost use Rattle.jn_sem.specs.LawsOfSlots.{SlotLaws};
 
 /// To be related is an equivalence on classes, and counterparts go from family to family and back.
 pub fn sharing_laws()
     ensures { SharingLaws }
 {}
 
+/// To have one slot for a field is an equivalence on the classes of a group that have it, and two of them have one slot
+/// exactly where Diff doesn't hold. Here no class has a field with two declarations, and field types fit their classes.
+pub fn slot_laws()
+    ensures { SlotLaws }
+{}
+
 #[cfg(test)]
 mod tests {
-    use super::sharing_laws;
+    use super::{sharing_laws, slot_laws};
 
     #[test]
     fn the_laws_hold() {
         sharing_laws();
+        slot_laws();
     }
 }
