@@ -1,5 +1,5 @@
 -- The small rows of types.
-use Rattle.std.proofs.Common.{ℤ, pos, ◌≡◌, ◌||◌, ℕ, Bool, true, false, not, [], ◌∷◌, length, nat_eq, eqb-true, refl, sym, ap, ◌∙◌, subst, arith}
+use Rattle.std.proofs.Common.{zero, suc, ℤ, pos, ◌≡◌, ◌||◌, ℕ, Bool, true, false, not, [], ◌∷◌, length, nat_eq, eqb-true, refl, sym, ap, ◌∙◌, subst, arith}
 use Rattle.jn_base.specs.declared.tree.Name.{Name}
 use Rattle.jn_base.specs.declared.tree.Decl.{Decl}
 use Rattle.jn_base.specs.declared.tree.Member.TheVariants.{outs-Inner}
@@ -9,16 +9,17 @@ use Rattle.jn_base.specs.Paths.{Path, Declared, nested}
 use Rattle.jn_base.specs.Supers.{Sup, itself, Member}
 use Rattle.jn_base.specs.Universe.{InUniverse}
 use Rattle.jn_base.specs.Atoms.{no_masks, Atom, atom, atoms_in, Among, first, later}
-use Rattle.jn_base.specs.Scopes.{Bind, bound}
-use Rattle.jn_base.specs.FamiliesExample.{v, families, base, both, Exp, Lit}
+use Rattle.jn_base.specs.Scopes.{this_bind, Binds, Bind, bound}
+use Rattle.jn_base.specs.FamiliesExample.{v, families, base, both, Exp, Lit, Add}
 use Rattle.jn_base.proofs.ExampleTools.{OneOf, one, sups_kept, same, at_inner, deep_declared, has_only}
-use Rattle.jn_base.proofs.FamiliesProof.{lit_v}
+use Rattle.jn_base.proofs.FamiliesProof.{lit_v, add_supers, both_has}
+use Rattle.jn_base.proofs.SuperLaws.{sup_up, sup_inherited}
 use Rattle.jn_base.proofs.NameTests.{itself_named}
-use Rattle.jn_sem.specs.Sets.{InAtom}
+use Rattle.jn_sem.specs.Sets.{InAtom, Seen, view_at, InType}
 use Rattle.jn_sem.specs.Values.{Value, Number, Truth, Null, Reference, ValueIn, number, no_object, object, Masked, HasField}
 use Rattle.jn_sem.specs.Widening.{replaced, loosened, raised, opened, widened}
 use Rattle.jn_sem.specs.RootClosure.{Opens, closed, through, InClosure}
-use Rattle.jn_sem.specs.BelowExample.{v_masked, class_of}
+use Rattle.jn_sem.specs.BelowExample.{v_masked, class_of, in_add}
 use Rattle.jn_sem.specs.TypesExample.{ValuesExample, all_but_v, a_lit, BoundsExample, SetsExample, seen_both, NormalExample, StepsExample, ClosureExample, nested_x, in_main, x_of_p, a, C, D, X, both_c_and_d}
 use Rattle.jn_sem.proofs.Widenings.{declared_namespace}
 use Rattle.jn_sem.proofs.BelowProof.{no_mask, alone, base_lit, base_exp, lit_exp, to_base_lit}
@@ -43,8 +44,41 @@ not_family : InAtom families seen_both (atom (Up 1 1) [] (Lit ∷ [])) (Lit ∷ 
 unfolding outer_of
 not_family i = absurd (omega (arith, ap outer_of i.inside.exact))
 
+-- the two views
+
+both_add : InUniverse families (Add ∷ both ∷ [])
+both_add = both_has Add (1, omega arith, refl)
+
+to_base_add : Sup families (Add ∷ both ∷ []) (Add ∷ base ∷ [])
+to_base_add = (add_supers (Add ∷ base ∷ [])).1 (record { C = Add; A = base; is = refl; class = (0, omega arith, refl); package_in = (3, omega arith, refl) })
+
+both_exp : InUniverse families (Exp ∷ both ∷ [])
+both_exp = both_has Exp (2, omega arith, refl)
+
+both_base : Sup families (both ∷ []) (base ∷ [])
+both_base = sup_up to_base_lit
+
+to_base_exp : Sup families (Exp ∷ both ∷ []) (Exp ∷ base ∷ [])
+to_base_exp = sup_inherited both_base base_exp.1
+
+seen_bound : (q : ℕ) → Seen seen_both q → Binds in_add q
+seen_bound zero h = record { bind = this_bind (Add ∷ base ∷ []); among = later first; is = refl }
+seen_bound (suc zero) h = record { bind = record { path = 1; ty = class_of base Exp }; among = first; is = refl }
+seen_bound (suc (suc q)) h = cc h
+
+seen_universe : (q : ℕ) → Seen seen_both q → InUniverse families (view_at seen_both q)
+seen_universe zero h = both_add
+seen_universe (suc zero) h = both_exp
+seen_universe (suc (suc q)) h = cc h
+
+seen_holds : (b : Bind) → Among in_add b → Seen seen_both b.path → InType families seen_both b.ty (view_at seen_both b.path)
+seen_holds _ first h = in_one (atom Root [] (Exp ∷ base ∷ [])) (Exp ∷ both ∷ []) (record { seen = tt; inside = record { exact = refl; super = to_base_exp } })
+seen_holds _ (later first) h = in_one (atom Root [] (Add ∷ base ∷ [])) (Add ∷ both ∷ []) (record { seen = tt; inside = record { exact = refl; super = to_base_add } })
+seen_holds b (later (later m)) h = elim m [ ]
+
 pub sets : SetsExample
 sets = record {
+  respects = record { bound = seen_bound; universe = seen_universe; holds = seen_holds };
   inexact = in_one (atom Root [] (Lit ∷ base ∷ [])) (Lit ∷ both ∷ []) (record { seen = tt; inside = record { exact = refl; super = to_base_lit } });
   exact = in_one (atom Root (base ∷ []) (Lit ∷ [])) (Lit ∷ base ∷ []) (record { seen = tt; inside = record { exact = refl; super = itself } });
   not_exact = λ i. not_exact_lit (i (atom Root (base ∷ []) (Lit ∷ [])) first);

@@ -11,7 +11,7 @@ use Rattle.jn_base.specs.Atoms.{Atom, atom, shown_atom, no_masks, atoms_in}
 use Rattle.jn_base.specs.Scopes.{Scope, this_bind, bound}
 use Rattle.jn_base.specs.ExampleTrees.{name, declaration, package_at, class_in, program}
 use Rattle.jn_base.specs.FamiliesExample.{families, base, doubler, both, Exp, Lit, Add, v}
-use Rattle.jn_sem.specs.Sets.{Views, InType}
+use Rattle.jn_sem.specs.Sets.{Views, InType, Respects}
 use Rattle.jn_sem.specs.Values.{Value, Number, Null, Reference, ValueIn}
 use Rattle.jn_sem.specs.Widening.{Widens}
 use Rattle.jn_sem.specs.Normal.{normal}
@@ -33,6 +33,8 @@ seen_both (suc zero) = Some (Exp ∷ both ∷ [])
 seen_both (suc (suc q)) = None
 
 pub record SetsExample : Type 0 where
+  -- these views respect the scope
+  pub respects : Respects families seen_both in_add
   -- `base.Lit` holds both.Lit; `base!.Lit` holds base.Lit, and not both.Lit
   pub inexact : InType families seen_both (class_of base Lit) (Lit ∷ both ∷ [])
   pub exact : InType families seen_both (exact_class_of base Lit) (Lit ∷ base ∷ [])
