@@ -120,9 +120,12 @@ pub data Before : Type 0 where
   NoPath : Before
 
 -- a `final` variable of class type is a path
+abbrev pub as_path : Var → Before
+as_path v = cond (v.fixed && is_class v.ty) (IsPath v.path) NoPath
+
 abbrev pub of_variable : Name → Option Var → Before
 of_variable x None = NotInScope x
-of_variable x (Some v) = cond (v.fixed && is_class v.ty) (IsPath v.path) NoPath
+of_variable x (Some v) = as_path v
 
 abbrev pub path_before : Role → Vars → Ref → Before
 path_before r vars ref.This = IsPath 0

@@ -1,0 +1,21 @@
+-- The steps of a path's anchor.
+use Rattle.std.proofs.Common.{◌≡◌, ℕ, List, Some, None, Option, Result, drop, subst, sym}
+use Rattle.jn_base.specs.declared.tree.Name.{Name}
+use Rattle.jn_base.specs.declared.tree.Term.{Term}
+use Rattle.jn_base.specs.declared.tree.Program.{Program}
+use Rattle.jn_base.specs.declared.types.Anchor.{Anchor}
+use Rattle.jn_base.specs.declared.types.Anchor.TheVariants.{Up}
+use Rattle.jn_base.specs.declared.names.Spot.{Spot}
+use Rattle.jn_base.specs.declared.refusal.Refusal.{Refusal}
+use Rattle.jn_base.specs.Paths.{Path}
+use Rattle.jn_base.specs.Resolve.{FirstUnknown, names_of, taken_off, Behind, BoundGives}
+
+pub unknown_is : (p : Program) (V : Path) (names : List Name) (t : Term) (o : Option Name) (N : Name) → names ≡ names_of t → o ≡ Some N
+    → FirstUnknown p V names o → FirstUnknown p V (names_of t) (Some N)
+unknown_is p V names t o N e h f =
+    subst (λ (x : Option Name). FirstUnknown p V (names_of t) x) h (subst (λ (ns : List Name). FirstUnknown p V ns o) e f)
+
+pub bound_step : (p : Program) (spot : Spot) (t : Term) (front : Option Path) (q : ℕ) (V W : Path) (k : ℕ) (o : Result Anchor Refusal)
+    → taken_off front V ≡ Some k → W ≡ drop k V → Behind p spot t front W (Up q k) o → BoundGives p spot t front q V (taken_off front V) o
+bound_step p spot t front q V W k o e h b =
+    subst (λ (x : Option ℕ). BoundGives p spot t front q V x o) (sym e) (subst (λ (X : Path). Behind p spot t front X (Up q k) o) h b)
