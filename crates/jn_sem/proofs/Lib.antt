@@ -7,6 +7,7 @@ pub mod TwoPrintsProof
 mod SlotTools
 mod SlotsProof
 mod LinkedProof
+mod RefutedProof
 pub mod FindingLaws
 pub mod SharedLaws
 pub mod SlotLaws

@@ -76,7 +76,7 @@ add_class = simp (outs-Inner, outs-Slot, outs-Body)
 two_flat : inners is_flat two_slots ≡ true
 two_flat = simp (outs-Inner, outs-Slot, outs-Body)
 
-exp_in_base : Member two_slots (base ∷ []) Exp
+pub exp_in_base : Member two_slots (base ∷ []) Exp
 exp_in_base = inner_member two_slots base base Exp itself has_exp
 
 add_in_base : Member two_slots (base ∷ []) Add
@@ -140,16 +140,16 @@ l_at = record {
 l_type : FieldTypeIs two_slots (in_base Add) l (named_type Exp) (in_namespace Exp)
 l_type = type_of_name two_slots two_flat Add Exp l exp_in_base (inner_class two_slots (in_base Exp) base Exp itself exp_class)
 
-up : Sup two_slots (disp ∷ []) (base ∷ [])
+pub up : Sup two_slots (disp ∷ []) (base ∷ [])
 up = above_base own_decls further_decls
 
 l_of_add : FieldDecls two_slots (in_base Add) l (in_base Add)
 l_of_add = record { super = itself; field = field_l; at = l_at }
 
-l_of_heir : FieldDecls two_slots (in_disp Add) l (in_base Add)
+pub l_of_heir : FieldDecls two_slots (in_disp Add) l (in_base Add)
 l_of_heir = record { super = sup_inherited up add_in_base; field = field_l; at = l_at }
 
-adds : Related two_slots (in_disp Add) (in_base Add)
+pub adds : Related two_slots (in_disp Add) (in_base Add)
 adds = the_related own_decls further_decls Add has_add add_class
 
 exps : Related two_slots (in_disp Exp) (in_base Exp)

@@ -1,5 +1,5 @@
 -- Three programs of two families, and what slots their fields have.
-use Rattle.std.specs.Prelude.{ℕ, List, [], ◌∷◌, codes}
+use Rattle.std.specs.Prelude.{ℕ, List, [], ◌∷◌, Some, codes}
 use Rattle.jn_base.specs.declared.tree.Name.{Name}
 use Rattle.jn_base.specs.declared.tree.Text.{Text}
 use Rattle.jn_base.specs.declared.tree.Decl.{Decl}
@@ -9,9 +9,13 @@ use Rattle.jn_base.specs.declared.tree.TypeTerm.TheVariants as type
 use Rattle.jn_base.specs.declared.tree.Member.{Member}
 use Rattle.jn_base.specs.declared.tree.Member.TheVariants as member
 use Rattle.jn_base.specs.declared.tree.Program.{Program}
+use Rattle.jn_base.specs.declared.types.Anchor.TheVariants.{Root}
+use Rattle.jn_base.specs.declared.types.Masks.{Masks}
 use Rattle.jn_base.specs.Paths.{Path}
+use Rattle.jn_base.specs.Atoms.{atom, no_masks}
 use Rattle.jn_base.specs.ExampleTrees.{name, line, word, package_at, class_in, field}
 use Rattle.jn_sem.specs.Sharing.{Related, Counterpart}
+use Rattle.jn_sem.specs.Holds.{Sides, Fails, RefutedBy}
 use Rattle.jn_sem.specs.Slots.{Diff, OneSlot, Slot, IsSlot, IsSize}
 
 -- the names by their numbers
@@ -120,3 +124,24 @@ pub record Linked : Type 0 where
   pub next_of_base : IsSlot linked (in_base Lit) next (slot (in_base Lit) next)
   pub next_of_disp : IsSlot linked (in_disp Lit) next (slot (in_base Lit) next)
   pub size : IsSize linked (in_disp Lit) 2
+
+-- ---- Holds, and what refutes it
+
+-- the program has one mask, tag, with the number 0
+abbrev pub tag_masked : Masks
+tag_masked = record { 0 = 1 ∷ 0 ∷ 0 ∷ 0 ∷ [] }
+
+-- base!.Exp -> disp!.Exp\tag
+abbrev pub to_disp : Sides
+to_disp = record {
+  names = tag ∷ [];
+  from = atom Root (base ∷ []) (Exp ∷ []) ∷ [];
+  hidden = no_masks;
+  to = atom Root (disp ∷ []) (Exp ∷ []);
+  masks = tag_masked;
+}
+
+pub record Refuted : Type 0 where
+  -- with two slots for l it doesn't hold: base.Add is the first class that fails, and l the first field of its counterpart
+  pub fails : Fails two_slots to_disp (in_base Add)
+  pub refuted : RefutedBy two_slots to_disp (in_disp Add) (Some l)

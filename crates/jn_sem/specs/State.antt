@@ -6,12 +6,12 @@ use Rattle.jn_base.specs.declared.tree.Name.{Name}
 use Rattle.jn_base.specs.declared.tree.Method.{Method}
 use Rattle.jn_base.specs.declared.tree.Program.{Program}
 use Rattle.jn_base.specs.declared.types.Ty.{Ty}
-use Rattle.jn_base.specs.declared.types.Ty.TheVariants as ty
 use Rattle.jn_base.specs.Paths.{Path}
 use Rattle.jn_sem.specs.Sets.{Views}
 use Rattle.jn_sem.specs.Values.{Value, Number, Truth, Null, Reference, ValueIn}
 use Rattle.jn_sem.specs.Slots.{Slot, IsSlot}
 use Rattle.jn_base.specs.declared.names.Var.{Var}
+use Rattle.jn_base.specs.Resolve.{is_class}
 use Rattle.jn_base.specs.ResolveTypes.{mask_names}
 use Rattle.jn_sem.specs.Terms.{Site}
 use Rattle.jn_sem.specs.Acts.{Todo}
@@ -148,13 +148,6 @@ with_values [] vs = []
 with_values (x ∷ xs) [] = []
 with_values (x ∷ xs) (v ∷ vs) = record { var = x; value = v } ∷ with_values xs vs
 
-abbrev pub is_class_type : Ty → Bool
-is_class_type (ty.Class xs m) = true
-is_class_type ty.Int = false
-is_class_type ty.Bool = false
-is_class_type ty.Null = false
-is_class_type ty.Void = false
-
 abbrev pub is_null : Value → Bool
 is_null Null = true
 is_null (Number z) = false
@@ -163,7 +156,7 @@ is_null (Reference o V) = false
 
 -- a `final` variable of class type is a path, and must not be null
 abbrev pub is_null_path : Variable → Bool
-is_null_path x = x.var.fixed && (is_class_type x.var.ty && is_null x.value)
+is_null_path x = x.var.fixed && (is_class x.var.ty && is_null x.value)
 
 abbrev pub has_null_path : List Variable → Bool
 has_null_path vars = list_any is_null_path vars

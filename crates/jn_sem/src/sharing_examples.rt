@@ -1,4 +1,4 @@
-ghost use Rattle.jn_sem.specs.SlotsExample.{Tagged, TwoSlots, Linked};
+ghost use Rattle.jn_sem.specs.SlotsExample.{Tagged, TwoSlots, Linked, Refuted};
 
 /// Two families of one class: related classes and counterparts, a field that is one slot in both views, and one that only the
 /// heir's view has. An object of either class takes 3 cells.
@@ -16,6 +16,11 @@ pub fn one_slot()
     ensures { Linked }
 {}
 
+/// A view change that sharing doesn't grant: the class and the field that refute it.
+pub fn refuted()
+    ensures { Refuted }
+{}
+
 #[cfg(test)]
 mod tests {
     use super::*;
@@ -25,5 +30,6 @@ mod tests {
         one_class();
         two_slots();
         one_slot();
+        refuted();
     }
 }
