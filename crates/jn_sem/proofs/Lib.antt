@@ -11,6 +11,7 @@ mod RefutedProof
 pub mod FindingLaws
 pub mod SharedLaws
 pub mod SlotLaws
+pub mod HeapLaws
 pub mod Under
 pub mod Widenings
 pub mod Substitutions

@@ -19,6 +19,7 @@ pub mod LawsOfRuns
 pub mod LawsOfFinding
 pub mod LawsOfSharing
 pub mod LawsOfSlots
+pub mod LawsOfHeaps
 pub mod OperatorsExample
 pub mod LawsOfActs
 pub mod TwoPrints

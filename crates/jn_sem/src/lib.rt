@@ -5,6 +5,7 @@
 
 pub mod acts;
 pub mod finding;
+pub mod heaps;
 pub mod laws;
 pub mod outcome;
 pub mod run_examples;
