@@ -1,4 +1,5 @@
 pub mod Sure
+pub mod Asking
 pub mod SureActs
 pub mod SureCharges
 pub mod RunLaws
@@ -12,6 +13,7 @@ pub mod FindingLaws
 pub mod SharedLaws
 pub mod SlotLaws
 pub mod HeapLaws
+pub mod FieldAnchors
 pub mod Under
 pub mod Widenings
 pub mod Substitutions

@@ -2,6 +2,11 @@
 use Rattle.std.specs.Prelude.{◌≡◌, ◌<◌, ℕ, length}
 use Rattle.jn_base.specs.declared.tree.Name.{Name}
 use Rattle.jn_base.specs.declared.tree.Field.{Field}
+use Rattle.jn_base.specs.declared.tree.Head.{Head}
+use Rattle.jn_base.specs.declared.tree.Head.TheVariants as head
+use Rattle.jn_base.specs.declared.tree.Term.{Term}
+use Rattle.jn_base.specs.declared.tree.TypeTerm.{TypeTerm}
+use Rattle.jn_base.specs.declared.tree.TypeTerm.TheVariants as type
 use Rattle.jn_base.specs.declared.tree.Program.{Program}
 use Rattle.jn_base.specs.declared.types.Anchor.TheVariants.{Up}
 use Rattle.jn_base.specs.declared.types.Ty.{Ty}
@@ -30,3 +35,27 @@ pub record SlotsOf (p : Program) (f : Name) : Type 0 where
 
 abbrev pub SlotLaws : Type 0
 SlotLaws = (p : Program) → FieldsPass p → (f : Name) → SlotsOf p f
+
+-- ---- when fields pass
+
+-- no class has a field with two declarations
+abbrev pub OnePlaceEach : Program → Type 0
+OnePlaceEach p = (V Q R : Path) (f : Name) → IsClass p V → FieldDecls p V f Q → FieldDecls p V f R → Q ≡ R
+
+-- where a term has a bracket, names stand before it (as in every source)
+abbrev pub HeadNamed : Head → Type 0
+HeadNamed head.Plain = Unit {0}
+HeadNamed (head.Own r) = Unit {0}
+HeadNamed (head.Prefix P r) = 0 < length P
+
+abbrev pub TypeNamed : TypeTerm → Type 0
+TypeNamed type.Int = Unit {0}
+TypeNamed type.Bool = Unit {0}
+TypeNamed (type.Class ts ms) = (t : Term) → Among ts t → HeadNamed t.head
+
+abbrev pub BracketsNamed : Program → Type 0
+BracketsNamed p = (Q : Path) (f : Name) (x : Field) → FieldAt p Q f x → TypeNamed x.ty
+
+-- then the fields pass
+abbrev pub FieldsPassThere : Type 0
+FieldsPassThere = (p : Program) → OnePlaceEach p → BracketsNamed p → FieldsPass p

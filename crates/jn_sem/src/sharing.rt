@@ -1,5 +1,5 @@
 ghost use Rattle.jn_sem.specs.LawsOfSharing.{SharingLaws};
-ghost use Rattle.jn_sem.specs.LawsOfSlots.{SlotLaws};
+ghost use Rattle.jn_sem.specs.LawsOfSlots.{SlotLaws, FieldsPassThere};
 
 /// To be related is an equivalence on classes, and counterparts go from family to family and back.
 pub fn sharing_laws()
@@ -12,13 +12,20 @@ pub fn slot_laws()
     ensures { SlotLaws }
 {}
 
+/// Where no class has a field with two declarations, and names stand before each bracket of a field's type, field types fit
+/// their classes.
+pub fn fields_pass()
+    ensures { FieldsPassThere }
+{}
+
 #[cfg(test)]
 mod tests {
-    use super::{sharing_laws, slot_laws};
+    use super::{fields_pass, sharing_laws, slot_laws};
 
     #[test]
     fn the_laws_hold() {
         sharing_laws();
         slot_laws();
+        fields_pass();
     }
 }
