@@ -36,10 +36,10 @@ use Rattle.jn_base.proofs.Reaching.{sup_in_universe}
 use Rattle.jn_sem.specs.Normal.{same_path, NormalType}
 use Rattle.jn_sem.specs.Sets.{view_at}
 use Rattle.jn_sem.specs.Sharing.{family_of}
-use Rattle.jn_sem.specs.Slots.{Slot, IsSlot, IsSize, OneSlot}
+use Rattle.jn_sem.specs.Slots.{FieldType, Slot, IsSlot, IsSize, OneSlot}
 use Rattle.jn_sem.specs.Terms.{Site, spot_at, vars_at, FieldTypeIs, TypeIs, TermIs, SuperBound, ViewIs}
 use Rattle.jn_sem.specs.State.{Stored, Frame, frame_views, site_of}
-use Rattle.jn_sem.specs.Does.{Body, IsBody, AreParamsAfter, FieldType, IsFresh, AreFresh, IsNewClass, IsTargetFamily, zero_of, var}
+use Rattle.jn_sem.specs.Does.{Body, IsBody, AreParamsAfter, IsFresh, AreFresh, IsNewClass, IsTargetFamily, zero_of, var}
 use Rattle.jn_sem.specs.LawsOfFinding.{IsOne, FindsOne, FindsOneIn}
 use Rattle.jn_sem.proofs.NormalTypes.{type_subst_once, sorted_once}
 

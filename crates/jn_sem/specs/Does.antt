@@ -35,7 +35,7 @@ use Rattle.jn_sem.specs.Sharing.{IsClass, Counterpart, HangsOnThis, family_of}
 use Rattle.jn_base.specs.declared.names.Var.{Var}
 use Rattle.jn_base.specs.declared.names.Role.TheVariants as role
 use Rattle.jn_sem.specs.Terms.{FieldTypeIs, TermIs, SuperBound, ViewIs, TypeIs}
-use Rattle.jn_sem.specs.Slots.{IsSlot, IsSize, this_viewed}
+use Rattle.jn_sem.specs.Slots.{FieldType, IsSlot, IsSize, this_viewed}
 use Rattle.jn_sem.specs.Acts.{Act, Push, Read, This, Invert, Negate, Operate, Decide, Get, Call, Make, Super, View, Bind, Assign, Put, Choose, Repeat, Return, Print, PrintText, Begin, Open, Todo, todo, acts, stmts_acts, path_behind}
 use Rattle.jn_sem.specs.State.{Stored, Heap, slot_value, with_slot, with_object, IsIn, Variable, Frame, frame_views, site_of, result_site, variable, assigned, is_null_path}
 use Rattle.jn_sem.specs.Asks.{OnOnly, OnTest, OnSome, OnIf, OnFirst, It}
@@ -219,14 +219,6 @@ AreParamsAfter p b before (x ∷ xs) all =
 
 abbrev pub AreParams : Program → Body → List Var → Type 0
 AreParams p b vars = AreParamsAfter p b [] b.method.params vars
-
--- the field f of V has the type t
-pub record FieldType (p : Program) (V : Path) (f : Name) (t : Ty) : Type 0 where
-  pub class : Path
-  pub is_field : IsField p V f class
-  pub field : Field
-  pub at : FieldAt p class f field
-  pub type : FieldTypeIs p class f field.ty t
 
 abbrev pub zero_of : Ty → Value
 zero_of ty.Int = Number (pos 0)

@@ -12,10 +12,10 @@ use Rattle.jn_base.specs.ClassOrder.{HasDistinctNames}
 use Rattle.jn_base.specs.TableRules.{DeclarationsPass}
 use Rattle.jn_base.specs.LawsOfTable.{NamesItsPaths}
 use Rattle.jn_sem.specs.Sharing.{Counterpart}
-use Rattle.jn_sem.specs.Slots.{IsSlot, IsSize}
+use Rattle.jn_sem.specs.Slots.{FieldType, IsSlot, IsSize}
 use Rattle.jn_sem.specs.Terms.{Site, TypeIs, SuperBound}
 use Rattle.jn_sem.specs.State.{Frame}
-use Rattle.jn_sem.specs.Does.{Body, IsBody, AreParams, FieldType, AreFresh, IsNewClass, IsTargetFamily, IsSpelled}
+use Rattle.jn_sem.specs.Does.{Body, IsBody, AreParams, AreFresh, IsNewClass, IsTargetFamily, IsSpelled}
 
 -- two that are so are the same
 abbrev pub IsOne : {A : Type 0} → (A → Type 0) → Type 0

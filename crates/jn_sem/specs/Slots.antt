@@ -6,7 +6,7 @@ use Rattle.jn_base.specs.declared.tree.Field.{Field}
 use Rattle.jn_base.specs.declared.tree.Program.{Program}
 use Rattle.jn_base.specs.declared.types.Ty.{Ty}
 use Rattle.jn_base.specs.Paths.{Path}
-use Rattle.jn_base.specs.Members.{FieldDecls, FieldAt}
+use Rattle.jn_base.specs.Members.{FieldDecls, FieldAt, IsField}
 use Rattle.jn_base.specs.ClassOrder.{IsFirst}
 use Rattle.jn_sem.specs.Sets.{Views, InType}
 use Rattle.jn_sem.specs.Values.{HasField}
@@ -20,6 +20,20 @@ no_views q = None
 -- `this` has the view V, and no other path has one
 abbrev pub this_viewed : Path → Views
 this_viewed V q = cond (nat_eq q 0) (Some V) None
+
+-- the field f of V has the type t
+pub record FieldType (p : Program) (V : Path) (f : Name) (t : Ty) : Type 0 where
+  pub class : Path
+  pub is_field : IsField p V f class
+  pub field : Field
+  pub at : FieldAt p class f field
+  pub type : FieldTypeIs p class f field.ty t
+
+-- V has the field f, and its type hangs on `this`
+pub record FieldHangs (p : Program) (V : Path) (f : Name) : Type 0 where
+  pub ty : Ty
+  pub type : FieldType p V f ty
+  pub hangs : HangsOnThis ty
 
 -- the class U is in the type where `this` has the view V
 pub record ClassAt (p : Program) (V : Path) (ty : Ty) (U : Path) : Type 0 where
