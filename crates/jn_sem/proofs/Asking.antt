@@ -1,5 +1,5 @@
 -- How a way is shown, and what is known from it, where it asks for something.
-use Rattle.std.proofs.Common.{◌≡◌, refl, sym, subst}
+use Rattle.std.proofs.Common.{◌≡◌, subst}
 use Rattle.jn_sem.specs.Asks.{Only, OnOnly, found, missing, OnTest, holds, fails}
 
 pub on_found : {A D : Type 0} {Is : A → Type 0} {Else : D → Type 0} {Go : A → D → Type 0} {d : D} (a : A) → Is a → ((b c : A) → Is b → Is c → b ≡ c)

@@ -1,5 +1,5 @@
 -- What the type of a field takes off its class is less than all its names.
-use Rattle.std.proofs.Common.{◌≡◌, ◌<◌, ◌≤◌, ◌-◌, ℕ, zero, suc, List, [], ◌∷◌, ◌++◌, length, map, drop, Option, Some, None, Bool, true, false, refl, sym, ap, ◌∙◌, subst, ◌⊎◌, inl, inr, arith}
+use Rattle.std.proofs.Common.{◌≡◌, ◌<◌, ◌≤◌, ◌-◌, ℕ, List, [], ◌∷◌, ◌++◌, length, map, drop, Option, Some, None, Bool, true, false, refl, sym, ap, ◌∙◌, subst, ◌⊎◌, inl, inr, arith}
 use Rattle.std.specs.Prelude.{Result, Ok, Err, reverse, cond, nat_lt, nat_le}
 use Rattle.std.proofs.lemmas.List.{append-nil, reverse-reverse, length-append, length-reverse}
 use Rattle.jn_base.specs.declared.tree.Name.{Name}
@@ -27,10 +27,10 @@ use Rattle.jn_base.specs.Paths.{Path}
 use Rattle.jn_base.specs.Members.{FieldAt}
 use Rattle.jn_base.specs.Atoms.{Atom, atoms_in, atom_of, Among, first, later}
 use Rattle.jn_base.specs.Scopes.{bound_of}
-use Rattle.jn_base.specs.Resolve.{class_of, scope_at, anchor_out, taken_off, Behind, unknown_name, not_above, above, BoundGives, PathGives, IsPath, NoPath, path_before, PrefixGives, AnchorGiven, AtomGives, SuitGives, ClassGives, no_class, in_class, Resolve, plain_gives, suits, atom_with}
-use Rattle.jn_base.specs.ResolveTypes.{mask_names, before_all, ResolveAll, none, refused, first as first_term, DepthsGive, many, one, UnmaskedGives, AtomsGive, ResolveClass, bounds_at}
+use Rattle.jn_base.specs.Resolve.{class_of, scope_at, anchor_out, Behind, unknown_name, not_above, above, BoundGives, PathGives, path_before, PrefixGives, AnchorGiven, AtomGives, SuitGives, ClassGives, no_class, in_class, plain_gives, suits, atom_with}
+use Rattle.jn_base.specs.ResolveTypes.{mask_names, ResolveAll, none, refused, first as first_term, DepthsGive, many, one, UnmaskedGives, AtomsGive, bounds_at}
 use Rattle.jn_sem.specs.Terms.{spot, FieldTypeIs}
-use Rattle.jn_sem.specs.LawsOfSlots.{FieldsPass, HeadNamed, TypeNamed, FieldsPassThere}
+use Rattle.jn_sem.specs.LawsOfSlots.{HeadNamed, TypeNamed, FieldsPassThere}
 
 -- ---- results
 

@@ -1,9 +1,8 @@
 -- A run only adds.
-use Rattle.std.proofs.Common.{◌≡◌, ◌≤◌, ℕ, zero, suc, ◌+◌, List, [], ◌∷◌, ◌++◌, length, Option, Some, None, Bool, true, false, refl, sym, ap, ◌∙◌, subst, arith}
+use Rattle.std.proofs.Common.{◌≡◌, ℕ, zero, suc, ◌+◌, List, [], ◌∷◌, ◌++◌, length, Option, Some, None, Bool, true, false, refl, sym, ◌∙◌, subst, arith}
 use Rattle.std.specs.Prelude.{ℤ, cond, not, nat_eq, nat_le, nat_lt, slice_get, slice_set, IsSome}
 use Rattle.std.specs.Option.{option_map, option_and_then}
 use Rattle.std.specs.List.{find}
-use Rattle.jn_steps.specs.Runs.{On, End}
 use Rattle.jn_steps.specs.Steps.{Goes, Enters, Leaves, Falls, Faults}
 use Rattle.jn_base.specs.declared.tree.Name.{Name}
 use Rattle.jn_base.specs.declared.tree.Expr.{Expr}
@@ -12,17 +11,16 @@ use Rattle.jn_base.specs.declared.tree.Program.{Program}
 use Rattle.jn_base.specs.declared.types.Ty.{Ty}
 use Rattle.jn_base.specs.declared.names.Var.{Var}
 use Rattle.jn_base.specs.Paths.{Path}
-use Rattle.jn_base.specs.ResolveTypes.{mask_names}
 use Rattle.jn_sem.specs.Sharing.{family_of}
 use Rattle.jn_sem.specs.Sets.{Views}
-use Rattle.jn_sem.specs.Values.{Value, Number, Truth, Null, Reference, ValueIn, number, truth, null, no_object, object}
+use Rattle.jn_sem.specs.Values.{Value, Number, Truth, Null, Reference, number, truth, null, no_object, object}
 use Rattle.jn_sem.specs.Slots.{Slot}
 use Rattle.jn_sem.specs.Asks.{OnOnly, found, missing, OnTest, holds, fails, OnSome, OnIf, OnFirst, It}
 use Rattle.jn_sem.specs.Acts.{Act, Push, Read, This, Invert, Negate, Operate, Decide, Get, Call, Make, Super, View, Bind, Assign, Put, Choose, Repeat, Return, Print, PrintText, Begin, Open, Todo}
 use Rattle.jn_sem.specs.State.{Stored, Object, Heap, same_slot, stored_value, slot_value, with_object, with_slot, HasValue, IsIn, Frame, variable, is_null_path, has_null_path}
-use Rattle.jn_sem.specs.Does.{Ending, Entry, Did, Body, Way, Made, Gives, Fails, kept, waiting, on_one, on_two, args_of, on_args, on_number, on_truth, on_object, on_made, result_of, on_entry, calls, on_cells, constructs, makes, on_viewed, on_read, on_typed, decided, bound_to, binds, returns, returns_none, prints_value, Does}
-use Rattle.jn_sem.specs.Run.{Running, Then, ended, settled_at, settled, given_first, frame_of, begins, enters, proceeds, acting, charged, frames_charged, Charge}
-use Rattle.jn_sem.specs.LawsOfHeaps.{Grows, GrownAt, Later, LaterThen, HeapsOf, HeapLaws}
+use Rattle.jn_sem.specs.Does.{Ending, Entry, Did, Body, Way, Made, Gives, Fails, kept, waiting, on_one, on_two, args_of, on_args, on_number, on_truth, on_object, on_made, result_of, on_entry, calls, on_cells, constructs, makes, on_viewed, on_read, decided, bound_to, binds, returns, returns_none, prints_value, Does}
+use Rattle.jn_sem.specs.Run.{Then, ended, settled_at, settled, given_first, frame_of, enters, proceeds, acting, charged, frames_charged}
+use Rattle.jn_sem.specs.LawsOfHeaps.{Grows, GrownAt, Later, LaterThen, HeapLaws}
 
 -- ---- heaps
 

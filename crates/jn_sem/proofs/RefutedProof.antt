@@ -1,5 +1,5 @@
 -- A constraint that fails, and what refutes it.
-use Rattle.std.proofs.Common.{◌≡◌, ◌++◌, ℕ, zero, suc, List, [], ◌∷◌, length, drop, Option, Some, None, Contains, Bool, true, false, nat_eq, refl, sym, ap, ◌∙◌, subst, ◌⊎◌, inl, inr, arith}
+use Rattle.std.proofs.Common.{◌≡◌, ℕ, zero, suc, List, [], ◌∷◌, length, drop, Option, Some, None, Contains, Bool, true, false, nat_eq, refl, sym, ap, ◌∙◌, subst, ◌⊎◌, inl, inr, arith}
 use Rattle.std.specs.Prelude.{slice_get}
 use Rattle.std.specs.List.{list_all}
 use Rattle.std.specs.declared.cmp.Ordering.TheVariants.{Less}
@@ -19,10 +19,10 @@ use Rattle.jn_base.proofs.SuperLaws.{member_heir}
 use Rattle.jn_base.proofs.ExampleTools.{at_inner, inners, inner_above, field_in, same, OneOf, one, sups_kept, top_sup, at_top}
 use Rattle.jn_base.proofs.VerdictTools.{TwoLevels, package_of, class_of, universe_of}
 use Rattle.jn_sem.specs.Sets.{InAtom, InAtoms}
-use Rattle.jn_sem.specs.Values.{HasField, Masked}
+use Rattle.jn_sem.specs.Values.{HasField}
 use Rattle.jn_sem.specs.Sharing.{IsClass, in_family}
 use Rattle.jn_sem.specs.Slots.{no_views, Slot, IsSlot, OneSlot}
-use Rattle.jn_sem.specs.Holds.{Turns, Passes, masked, same_slot, IsGranted, Fails, Blocks, RefutedBy, unshared}
+use Rattle.jn_sem.specs.Holds.{Turns, Passes, masked, same_slot, IsGranted, Fails, unshared}
 use Rattle.jn_sem.specs.SlotsExample.{base, disp, Exp, Add, l, r, tag, in_base, in_disp, two_slots, to_disp, Refuted}
 use Rattle.jn_sem.proofs.SlotTools.{bare}
 use Rattle.jn_sem.proofs.SlotsProof.{two, adds, up, exp_in_base, l_of_heir}

@@ -1,22 +1,18 @@
 -- To have one slot is an equivalence.
-use Rattle.std.proofs.Common.{◌≡◌, ◌<◌, ◌-◌, ℕ, zero, suc, List, [], ◌∷◌, ◌++◌, length, drop, Option, Some, None, refl, sym, ap, ◌∙◌, subst, arith}
-use Rattle.std.proofs.lemmas.List.{length-drop}
+use Rattle.std.proofs.Common.{◌≡◌, ◌<◌, ℕ, zero, suc, [], ◌∷◌, ◌++◌, length, drop, Option, Some, None, refl, sym, ap, ◌∙◌, subst, arith}
 use Rattle.jn_reach.specs.Derived.{Derived, seed, rule}
 use Rattle.jn_base.specs.declared.tree.Name.{Name}
 use Rattle.jn_base.specs.declared.tree.Program.{Program}
 use Rattle.jn_base.specs.declared.types.Anchor.{Anchor}
-use Rattle.jn_base.specs.declared.types.Anchor.TheVariants.{Root, Up}
 use Rattle.jn_base.specs.declared.types.Ty.{Ty}
 use Rattle.jn_base.specs.declared.types.Ty.TheVariants as ty
 use Rattle.jn_base.specs.Paths.{Path}
-use Rattle.jn_base.specs.ClassOrder.{IsFirst, Before}
 use Rattle.jn_base.specs.Members.{FieldDecls}
-use Rattle.jn_base.specs.Atoms.{Atom, atoms_in, anchor_at}
+use Rattle.jn_base.specs.Atoms.{atoms_in, anchor_at}
 use Rattle.jn_base.proofs.SuperLaws.{sup_level}
 use Rattle.jn_sem.specs.Sets.{Views, view_at, InAtoms, InType}
-use Rattle.jn_sem.specs.Values.{HasField}
-use Rattle.jn_sem.specs.Sharing.{IsClass, family_of, in_family, Related, Counterpart}
-use Rattle.jn_sem.specs.Slots.{this_viewed, ClassAt, MatchAt, Unmatched, Compared, compared, BothHave, BothHang, IsApart, only_one, only_other, MakesTwo, declared_apart, unmatched, unmatched_back, fields_apart, MakesTwoBy, Diff, OneSlot, Slot, IsSlot}
+use Rattle.jn_sem.specs.Sharing.{IsClass, family_of}
+use Rattle.jn_sem.specs.Slots.{this_viewed, ClassAt, MatchAt, Compared, compared, BothHave, BothHang, IsApart, only_one, only_other, MakesTwo, declared_apart, unmatched, unmatched_back, fields_apart, MakesTwoBy, Diff, OneSlot, Slot, IsSlot}
 use Rattle.jn_sem.specs.LawsOfSlots.{FieldsPass, SlotsOf, SlotLaws}
 use Rattle.jn_sem.proofs.SharedLaws.{sharing_laws}
 

@@ -12,7 +12,6 @@ use Rattle.jn_base.specs.declared.tree.Name.{Name}
 use Rattle.jn_base.specs.declared.tree.Text.{Text}
 use Rattle.jn_base.specs.declared.tree.Op.{Op}
 use Rattle.jn_base.specs.declared.tree.Op.TheVariants as op
-use Rattle.jn_base.specs.declared.tree.Field.{Field}
 use Rattle.jn_base.specs.declared.tree.Method.{Method}
 use Rattle.jn_base.specs.declared.tree.Param.{Param}
 use Rattle.jn_base.specs.declared.tree.Expr.{Expr}
@@ -25,7 +24,7 @@ use Rattle.jn_base.specs.declared.types.Ty.{Ty}
 use Rattle.jn_base.specs.declared.types.Ty.TheVariants as ty
 use Rattle.jn_base.specs.Paths.{Path}
 use Rattle.jn_base.specs.ClassOrder.{name_cmp}
-use Rattle.jn_base.specs.Members.{MethodAt, FieldAt, Least, IsField}
+use Rattle.jn_base.specs.Members.{MethodAt, Least}
 use Rattle.jn_base.specs.Atoms.{Atom, atom_at}
 use Rattle.jn_sem.specs.declared.outcome.Why.{Why}
 use Rattle.jn_sem.specs.declared.outcome.Why.TheVariants as why
@@ -34,7 +33,7 @@ use Rattle.jn_sem.specs.Values.{Value, Number, Truth, Null, Reference, HasField}
 use Rattle.jn_sem.specs.Sharing.{IsClass, Counterpart, HangsOnThis, family_of}
 use Rattle.jn_base.specs.declared.names.Var.{Var}
 use Rattle.jn_base.specs.declared.names.Role.TheVariants as role
-use Rattle.jn_sem.specs.Terms.{FieldTypeIs, TermIs, SuperBound, ViewIs, TypeIs}
+use Rattle.jn_sem.specs.Terms.{TermIs, SuperBound, ViewIs, TypeIs}
 use Rattle.jn_sem.specs.Slots.{FieldType, IsSlot, IsSize, this_viewed}
 use Rattle.jn_sem.specs.Acts.{Act, Push, Read, This, Invert, Negate, Operate, Decide, Get, Call, Make, Super, View, Bind, Assign, Put, Choose, Repeat, Return, Print, PrintText, Begin, Open, Todo, todo, acts, stmts_acts, path_behind}
 use Rattle.jn_sem.specs.State.{Stored, Heap, slot_value, with_slot, with_object, IsIn, Variable, Frame, frame_views, site_of, result_site, variable, assigned, is_null_path}
