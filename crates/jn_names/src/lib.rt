@@ -9,6 +9,7 @@ mod before;
 mod bound;
 mod fault;
 mod masks;
+mod numbering;
 mod resolving;
 mod scope;
 mod seek;
@@ -16,5 +17,6 @@ mod term;
 mod types;
 
 pub use fault::NameFault;
-pub use resolving::{resolve, resolve_type, resolve_view};
 pub use jn_base::names::{Resolved, Role, Spot, Var, Vars};
+pub use numbering::mask_names;
+pub use resolving::{resolve, resolve_type, resolve_view};
