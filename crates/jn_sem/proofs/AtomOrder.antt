@@ -3,8 +3,7 @@ use Rattle.std.proofs.Common.{◌≡◌, ℕ, List, [], ◌∷◌, length, map, 
 use Rattle.std.proofs.lemmas.List.{reverse-reverse}
 use Rattle.std.specs.declared.cmp.Ordering.{Ordering}
 use Rattle.std.specs.declared.cmp.Ordering.TheVariants.{Less, Equal, Greater}
-use Rattle.std.specs.Ordering.{ordering_then, ordering_reverse, nat_cmp, on, then_cmp}
-use Rattle.std.specs.Cmp.Lexicographic.{slice_cmp}
+use Rattle.std.specs.Ordering.{ordering_then, ordering_reverse}
 use Rattle.std.specs.List.{AllByRecursion}
 use Rattle.std.specs.List.Sorted.{IsStrictlySortedBy}
 use Rattle.std.proofs.lemmas.Map.Lookups.{exact_bytes}
@@ -13,7 +12,7 @@ use Rattle.jn_base.specs.declared.tree.Name.{Name}
 use Rattle.jn_base.specs.declared.types.Anchor.{Anchor}
 use Rattle.jn_base.specs.declared.types.Anchor.TheVariants.{Root, Up}
 use Rattle.jn_base.specs.Atoms.{Atom, atom, Among, first, later}
-use Rattle.jn_sem.specs.Normal.{anchor_key, name_number, name_numbers, numbers_cmp, anchor_numbers, exact_numbers, names_numbers, atom_cmp, atom_total}
+use Rattle.jn_sem.specs.Normal.{anchor_key, name_number, name_numbers, numbers_cmp, anchor_numbers, atom_cmp, atom_total}
 use Rattle.jn_sem.specs.NormalFunction.{put_by, put, in_order}
 
 -- atoms that compare equal are the same

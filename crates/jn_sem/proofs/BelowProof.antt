@@ -1,5 +1,5 @@
 -- The questions of "below" in base.Add.
-use Rattle.std.proofs.Common.{◌≡◌, ◌++◌, ℕ, List, [], ◌∷◌, zero, suc, length, refl, sym, ap, ◌∙◌, subst, arith, get_or, ◌/◌, ◌%◌, Contains, ◌<◌, ◌≤◌, drop}
+use Rattle.std.proofs.Common.{◌≡◌, ◌++◌, ℕ, [], ◌∷◌, zero, suc, length, refl, sym, ap, ◌∙◌, subst, arith, get_or, ◌/◌, ◌%◌, ◌≤◌}
 use Rattle.std.specs.Int.{bit_at}
 use Rattle.std.proofs.lemmas.Nat.Bits.{bit_at-zero}
 use Rattle.jn_reach.specs.Chain.{Chain, here, step}
@@ -9,20 +9,19 @@ use Rattle.jn_base.specs.declared.tree.Program.{Program}
 use Rattle.jn_base.specs.declared.tree.Member.TheVariants.{outs-Inner}
 use Rattle.jn_base.specs.declared.types.Anchor.{Anchor}
 use Rattle.jn_base.specs.declared.types.Anchor.TheVariants.{Root, Up}
-use Rattle.jn_base.specs.declared.types.Ty.{Ty}
 use Rattle.jn_base.specs.Paths.{Path}
 use Rattle.jn_base.specs.Supers.{Sup, itself}
 use Rattle.jn_base.specs.Universe.{InUniverse}
-use Rattle.jn_base.specs.Atoms.{Atom, atom, atoms_in, Among, first, later, HasMask, no_masks}
-use Rattle.jn_base.specs.Scopes.{Bind, Scope, Binds, this_bind, bound, bound_of}
-use Rattle.jn_base.specs.Fits.{Anchored, AtomsFit, TypeFits, BindsFit, ScopeFits}
-use Rattle.jn_base.specs.FamiliesExample.{families, all_four, base, both, Exp, Lit, Add}
+use Rattle.jn_base.specs.Atoms.{Atom, atom, Among, first, later, HasMask, no_masks}
+use Rattle.jn_base.specs.Scopes.{Bind, Scope, Binds, this_bind, bound}
+use Rattle.jn_base.specs.Fits.{Anchored, AtomsFit, ScopeFits}
+use Rattle.jn_base.specs.FamiliesExample.{families, base, both, Exp, Lit, Add}
 use Rattle.jn_base.proofs.SuperLaws.{sup_namespace}
 use Rattle.jn_base.proofs.ExampleTools.{inner_above}
 use Rattle.jn_base.proofs.FamiliesProof.{lit_supers, both_has}
 use Rattle.jn_sem.specs.Widening.{Widens, loosened, raised, opened, widened}
-use Rattle.jn_sem.specs.Below.{Below, classes, BelowAtoms, ReachedFrom, MasksWithin}
-use Rattle.jn_sem.specs.BelowExample.{in_add, class_of, exact_class_of, class_of_p, lit_of_p, v_masked, lit_without_v, IsBelow}
+use Rattle.jn_sem.specs.Below.{classes, BelowAtoms, MasksWithin}
+use Rattle.jn_sem.specs.BelowExample.{in_add, class_of, exact_class_of, class_of_p, lit_of_p, lit_without_v, IsBelow}
 
 -- masks
 
@@ -82,19 +81,19 @@ both_lit = both_has Lit (0, omega arith, refl)
 to_both_exp : Sup families (Lit ∷ both ∷ []) (Exp ∷ both ∷ [])
 to_both_exp = (lit_supers (Exp ∷ both ∷ [])).1 (record { C = Exp; A = both; is = refl; class = (1, omega arith, refl); package_in = (0, omega arith, refl) })
 
-to_base_lit : Sup families (Lit ∷ both ∷ []) (Lit ∷ base ∷ [])
+pub to_base_lit : Sup families (Lit ∷ both ∷ []) (Lit ∷ base ∷ [])
 to_base_lit = (lit_supers (Lit ∷ base ∷ [])).1 (record { C = Lit; A = base; is = refl; class = (0, omega arith, refl); package_in = (3, omega arith, refl) })
 
 to_base_exp : Sup families (Lit ∷ both ∷ []) (Exp ∷ base ∷ [])
 to_base_exp = (lit_supers (Exp ∷ base ∷ [])).1 (record { C = Exp; A = base; is = refl; class = (1, omega arith, refl); package_in = (3, omega arith, refl) })
 
-base_lit : InUniverse families (Lit ∷ base ∷ [])
+pub base_lit : InUniverse families (Lit ∷ base ∷ [])
 base_lit = sup_namespace to_base_lit both_lit
 
-base_exp : InUniverse families (Exp ∷ base ∷ [])
+pub base_exp : InUniverse families (Exp ∷ base ∷ [])
 base_exp = sup_namespace to_base_exp both_lit
 
-lit_exp : Sup families (Lit ∷ base ∷ []) (Exp ∷ base ∷ [])
+pub lit_exp : Sup families (Lit ∷ base ∷ []) (Exp ∷ base ∷ [])
 lit_exp = inner_above families base base Lit Exp itself (simp outs-Inner) base_exp.1
 
 -- the answers
@@ -143,11 +142,12 @@ unmasked = classes (one_above (atom Root [] (Lit ∷ base ∷ [])) (atom Root []
 
 pub fits : ScopeFits in_add
 fits = record {
-  binds = (
-    ((tt, none_before, record { atoms = λ c. atoms_ok [] (Add ∷ base ∷ []) (omega arith) }),
-      not_this,
-      record { atoms = λ c. atoms_ok (this_bind (Add ∷ base ∷ []) ∷ []) (Exp ∷ base ∷ []) (omega arith) })
-  );
+  binds = ((
+    (tt, none_before, record { atoms = λ c. atoms_ok [] (Add ∷ base ∷ []) (omega arith) }),
+    not_this,
+    record { atoms = λ c. atoms_ok (this_bind (Add ∷ base ∷ []) ∷ []) (Exp ∷ base ∷ []) (omega arith) },
+  )
+      );
   class_of_this = Add ∷ base ∷ [];
   this = later first;
 } where

@@ -1,13 +1,12 @@
 -- The root closure, bind by bind.
-use Rattle.std.proofs.Common.{◌≡◌, ◌↔◌, ◌<◌, ◌++◌, Bool, true, false, cond, nat_lt, nat_eq, eqb-true, ℕ, List, [], ◌∷◌, length, drop, refl, sym, ap, ◌∙◌, subst, arith, ◌⊎◌, inl, inr}
+use Rattle.std.proofs.Common.{◌≡◌, ◌↔◌, ◌<◌, ◌++◌, Bool, true, false, cond, nat_lt, nat_eq, eqb-true, ℕ, List, [], ◌∷◌, length, drop, refl, sym, ap, ◌∙◌, subst, ◌⊎◌, inl, inr}
 use Rattle.std.proofs.lemmas.Bool.{eqb-false}
-use Rattle.jn_base.specs.declared.tree.Name.{Name}
 use Rattle.jn_base.specs.declared.tree.Program.{Program}
 use Rattle.jn_base.specs.declared.types.Anchor.{Anchor}
 use Rattle.jn_base.specs.declared.types.Anchor.TheVariants.{Root, Up}
 use Rattle.jn_base.specs.Universe.{InUniverse}
 use Rattle.jn_base.specs.Atoms.{Atom, atom, atoms_in, Among, first, later}
-use Rattle.jn_base.specs.Scopes.{Bind, Scope, Binds, bound, bound_of}
+use Rattle.jn_base.specs.Scopes.{Bind, Scope, bound, bound_of}
 use Rattle.jn_base.specs.Fits.{Anchored, BindsFit}
 use Rattle.jn_sem.specs.Widening.{reduced, replaced}
 use Rattle.jn_sem.specs.RootClosure.{Opens, closed, through, InClosure}

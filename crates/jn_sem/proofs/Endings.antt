@@ -5,17 +5,15 @@ use Rattle.jn_base.specs.declared.tree.Name.{Name}
 use Rattle.jn_base.specs.declared.tree.Program.{Program}
 use Rattle.jn_base.specs.declared.types.Anchor.{Anchor}
 use Rattle.jn_base.specs.declared.types.Anchor.TheVariants.{Root, Up}
-use Rattle.jn_base.specs.declared.types.Ty.{Ty}
 use Rattle.jn_base.specs.Paths.{Path}
-use Rattle.jn_base.specs.Supers.{Sup, itself}
-use Rattle.jn_base.specs.Universe.{IsNamespace, InUniverse}
-use Rattle.jn_base.specs.Atoms.{Atom, atom, atoms_in, anchor_at, first_at, lifted, Among, first, later}
-use Rattle.jn_base.specs.Scopes.{Bind, Scope, bound_of, bound, Binds}
-use Rattle.jn_base.specs.Fits.{Anchored, AtomsFit, TypeFits, BindsFit}
+use Rattle.jn_base.specs.Supers.{Sup}
+use Rattle.jn_base.specs.Universe.{InUniverse}
+use Rattle.jn_base.specs.Atoms.{Atom, atom, anchor_at}
+use Rattle.jn_base.specs.Scopes.{Scope, bound_of, bound}
 use Rattle.jn_sem.specs.Search.{Climbs, loosens, raises, Spreads, EndsAt, EndsPlainly, level, higher}
 use Rattle.jn_sem.proofs.Searches.{raised_bound, loosened_bound}
 
-anchor_of : (s : Scope) (q k : ℕ) (c d : Name) (B : Path) → anchor_at (bound_of s) (Up q k) ≡ c ∷ d ∷ B → suc k < length (bound_of s q)
+pub anchor_of : (s : Scope) (q k : ℕ) (c d : Name) (B : Path) → anchor_at (bound_of s) (Up q k) ≡ c ∷ d ∷ B → suc k < length (bound_of s q)
 anchor_of s q k c d B e = omega (arith, length-drop k (bound_of s q), ap length e)
 
 path_of : Anchor → ℕ
@@ -81,7 +79,7 @@ loosen {p} {s} (e ∷ front) x y f a l u =
     record { climbed = r.climbed; climbs = step (loosens e (front ++ y.exact) f refl) r.climbs; spreads = r.spreads }
 
 -- a path with more than n + 1 names, at n
-two_more : (n : ℕ) (B : Path) → suc n < length B → (c : Name) × (d : Name) × (D : Path) × (drop n B ≡ c ∷ d ∷ D)
+pub two_more : (n : ℕ) (B : Path) → suc n < length B → (c : Name) × (d : Name) × (D : Path) × (drop n B ≡ c ∷ d ∷ D)
 two_more zero [] l = absurd (omega (arith, l))
 two_more zero (c ∷ []) l = absurd (omega (arith, l))
 two_more zero (c ∷ d ∷ D) l = (c, d, D, refl)

@@ -1,16 +1,12 @@
 -- A rewriting takes off fewer names than the bound has, and keeps the depth of the bound.
 use Rattle.std.proofs.Common.{◌≡◌, ℕ, ◌++◌, ◌+◌, ◌-◌, ◌<◌, length, refl, sym, ap, ◌∙◌, drop, arith, subst, ◌≤◌, List, [], ◌∷◌, length-append, length-drop}
 use Rattle.jn_base.specs.declared.tree.Name.{Name}
-use Rattle.jn_base.specs.declared.tree.Program.{Program}
 use Rattle.jn_base.specs.declared.types.Anchor.{Anchor}
 use Rattle.jn_base.specs.declared.types.Anchor.TheVariants.{Root, Up}
-use Rattle.jn_base.specs.declared.types.Ty.{Ty}
 use Rattle.jn_base.specs.Paths.{Path}
-use Rattle.jn_base.specs.Supers.{Sup, itself}
-use Rattle.jn_base.specs.Universe.{IsNamespace, InUniverse}
-use Rattle.jn_base.specs.Atoms.{Atom, atom, atoms_in, anchor_at, first_at, lifted, Among, first, later}
-use Rattle.jn_base.specs.Scopes.{Bind, Scope, bound_of, bound, Binds}
-use Rattle.jn_base.specs.Fits.{Anchored, AtomsFit, TypeFits, BindsFit}
+use Rattle.jn_base.specs.Atoms.{Atom, atoms_in, anchor_at, lifted, Among, first, later}
+use Rattle.jn_base.specs.Scopes.{Bind, Scope, bound_of, bound}
+use Rattle.jn_base.specs.Fits.{Anchored, BindsFit}
 use Rattle.jn_sem.specs.Widening.{reduced}
 use Rattle.jn_sem.specs.Normal.{rewritten, normal, FirstWithin, found, passed}
 use Rattle.jn_sem.proofs.Under.{bound_depth, fits_whole, type_anchored}
@@ -48,13 +44,24 @@ reduced_depth {s} {b} f m z a k w l x e =
     let rest : Path = anchor_at (bound_of s) (lifted (k - length z.names - length z.exact) z.anchor) in
     let kept : List Name = drop (k - length z.names) z.exact in
     let here : Path = anchor_at (bound_of s) x.anchor in
-    omega (arith, w, l,
-    bound_depth m f z a, length-append z.names (z.exact ++ own), length-append z.exact own,
-    length-append x.names ((x.exact ++ kept) ++ rest), length-append (x.exact ++ kept) rest, length-append x.exact kept,
-    length-drop (k - length z.names) z.exact,
-    ap length (lifted_at (bound_of s) (k - length z.names - length z.exact) z.anchor), length-drop (k - length z.names - length z.exact) own,
-    length-append x.names (x.exact ++ here), length-append x.exact here,
-    ap (λ (c : Anchor). length (anchor_at (bound_of s) c)) e, length-drop k (bound_of s b.path))
+    omega (
+      arith,
+      w,
+      l,
+      bound_depth m f z a,
+      length-append z.names (z.exact ++ own),
+      length-append z.exact own,
+      length-append x.names ((x.exact ++ kept) ++ rest),
+      length-append (x.exact ++ kept) rest,
+      length-append x.exact kept,
+      length-drop (k - length z.names) z.exact,
+      ap length (lifted_at (bound_of s) (k - length z.names - length z.exact) z.anchor),
+      length-drop (k - length z.names - length z.exact) own,
+      length-append x.names (x.exact ++ here),
+      length-append x.exact here,
+      ap (λ (c : Anchor). length (anchor_at (bound_of s) c)) e,
+      length-drop k (bound_of s b.path),
+    )
 
 pub rewritten_depth : {s : Scope} {b : Bind} → BindsFit s → Among s b → (x : Atom) → Anchored s x.anchor → length (bound s (rewritten b x)) ≡ length (bound s x)
 rewritten_depth {s} {b} f m x g = at (rewritten_is b x) where

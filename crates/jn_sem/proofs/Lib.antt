@@ -12,3 +12,9 @@ pub mod BelowProof
 pub mod NormalTypes
 pub mod AtomOrder
 pub mod Closures
+pub mod TypesProof
+pub mod Climbing
+pub mod Turning
+pub mod Growth
+pub mod BelowOrder
+pub mod Codes

@@ -1,5 +1,5 @@
 -- Normal forms of types: they fit, there is one at most, and it is its own.
-use Rattle.std.proofs.Common.{◌≡◌, ◌↔◌, ℕ, List, [], ◌∷◌, length, map, reverse, refl, sym, ap, ◌∙◌, subst, arith, ◌≤◌, ◌⊎◌, inl, inr}
+use Rattle.std.proofs.Common.{◌≡◌, ◌↔◌, ℕ, List, [], ◌∷◌, length, map, reverse, refl, sym, ap, ◌∙◌, subst, ◌≤◌, ◌⊎◌, inl, inr}
 use Rattle.std.proofs.lemmas.List.{reverse-reverse}
 use Rattle.std.specs.declared.cmp.Ordering.{Ordering}
 use Rattle.std.specs.declared.cmp.Ordering.TheVariants.{Less, Equal, Greater}
@@ -18,9 +18,9 @@ use Rattle.jn_base.specs.declared.types.Ty.TheVariants as ty
 use Rattle.jn_base.specs.Atoms.{Atom, atom, atom_of, shown_atom, atoms_in, Among, first, later}
 use Rattle.jn_base.specs.Scopes.{Bind, Scope, bound}
 use Rattle.jn_base.specs.Fits.{Anchored, IsClass, AtomsFit, TypeFits, BindsFit}
-use Rattle.jn_sem.specs.Normal.{normal, rewritten, moved_anchor, moved, same_path, atom_cmp, atom_total, IsSubst, TypeSubst, NormalType, MovedFits, EndsWith}
+use Rattle.jn_sem.specs.Normal.{normal, rewritten, moved_anchor, moved, same_path, atom_total, IsSubst, TypeSubst, NormalType, MovedFits, EndsWith}
 use Rattle.jn_sem.proofs.Normals.{Turns, turned, left, rewritten_is, normal_ends}
-use Rattle.jn_sem.specs.NormalFunction.{in_order, moved_normal, subst_atoms, subst_type}
+use Rattle.jn_sem.specs.NormalFunction.{moved_normal, subst_atoms, subst_type}
 use Rattle.jn_sem.proofs.AtomOrder.{order_sorted, order_each, order_only}
 use Rattle.jn_sem.proofs.Levels.{normal_anchored, normal_depth}
 

@@ -3,17 +3,11 @@ use Rattle.std.proofs.Common.{Bool, ◌≡◌, ℕ, List, [], ◌∷◌, ◌-◌
 use Rattle.std.proofs.lemmas.Bool.{eqb-false}
 use Rattle.jn_reach.specs.Chain.{Chain, here, step}
 use Rattle.jn_reach.proofs.Chains.{Chain-joined, Chain-map}
-use Rattle.jn_base.specs.declared.tree.Name.{Name}
-use Rattle.jn_base.specs.declared.tree.Program.{Program}
 use Rattle.jn_base.specs.declared.types.Anchor.{Anchor}
 use Rattle.jn_base.specs.declared.types.Anchor.TheVariants.{Root, Up}
-use Rattle.jn_base.specs.declared.types.Ty.{Ty}
-use Rattle.jn_base.specs.Paths.{Path}
-use Rattle.jn_base.specs.Supers.{Sup, itself}
-use Rattle.jn_base.specs.Universe.{IsNamespace, InUniverse}
-use Rattle.jn_base.specs.Atoms.{Atom, atom, atoms_in, anchor_at, first_at, lifted, Among, first, later}
-use Rattle.jn_base.specs.Scopes.{Bind, Scope, bound_of, bound, Binds}
-use Rattle.jn_base.specs.Fits.{Anchored, AtomsFit, TypeFits, BindsFit}
+use Rattle.jn_base.specs.Atoms.{Atom, atoms_in, lifted, Among, first, later}
+use Rattle.jn_base.specs.Scopes.{Bind, Scope, Binds}
+use Rattle.jn_base.specs.Fits.{Anchored, BindsFit}
 use Rattle.jn_sem.specs.Widening.{reduced}
 use Rattle.jn_sem.specs.Normal.{by_first, rewritten_at, rewritten, normal, FirstWithin, found, passed, Rewrites, EndsWith}
 use Rattle.jn_sem.proofs.Under.{fits_whole, type_anchored}

@@ -5,14 +5,12 @@ use Rattle.jn_reach.proofs.Chains.{Chain-joined, Chain-map}
 use Rattle.jn_base.specs.declared.tree.Name.{Name}
 use Rattle.jn_base.specs.declared.tree.Program.{Program}
 use Rattle.jn_base.specs.declared.types.Anchor.{Anchor}
-use Rattle.jn_base.specs.declared.types.Anchor.TheVariants.{Root, Up}
-use Rattle.jn_base.specs.declared.types.Ty.{Ty}
+use Rattle.jn_base.specs.declared.types.Anchor.TheVariants.{Up}
 use Rattle.jn_base.specs.Paths.{Path}
 use Rattle.jn_base.specs.Supers.{Sup, itself}
-use Rattle.jn_base.specs.Universe.{IsNamespace, InUniverse}
-use Rattle.jn_base.specs.Atoms.{Atom, atom, atoms_in, anchor_at, first_at, lifted, Among, first, later}
-use Rattle.jn_base.specs.Scopes.{Bind, Scope, bound_of, bound, Binds}
-use Rattle.jn_base.specs.Fits.{Anchored, AtomsFit, TypeFits, BindsFit}
+use Rattle.jn_base.specs.Universe.{InUniverse}
+use Rattle.jn_base.specs.Atoms.{Atom, atom, anchor_at}
+use Rattle.jn_base.specs.Scopes.{Scope, bound_of, bound}
 use Rattle.jn_sem.specs.Widening.{Widens, loosened, raised, opened, widened}
 use Rattle.jn_sem.specs.Search.{Climbs, loosens, raises, Spreads, Enters, Found, ends, enters, EndsAt, TurnsTo}
 use Rattle.jn_base.proofs.SuperLaws.{sup_level, sup_joined}

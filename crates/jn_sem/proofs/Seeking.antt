@@ -6,13 +6,11 @@ use Rattle.jn_base.specs.declared.tree.Name.{Name}
 use Rattle.jn_base.specs.declared.tree.Program.{Program}
 use Rattle.jn_base.specs.declared.types.Anchor.{Anchor}
 use Rattle.jn_base.specs.declared.types.Anchor.TheVariants.{Root, Up}
-use Rattle.jn_base.specs.declared.types.Ty.{Ty}
 use Rattle.jn_base.specs.Paths.{Path}
-use Rattle.jn_base.specs.Supers.{Sup, itself}
-use Rattle.jn_base.specs.Universe.{IsNamespace, InUniverse}
-use Rattle.jn_base.specs.Atoms.{Atom, atom, atoms_in, anchor_at, first_at, lifted, Among, first, later}
+use Rattle.jn_base.specs.Universe.{InUniverse}
+use Rattle.jn_base.specs.Atoms.{Atom, atom, atoms_in, anchor_at, lifted, Among, first, later}
 use Rattle.jn_base.specs.Scopes.{Bind, Scope, bound_of, bound, Binds}
-use Rattle.jn_base.specs.Fits.{Anchored, AtomsFit, TypeFits, BindsFit}
+use Rattle.jn_base.specs.Fits.{Anchored, BindsFit}
 use Rattle.jn_sem.specs.Widening.{reduced, replaced, Widens}
 use Rattle.jn_sem.specs.Search.{Climbs, loosens, raises, Spreads, Enters, Found, ends, enters, Next, loosens_next, raises_next, Seeks, at_once, by_type, by_next, rank_of, rank}
 use Rattle.jn_sem.proofs.Widenings.{append_back}

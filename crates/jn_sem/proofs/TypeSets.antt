@@ -1,21 +1,20 @@
 -- Widening and substitution of whole types, for classes and for values.
-use Rattle.std.proofs.Common.{◌≡◌, ◌↔◌, ◌++◌, ℕ, List, refl, sym, ap, ◌∙◌, subst}
+use Rattle.std.proofs.Common.{◌≡◌, ◌↔◌, ◌++◌, ℕ, List, sym, ap, ◌∙◌, subst}
 use Rattle.jn_base.specs.declared.tree.Name.{Name}
 use Rattle.jn_base.specs.declared.tree.Program.{Program}
-use Rattle.jn_base.specs.declared.types.Anchor.{Anchor}
-use Rattle.jn_base.specs.declared.types.Anchor.TheVariants.{Root, Up}
+use Rattle.jn_base.specs.declared.types.Anchor.TheVariants.{Root}
 use Rattle.jn_base.specs.declared.types.Masks.{Masks}
 use Rattle.jn_base.specs.declared.types.Ty.{Ty}
 use Rattle.jn_base.specs.declared.types.Ty.TheVariants as ty
 use Rattle.jn_base.specs.Paths.{Path}
-use Rattle.jn_base.specs.Atoms.{Atom, atoms_in, Among}
+use Rattle.jn_base.specs.Atoms.{Atom, atoms_in}
 use Rattle.jn_base.specs.Scopes.{Scope}
 use Rattle.jn_base.specs.Fits.{IsClass, BindsFit}
 use Rattle.jn_sem.specs.Sets.{Views, AnchorSeen, no_views, eval, Inside, InAtom, InType, Respects}
-use Rattle.jn_sem.specs.Values.{Value, Null, ValueIn, number, truth, null, no_object, object, FieldsFilled, Masked}
+use Rattle.jn_sem.specs.Values.{Value, ValueIn, number, truth, null, no_object, object, FieldsFilled, Masked}
 use Rattle.jn_sem.specs.Below.{Below, ints, booleans, nulls, classes, MasksWithin}
-use Rattle.jn_sem.specs.RootClosure.{Opens, closed, through, InClosure, InRootClosure}
-use Rattle.jn_sem.specs.Normal.{after, same_path, TypeSubst, NormalType}
+use Rattle.jn_sem.specs.RootClosure.{Opens, closed, through, InRootClosure}
+use Rattle.jn_sem.specs.Normal.{after, TypeSubst}
 use Rattle.jn_sem.specs.LawsOfTypes.{TypeSeen}
 use Rattle.jn_sem.proofs.Widenings.{below_in, closure_in}
 use Rattle.jn_sem.proofs.Substitutions.{subst_in}

@@ -89,7 +89,7 @@ scope_induct s P f h q b = subst P b.is (go P s b.bind b.among f h)
 bound_older : {s : Scope} {c : Bind} → BindsFit (c ∷ s) → (r : ℕ) → Binds s r → bound_of (c ∷ s) r ≡ bound_of s r
 bound_older {s} {c} f r b = ap (λ t. cond t (first_at (bound_of s) (atoms_in c.ty)) (bound_of s r)) (ne_eqb r c.path (λ e. f.1 (subst (Binds s) e b)))
 
-anchor_older : {s : Scope} {c : Bind} → BindsFit (c ∷ s) → (a : Anchor) → Anchored s a → anchor_at (bound_of (c ∷ s)) a ≡ anchor_at (bound_of s) a
+pub anchor_older : {s : Scope} {c : Bind} → BindsFit (c ∷ s) → (a : Anchor) → Anchored s a → anchor_at (bound_of (c ∷ s)) a ≡ anchor_at (bound_of s) a
 anchor_older f Root a = refl
 anchor_older f (Up r k) a = ap (drop k) (bound_older f r a.0)
 

@@ -10,7 +10,7 @@ use Rattle.jn_base.specs.declared.types.Anchor.TheVariants.{Root, Up}
 use Rattle.jn_base.specs.Paths.{Path, Declared, StandsIn}
 use Rattle.jn_base.specs.Supers.{Direct, inherited, written, Sup, itself, above}
 use Rattle.jn_base.specs.Universe.{IsNamespace, InUniverse}
-use Rattle.jn_base.specs.Atoms.{Atom, atom, atoms_in, anchor_at, lifted, Among}
+use Rattle.jn_base.specs.Atoms.{Atom, atom, anchor_at, lifted}
 use Rattle.jn_base.specs.Scopes.{Scope, bound_of, bound}
 use Rattle.jn_base.specs.Fits.{BindsFit}
 use Rattle.jn_base.proofs.SuperLaws.{sup_joined, sup_prefix, sup_namespace, heirs_base, heirs_above, member_heir}
@@ -49,7 +49,7 @@ view_namespace : {p : Program} {v : Views} {s : Scope} → Respects p v s → (q
 view_namespace {p} {v} r q seen = universe_namespace p (view_at v q) (r.universe q seen)
 
 -- a namespace that has something declared in it, and one that has a direct super, is in the universe
-declared_namespace : (p : Program) (P : Path) (d : Decl) → StandsIn p P d → IsNamespace p P
+pub declared_namespace : (p : Program) (P : Path) (d : Decl) → StandsIn p P d → IsNamespace p P
 declared_namespace p [] d h = tt
 declared_namespace p (C ∷ P) d h = (declared_namespace p P h.0 h.1, record { at = P; super = itself; declared = record { decl = h.0; stands = (h.1, h.2) } })
 

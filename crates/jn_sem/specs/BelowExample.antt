@@ -1,7 +1,6 @@
 -- Questions of "below" in the class base.Add of the families base, shower, doubler and both, where p is `final base.Exp`.
-use Rattle.std.specs.Prelude.{ℕ, List, [], ◌∷◌}
+use Rattle.std.specs.Prelude.{[], ◌∷◌}
 use Rattle.jn_base.specs.declared.tree.Name.{Name}
-use Rattle.jn_base.specs.declared.types.Anchor.{Anchor}
 use Rattle.jn_base.specs.declared.types.Anchor.TheVariants.{Root, Up}
 use Rattle.jn_base.specs.declared.types.Masks.{Masks}
 use Rattle.jn_base.specs.declared.types.Ty.{Ty}

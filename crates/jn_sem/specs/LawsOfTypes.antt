@@ -1,14 +1,15 @@
 -- The laws of types: widening, the root closure, substitution and the normal form, in every state that respects a scope.
-use Rattle.std.specs.Prelude.{◌≡◌, ◌∷◌, ◌↔◌, ◌<◌, ℕ, List, Bool, IsTrue, drop, suc}
+use Rattle.std.specs.Prelude.{◌≡◌, ◌∷◌, ◌↔◌, ◌⊎◌, ◌<◌, ℕ, List, Bool, IsTrue, drop, suc}
 use Rattle.jn_reach.specs.Chain.{Chain}
 use Rattle.jn_base.specs.declared.tree.Name.{Name}
 use Rattle.jn_base.specs.declared.tree.Program.{Program}
 use Rattle.jn_base.specs.declared.types.Ty.{Ty}
+use Rattle.jn_base.specs.declared.types.Ty.TheVariants as ty
 use Rattle.jn_base.specs.Paths.{Path}
 use Rattle.jn_base.specs.Supers.{Sup}
 use Rattle.jn_base.specs.Atoms.{Atom, atoms_in, Among}
-use Rattle.jn_base.specs.Scopes.{Scope, bound_of}
-use Rattle.jn_base.specs.Fits.{TypeFits, BindsFit}
+use Rattle.jn_base.specs.Scopes.{Bind, Scope, bound_of, bound}
+use Rattle.jn_base.specs.Fits.{Anchored, IsClass, TypeFits, BindsFit}
 use Rattle.jn_sem.specs.Sets.{Views, Seen, AnchorSeen, view_at, InAtom, InType, Respects}
 use Rattle.jn_sem.specs.Values.{Value, ValueIn}
 use Rattle.jn_sem.specs.Widening.{Widens}
@@ -16,7 +17,7 @@ use Rattle.jn_sem.specs.Below.{Below}
 use Rattle.jn_sem.specs.RootClosure.{InClosure, InRootClosure}
 use Rattle.jn_sem.specs.Normal.{normal, moved, after, TypeSubst, NormalType, MovedFits, EndsWith}
 use Rattle.jn_sem.specs.NormalFunction.{subst_type}
-use Rattle.jn_sem.specs.Search.{Found, Seeks, Enters, EndsAt, EndsPlainly, rank}
+use Rattle.jn_sem.specs.Search.{Found, Seeks, Enters, EndsAt, EndsPlainly, TurnsTo, IsTurn, rank}
 
 -- the slots that a test says to have values
 abbrev pub Passes : (ℕ → Path → Name → Bool) → ℕ → Path → Name → Type 0
@@ -71,11 +72,37 @@ pub record NormalTypesOf (s : Scope) : Type 0 where
 abbrev pub NormalTypes : Type 0
 NormalTypes = (s : Scope) → NormalTypesOf s
 
+-- "Below" is reflexive and transitive.
+pub record BelowOrderOf (p : Program) (s : Scope) : Type 0 where
+  pub ints : Below p s ty.Int ty.Int
+  pub booleans : Below p s ty.Bool ty.Bool
+  pub classes : (t : Ty) → IsClass t → Below p s t t
+  pub joined : (t u w : Ty) → Below p s t u → Below p s u w → Below p s t w
+
+abbrev pub BelowOrder : Type 0
+BelowOrder = (p : Program) (s : Scope) → BelowOrderOf p s
+
+-- What is said of a type that fits a scope stays so where a bind is added: its bounds, that it fits, its normal forms, what
+-- it is below, and its root closure.
+pub record GrowthOf (p : Program) (s : Scope) (b : Bind) : Type 0 where
+  pub bounds : (x : Atom) → Anchored s x.anchor → bound (b ∷ s) x ≡ bound s x
+  pub fits : (t : Ty) → TypeFits s t → TypeFits (b ∷ s) t
+  pub normals : (x : Atom) → Anchored s x.anchor → normal (b ∷ s) x ≡ normal s x
+  pub below : (t u : Ty) → TypeFits s t → Below p s t u ↔ Below p (b ∷ s) t u
+  pub closure : (t : Ty) (z : Atom) → TypeFits s t → InClosure p s (atoms_in t) z ↔ InClosure p (b ∷ s) (atoms_in t) z
+
+abbrev pub Growth : Type 0
+Growth = (p : Program) (s : Scope) (b : Bind) → BindsFit (b ∷ s) → GrowthOf p s b
+
 -- A chain of widening is what one turn of the search asks, and a turn by the type of a path goes to an older path.
 pub record SearchOf (p : Program) (s : Scope) : Type 0 where
   pub turn : (x y : Atom) → Chain (Widens p s) x y ↔ Seeks p s x y
   pub found : (x y : Atom) → Chain (Widens p s) x y ↔ Found p s x y
   pub ends : (x y : Atom) → EndsAt p s x y ↔ EndsPlainly p s x y
+  pub turns : (x t : Atom) → TurnsTo p s x t ↔ IsTurn p s x t
+  -- so a chain ends at once, or goes on from a turn
+  pub decided : (x y : Atom) → Chain (Widens p s) x y ↔ (EndsPlainly p s x y ⊎ ((t : Atom) × IsTurn p s x t × Chain (Widens p s) t y))
+  pub turns_older : BindsFit s → (x t : Atom) → IsTurn p s x t → rank s t.anchor < rank s x.anchor
   pub older : BindsFit s → (x y : Atom) → Enters p s x y → rank s y.anchor < rank s x.anchor
 
 abbrev pub Searching : Type 0

@@ -8,3 +8,4 @@ pub mod Search
 pub mod LawsOfTypes
 pub mod BelowExample
 pub mod NormalFunction
+pub mod TypesExample

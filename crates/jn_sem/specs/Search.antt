@@ -1,7 +1,7 @@
 -- How chains of widening steps go: first steps of kinds 1 and 2, then one of kind 4 or none, then one of kind 3, and again.
 --
 -- These are no rules of the language. They are the forms by whose induction "below" is decided, proved equal to its chains.
-use Rattle.std.specs.Prelude.{◌≡◌, ◌<◌, ◌+◌, ℕ, List, [], ◌∷◌, ◌++◌, suc, length, cond, nat_eq}
+use Rattle.std.specs.Prelude.{◌≡◌, ◌<◌, ◌≤◌, ◌+◌, ◌-◌, ℕ, List, [], ◌∷◌, ◌++◌, suc, length, take, drop, cond, nat_eq}
 use Rattle.jn_reach.specs.Chain.{Chain}
 use Rattle.jn_base.specs.declared.tree.Name.{Name}
 use Rattle.jn_base.specs.declared.tree.Program.{Program}
@@ -10,7 +10,7 @@ use Rattle.jn_base.specs.declared.types.Anchor.TheVariants.{Root, Up}
 use Rattle.jn_base.specs.Paths.{Path}
 use Rattle.jn_base.specs.Supers.{Sup}
 use Rattle.jn_base.specs.Universe.{InUniverse}
-use Rattle.jn_base.specs.Atoms.{Atom, atom, atoms_in, anchor_at, Among}
+use Rattle.jn_base.specs.Atoms.{Atom, atom, atoms_in, anchor_at, lifted, Among}
 use Rattle.jn_base.specs.Scopes.{Bind, Scope, bound_of, bound}
 use Rattle.jn_sem.specs.Widening.{replaced, Widens}
 
@@ -62,6 +62,27 @@ abbrev pub rank : Scope → Anchor → ℕ
 rank s Root = 0
 rank s (Up q k) = rank_of s q
 
+-- The atom after i names have been moved, from the innermost exact one outwards and on into the anchor's bound: they become
+-- inexact, and are taken off the exact names and then off the anchor.
+abbrev pub climbed : Scope → Atom → ℕ → Atom
+climbed s x i =
+    atom (lifted (i - length x.exact) x.anchor) (drop i x.exact) (x.names ++ take i (x.exact ++ anchor_at (bound_of s) x.anchor))
+
+-- i names can be moved: as many as are exact, and in the universe all but the outermost of the path's bound
+pub data CanClimb (p : Program) (s : Scope) (x : Atom) (i : ℕ) : Type 0 where
+  in_exact : i ≤ length x.exact → CanClimb p s x i
+  in_bound : (q k : ℕ) → x.anchor ≡ Up q k → k + (i - length x.exact) < length (bound_of s q) → InUniverse p (bound s x) → CanClimb p s x i
+
+-- the atom with the inexact names of this path
+abbrev pub spread : Atom → Path → Atom
+spread z R = atom z.anchor z.exact (take (length z.names) R)
+
+-- z is reached by steps of kinds 1 and 2
+pub record IsClimbed (p : Program) (s : Scope) (x z : Atom) : Type 0 where
+  pub moved_names : ℕ
+  pub can : CanClimb p s x moved_names
+  pub is : z ≡ climbed s x moved_names
+
 -- y is reached without an atom of a path's type
 pub record EndsAt (p : Program) (s : Scope) (x y : Atom) : Type 0 where
   pub climbed : Atom
@@ -75,6 +96,23 @@ pub record TurnsTo (p : Program) (s : Scope) (x t : Atom) : Type 0 where
   pub climbs : Chain (Climbs p s) x climbed
   pub spreads : Spreads p s climbed spread
   pub enters : Enters p s spread t
+
+-- TurnsTo without its steps: i names are moved, the inexact names become those of a super of x's bound that has the same
+-- outer names, and an atom of the path's type stands for the path.
+pub record IsTurn (p : Program) (s : Scope) (x t : Atom) : Type 0 where
+  pub moved_names : ℕ
+  pub can : CanClimb p s x moved_names
+  pub above : Path
+  pub super : Sup p (bound s x) above
+  pub outer : drop (length (climbed s x moved_names).names) above ≡ drop (length (climbed s x moved_names).names) (bound s x)
+  pub bind : Bind
+  pub levels : ℕ
+  pub by : Atom
+  pub bound_in : Among s bind
+  pub anchor : (climbed s x moved_names).anchor ≡ Up bind.path levels
+  pub among : Among (atoms_in bind.ty) by
+  pub is : t ≡ replaced by levels (spread (climbed s x moved_names) above)
+  pub universe : InUniverse p (bound s t)
 
 -- EndsAt without its steps: at the same anchor some exact names have become inexact, or at a higher one all have
 pub data EndsPlainly (p : Program) (s : Scope) (x y : Atom) : Type 0 where

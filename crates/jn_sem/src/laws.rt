@@ -1,4 +1,4 @@
-ghost use Rattle.jn_sem.specs.LawsOfTypes.{NormalForm, NormalTypes, Searching, Substitution, Widening};
+ghost use Rattle.jn_sem.specs.LawsOfTypes.{BelowOrder, Growth, NormalForm, NormalTypes, Searching, Substitution, Widening};
 
 /// Each step of widening goes from a set of classes to one that holds it, and so do "below" and the root closure.
 pub fn widening()
@@ -21,6 +21,16 @@ pub fn normal_types()
     ensures { NormalTypes }
 {}
 
+/// "Below" is reflexive and transitive.
+pub fn below_order()
+    ensures { BelowOrder }
+{}
+
+/// Bounds, normal forms, "below" and root closures in a scope stay where a bind is added.
+pub fn growth()
+    ensures { Growth }
+{}
+
 /// A chain of widening steps is what one turn of the search asks, and the search goes to older paths.
 pub fn searching()
     ensures { Searching }
@@ -36,6 +46,8 @@ mod tests {
         substitution();
         normal_form();
         normal_types();
+        below_order();
+        growth();
         searching();
     }
 }
