@@ -6,3 +6,5 @@ pub mod Answering
 pub mod Depths
 pub mod Gives
 pub mod MaskProof
+pub mod TypeProof
+pub mod Notings

@@ -5,3 +5,4 @@ pub mod Before
 pub mod Scoped
 pub mod Roles
 pub mod Masking
+pub mod Noting

@@ -9,9 +9,14 @@ mod before;
 mod bound;
 mod fault;
 mod masks;
+mod numbering;
+mod resolving;
 mod scope;
 mod seek;
 mod term;
+mod types;
 
 pub use fault::NameFault;
 pub use jn_base::names::{Resolved, Role, Spot, Var, Vars};
+pub use numbering::mask_names;
+pub use resolving::{resolve, resolve_type, resolve_view};
