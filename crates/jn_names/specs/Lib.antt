@@ -6,3 +6,5 @@ pub mod Scoped
 pub mod Roles
 pub mod Masking
 pub mod Noting
+pub mod MemberRows
+pub mod Members

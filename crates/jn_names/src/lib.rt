@@ -9,6 +9,7 @@ mod before;
 mod bound;
 mod fault;
 mod masks;
+mod members;
 mod numbering;
 mod resolving;
 mod scope;
@@ -18,5 +19,6 @@ mod types;
 
 pub use fault::NameFault;
 pub use jn_base::names::{Resolved, Role, Spot, Var, Vars};
+pub use members::{Least, Members};
 pub use numbering::mask_names;
 pub use resolving::{resolve, resolve_type, resolve_view};
