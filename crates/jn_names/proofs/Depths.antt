@@ -57,5 +57,5 @@ class_deep spot vars f =
     let a = g.fits.atoms tt in
     let e = a.depth (atom_of (shown_atom (this_atom Q))) first in
     let long : length (bound g.scope (atom_of (shown_atom (this_atom Q)))) ≡ length Q =
-        simp (length-append, length-reverse) (omega arith) in
+    simp (length-append, length-reverse) (omega arith) in
     omega (arith, e, a.shallow, long)

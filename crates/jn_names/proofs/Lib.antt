@@ -7,3 +7,4 @@ pub mod Depths
 pub mod Gives
 pub mod MaskProof
 pub mod TypeProof
+pub mod Notings

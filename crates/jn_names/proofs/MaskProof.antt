@@ -60,7 +60,7 @@ pub unfit_here : (p : Program) (bounds : List Path) (ms : List Named) (i : ℕ) 
     → (MaskFits p bounds (seen_of (take i ms)) m → ⊥) → FirstUnfit p bounds [] ms (Some m)
 unfit_here p bounds ms i m l e k n =
     k (Some m) (subst (λ (xs : List Named). FirstUnfit p bounds (seen_of (take i ms)) xs (Some m))
-        (sym (at_place ms i m l ∙ ap (λ (x : Named). x ∷ drop (i + 1) ms) (sym e))) (inr (n, refl)))
+    (sym (at_place ms i m l ∙ ap (λ (x : Named). x ∷ drop (i + 1) ms) (sym e))) (inr (n, refl)))
 
 pub fits_here : (p : Program) (bounds : List Path) (ms : List Named) (i : ℕ) (m : Named) (o : Option Named) → i < length ms → m ≡ get_or ms i m
     → (FirstUnfit p bounds (seen_of (take i ms)) (drop i ms) o → FirstUnfit p bounds [] ms o)
@@ -68,8 +68,8 @@ pub fits_here : (p : Program) (bounds : List Path) (ms : List Named) (i : ℕ) (
     → FirstUnfit p bounds (seen_of (take (i + 1) ms)) (drop (i + 1) ms) o → FirstUnfit p bounds [] ms o
 fits_here p bounds ms i m o l e k f h =
     k (subst (λ (xs : List Named). FirstUnfit p bounds (seen_of (take i ms)) xs o)
-        (sym (at_place ms i m l ∙ ap (λ (x : Named). x ∷ drop (i + 1) ms) (sym e)))
-        (inl (f, subst (λ (seen : List Name). FirstUnfit p bounds seen (drop (i + 1) ms) o) (seen_more ms i m (slice_get_read ms (length ms) i m refl l e)) h)))
+    (sym (at_place ms i m l ∙ ap (λ (x : Named). x ∷ drop (i + 1) ms) (sym e)))
+    (inl (f, subst (λ (seen : List Name). FirstUnfit p bounds seen (drop (i + 1) ms) o) (seen_more ms i m (slice_get_read ms (length ms) i m refl l e)) h)))
 
 pub all_fit : (p : Program) (bounds : List Path) (ms : List Named) (i : ℕ) → length ms ≤ i
     → ((o : Option Named) → FirstUnfit p bounds (seen_of (take i ms)) (drop i ms) o → FirstUnfit p bounds [] ms o)
@@ -92,14 +92,17 @@ pub word_set : (names : List Name) (ms : List Named) (from b w : ℕ) → b < 64
 word_set names ms from b w l h m = record { bits = each; rest = above } where
   other : (i : ℕ) → (i ≡ b → ⊥) → bit_at (bit_or w (1 * 2 ^ b % 2 ^ 64)) i ≡ bit_at w i
   other i n = bit_at_set_other w64 w b l i n
+
   here : bit_at (bit_or w (1 * 2 ^ b % 2 ^ 64)) b ≡ 1
   here = bit_at_set_same w64 w b l
+
   each : (i : ℕ) → i < b + 1 → (bit_at (bit_or w (1 * 2 ^ b % 2 ^ 64)) i ≡ 1) ↔ IsMask names ms (from + i)
   each i k = by_place (cases_lt i b) where
     by_place : (i < b) ⊎ (b ≤ i) → (bit_at (bit_or w (1 * 2 ^ b % 2 ^ 64)) i ≡ 1) ↔ IsMask names ms (from + i)
     by_place (inl j) = let e = other i (λ x. omega (arith, x, j)) in (λ x. (h.bits i j).0 (sym e ∙ x), λ x. e ∙ (h.bits i j).1 x)
     by_place (inr j) = let e : b ≡ i = omega arith in
         subst (λ (n : ℕ). (bit_at (bit_or w (1 * 2 ^ b % 2 ^ 64)) n ≡ 1) ↔ IsMask names ms (from + n)) e (λ x. m, λ x. here)
+
   above : (i : ℕ) → b + 1 ≤ i → bit_at (bit_or w (1 * 2 ^ b % 2 ^ 64)) i ≡ 0
   above i k = other i (λ x. omega (arith, x, k)) ∙ h.rest i (omega arith)
 
@@ -132,6 +135,7 @@ module _ (names : List Name) (ms : List Named) where
     wide (suc (suc zero)) e h = lc
     wide (suc (suc (suc zero))) e h = ld
     wide (suc (suc (suc (suc k)))) e h = absurd (omega arith)
+
     each : (i w : ℕ) → i / 64 ≡ w → i < 256 → (bit_at (get_or (a ∷ b ∷ c ∷ d ∷ []) (i / 64) 0) (i % 64) ≡ 1) ↔ IsMask names ms i
     each i zero e h = subst (λ (n : ℕ). (bit_at (get_or (a ∷ b ∷ c ∷ d ∷ []) n 0) (i % 64) ≡ 1) ↔ IsMask names ms i) (sym e) (in_word 0 a i wa (omega (arith, e)))
     each i (suc zero) e h = subst (λ (n : ℕ). (bit_at (get_or (a ∷ b ∷ c ∷ d ∷ []) n 0) (i % 64) ≡ 1) ↔ IsMask names ms i) (sym e) (in_word 64 b i wb (omega (arith, e)))

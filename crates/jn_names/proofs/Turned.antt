@@ -23,9 +23,9 @@ pub kept : {A : Type 0} (xs : List A) (n k : ℕ) → n + k ≡ length xs → re
 kept {A} xs n k e =
     let back : k ≡ length (reverse (drop n xs)) = sym (length-reverse (drop n xs) ∙ (length-drop n xs ∙ omega arith)) in
     let whole : reverse xs ≡ reverse (drop n xs) ++ reverse (take n xs) =
-        ap reverse (sym (take-append-drop n xs)) ∙ reverse-append (take n xs) (drop n xs) in
+    ap reverse (sym (take-append-drop n xs)) ∙ reverse-append (take n xs) (drop n xs) in
     sym (ap (λ (m : ℕ). drop m (reverse xs)) back
-        ∙ (ap (drop (length (reverse (drop n xs)))) whole ∙ drop-append_seam (reverse (drop n xs)) (reverse (take n xs))))
+    ∙ (ap (drop (length (reverse (drop n xs)))) whole ∙ drop-append_seam (reverse (drop n xs)) (reverse (take n xs))))
 
 -- for every k: where there are no more than k, none is left
 pub kept_any : {A : Type 0} (xs : List A) (k : ℕ) → reverse (take (length xs - k) xs) ≡ drop k (reverse xs)

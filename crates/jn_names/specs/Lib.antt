@@ -5,3 +5,6 @@ pub mod Before
 pub mod Scoped
 pub mod Roles
 pub mod Masking
+pub mod Noting
+pub mod MemberRows
+pub mod Members

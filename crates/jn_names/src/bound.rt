@@ -157,7 +157,7 @@ fn is_class(kind: Kind) -> bool
 }
 
 /// Whether the name is in the list.
-fn has(names: &[Name], name: Name) -> bool
+pub fn has(names: &[Name], name: Name) -> bool
     ensures { IsTrue result ↔ Contains names.now name }
 {
     for other in names {

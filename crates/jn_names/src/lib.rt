@@ -9,6 +9,8 @@ mod before;
 mod bound;
 mod fault;
 mod masks;
+mod members;
+mod numbering;
 mod resolving;
 mod scope;
 mod seek;
@@ -16,5 +18,7 @@ mod term;
 mod types;
 
 pub use fault::NameFault;
-pub use resolving::{resolve, resolve_type, resolve_view};
 pub use jn_base::names::{Resolved, Role, Spot, Var, Vars};
+pub use members::{Least, Members};
+pub use numbering::mask_names;
+pub use resolving::{resolve, resolve_type, resolve_view};

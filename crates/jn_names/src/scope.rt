@@ -50,12 +50,7 @@ pub fn path_bound(
 
 /// The bound of a type's first atom.
 #[cycle(bounds)]
-fn first_bound(
-    alloc: Global,
-    class: &Bound,
-    vars: &[Var],
-    ty: &Ty,
-) -> Result<Bound, AllocError>
+fn first_bound(alloc: Global, class: &Bound, vars: &[Var], ty: &Ty) -> Result<Bound, AllocError>
     ensures { IfOk result (λ b. b ≡ first_at (bound_of (scope_from class.now vars.now)) (atoms_in ty.now)) }
 {
     match ty {
@@ -72,12 +67,7 @@ fn first_bound(
 
 /// The bound of an atom.
 #[cycle(bounds)]
-pub fn atom_bound(
-    alloc: Global,
-    class: &Bound,
-    vars: &[Var],
-    x: &Atom,
-) -> Result<Bound, AllocError>
+pub fn atom_bound(alloc: Global, class: &Bound, vars: &[Var], x: &Atom) -> Result<Bound, AllocError>
     ensures { IfOk result (λ b. b ≡ atom_at (bound_of (scope_from class.now vars.now)) (atom_of x.now)) }
 {
     let mut b = anchor_bound(alloc, class, vars, x.anchor)?;

@@ -74,12 +74,7 @@ fn found_behind(
 }
 
 /// Where names are found in the class.
-pub fn sought(
-    alloc: Global,
-    t: &Table,
-    class: &Bound,
-    names: &[Name],
-) -> Result<Found, AllocError>
+pub fn sought(alloc: Global, t: &Table, class: &Bound, names: &[Name]) -> Result<Found, AllocError>
     ensures { IfOk result (λ f. (p : Program) → IsFilled p t.now → Sought p class.now names.now (told f)) }
 {
     match names.split_first() {

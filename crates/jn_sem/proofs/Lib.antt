@@ -1,3 +1,19 @@
+pub mod Sure
+pub mod Asking
+pub mod SureActs
+pub mod SureCharges
+pub mod RunLaws
+pub mod ActLaws
+pub mod TwoPrintsProof
+mod SlotTools
+mod SlotsProof
+mod LinkedProof
+mod RefutedProof
+pub mod FindingLaws
+pub mod SharedLaws
+pub mod SlotLaws
+pub mod HeapLaws
+pub mod FieldAnchors
 pub mod Under
 pub mod Widenings
 pub mod Substitutions

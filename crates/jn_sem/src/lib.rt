@@ -3,5 +3,13 @@
 //! Nothing here computes: `specs/` has the definitions, and `laws` carries what is proved of them.
 #![tactic(auto)]
 
+pub mod acts;
+pub mod finding;
+pub mod heaps;
 pub mod laws;
+pub mod outcome;
+pub mod run_examples;
+pub mod runs;
+pub mod sharing;
+pub mod sharing_examples;
 pub mod type_examples;

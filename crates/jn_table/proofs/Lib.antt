@@ -25,3 +25,4 @@ pub mod RowSteps
 pub mod RowRight
 pub mod UniverseRight
 pub mod Fillings
+pub mod OwnParts

@@ -13,3 +13,4 @@ pub mod Universes
 pub mod Answers
 pub mod Fills
 pub mod Tables
+pub mod OwnParts

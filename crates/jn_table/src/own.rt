@@ -60,7 +60,7 @@ fn own_kinds(
 }
 
 /// The names that the declarations at the path have in that part.
-fn names_at(
+pub fn names_at(
     alloc: Global,
     entries: &[Entry],
     path: &Spot,

@@ -70,6 +70,14 @@ impl Spot {
         }
     }
 
+    /// The path that is given with the outermost name first.
+    pub fn of(alloc: Global, path: &Path) -> Result<Spot, AllocError>
+        ensures { IfOk result (λ spot. spot ≡ reverse path.now.names) }
+    {
+        let names = Items::from_slice(alloc, path.names.as_slice())?;
+        Ok(Spot { names })
+    }
+
     /// Whether both are one path.
     pub fn is(&self, other: &Spot) -> bool
         ensures { IsTrue result ↔ (self.now ≡ other.now) }

@@ -4,8 +4,11 @@ use crate::class::{ClassId, Row};
 use crate::entry::{Entry, entries};
 use crate::fault::TableFault;
 use crate::fill::fill_all;
+use crate::gather::Part;
 use crate::lookup::{has_class, place_of};
 use crate::order::{copied, name_order};
+use crate::own::names_at;
+use crate::spot::Spot;
 use jn_base::path::Path;
 use jn_base::tree::{Name, Program, Text};
 use sqlite_items::Items;
@@ -29,6 +32,7 @@ pub struct Table {
 impl Table {
     ghost use Rattle.jn_table.specs.Rows.{IsNamed};
     ghost use Rattle.jn_table.specs.Tables.{IsTableOf, IsFilledAt, IsPathOf, HasNoNumber, StaysTable, SaysFilled, SaysRefused, SaysRow, SaysSup, SaysBefore};
+    ghost use Rattle.jn_table.specs.OwnParts.{SaysMethods, SaysFields};
 
     /// The table of a program, which knows no path yet. It holds the program's declarations.
     ///
@@ -113,5 +117,23 @@ impl Table {
         ensures { result.now ≡ self.now.known.items }
     {
         &self.known
+    }
+
+    /// The names of the methods that the declarations at the path of a filled number have themselves.
+    pub fn own_methods(&self, id: ClassId) -> Result<Vec<Name>, AllocError>
+        requires { IsFilledAt self.now id }
+        ensures { IfOk result (λ names. SaysMethods self.now id names.items) }
+    {
+        let path = Spot::of(self.alloc, &self.known[id.0 as usize])?;
+        names_at(self.alloc, &self.entries, &path, Part::Methods)
+    }
+
+    /// The names of the fields that the declarations at the path of a filled number have themselves.
+    pub fn own_fields(&self, id: ClassId) -> Result<Vec<Name>, AllocError>
+        requires { IsFilledAt self.now id }
+        ensures { IfOk result (λ names. SaysFields self.now id names.items) }
+    {
+        let path = Spot::of(self.alloc, &self.known[id.0 as usize])?;
+        names_at(self.alloc, &self.entries, &path, Part::Fields)
     }
 }

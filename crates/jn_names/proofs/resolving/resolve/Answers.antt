@@ -17,4 +17,4 @@ pub returns-clause-only : goal.returns-clause-only
 returns-clause-only c = λ o.
     let T : Program → Result Atom Refusal → Type 0 = λ p o. Resolve p c.args.spot.now c.args.vars.now c.args.term.now o in
     only_one (T c.args.p.now) (term_once c.args.p.now c.args.spot.now c.args.vars.now c.args.term.now) c.atom_of.result
-        (of_one c.args.t.now T c.args.p.now c.requires.filled c.atom_of.result c.atom_of.ensures) o
+    (of_one c.args.t.now T c.args.p.now c.requires.filled c.atom_of.result c.atom_of.ensures) o

@@ -17,4 +17,4 @@ pub returns-clause-only : goal.returns-clause-only
 returns-clause-only c = λ o.
     let T : Program → Result Ty Refusal → Type 0 = λ p o. ResolveType p c.args.masks.now c.args.spot.now c.args.vars.now c.args.ty.now o in
     only_one (T c.args.p.now) (type_once c.args.p.now c.args.masks.now c.args.spot.now c.args.vars.now c.args.ty.now) c.type_of.result
-        (of_one c.args.t.now T c.args.p.now c.requires.filled c.type_of.result c.type_of.ensures) o
+    (of_one c.args.t.now T c.args.p.now c.requires.filled c.type_of.result c.type_of.ensures) o

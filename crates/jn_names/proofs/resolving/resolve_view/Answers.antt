@@ -17,4 +17,4 @@ pub returns-clause-only : goal.returns-clause-only
 returns-clause-only c = λ o.
     let T : Program → Result Ty Refusal → Type 0 = λ p o. ResolveView p c.args.masks.now c.args.spot.now c.args.vars.now c.args.view.now o in
     only_one (T c.args.p.now) (view_once c.args.p.now c.args.masks.now c.args.spot.now c.args.vars.now c.args.view.now) c.view_of.result
-        (of_one c.args.t.now T c.args.p.now c.requires.filled c.view_of.result c.view_of.ensures) o
+    (of_one c.args.t.now T c.args.p.now c.requires.filled c.view_of.result c.view_of.ensures) o

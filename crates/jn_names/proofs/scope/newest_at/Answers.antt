@@ -21,7 +21,7 @@ loop-i-preserved c =
       | else-vars-i w ↦ (
           let r = before (λ e. w.if-vars-i.false (sym (ap (λ (x : Var). x.path) c.index-vars-i.is) ∙ e)) w.found-is c.loop-i.invariant.within c.loop-i.invariant.newest in
           record { within = r.0; newest = r.1 }
-        )
+          )
     ]
 
 pub returns-clause-within : goal.returns-clause-within

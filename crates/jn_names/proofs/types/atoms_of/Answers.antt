@@ -19,12 +19,12 @@ loop-term-init c = record {
 pub returns-in-Err-clause-told : goal.returns-in-Err-clause-told
 returns-in-Err-clause-told c =
     let T : Result Atom Refusal → Type 0 =
-        λ o. (p : Program) → IsFilled p c.args.t.now → Resolve p c.args.spot.now c.args.vars.now c.term-item.result o in
+    λ o. (p : Program) → IsFilled p c.args.t.now → Resolve p c.args.spot.now c.args.vars.now c.term-item.result o in
     let U : Result (List Atom) Refusal → Type 0 =
-        λ o. (p : Program) → IsFilled p c.args.t.now → ResolveAll p c.args.spot.now c.args.vars.now c.args.terms.now o in
+    λ o. (p : Program) → IsFilled p c.args.t.now → ResolveAll p c.args.spot.now c.args.vars.now c.args.terms.now o in
     passing T U c.in-Err.fault
-        (λ r h p f. atoms_refused p c.args.spot.now c.args.vars.now c.args.terms.now c.loop-term.term-index c.term-item.result c.loop-term.atoms r c.loop-term-test.true c.term-item.is (c.loop-term.invariant.told p f) (h p f))
-        c.in-Err.ensures
+    (λ r h p f. atoms_refused p c.args.spot.now c.args.vars.now c.args.terms.now c.loop-term.term-index c.term-item.result c.loop-term.atoms r c.loop-term-test.true c.term-item.is (c.loop-term.invariant.told p f) (h p f))
+    c.in-Err.ensures
 
 pub loop-term-preserved : goal.loop-term-preserved
 loop-term-preserved c = record {

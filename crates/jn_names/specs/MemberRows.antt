@@ -1,0 +1,55 @@
+-- What the rows of `Members` say of numbers.
+use Rattle.std.specs.Prelude.{◌≡◌, ◌<◌, ◌⊎◌, ℕ, List, Contains, slice_get, Option, Some}
+use Rattle.jn_base.specs.declared.tree.Name.{Name}
+use Rattle.jn_table.specs.declared.class.ClassId.{ClassId}
+use Rattle.jn_names.specs.declared.members.MemberRow.{MemberRow}
+
+-- the row of the number has the method, the field, the super
+abbrev pub MethodAtRow : List MemberRow → Name → ClassId → Type 0
+MethodAtRow rows m s = (row : MemberRow) × (slice_get rows s.0 ≡ Some row) × Contains row.methods.items m
+
+abbrev pub FieldAtRow : List MemberRow → Name → ClassId → Type 0
+FieldAtRow rows f s = (row : MemberRow) × (slice_get rows s.0 ≡ Some row) × Contains row.fields.items f
+
+abbrev pub SupAtRow : List MemberRow → ClassId → ClassId → Type 0
+SupAtRow rows a b = (row : MemberRow) × (slice_get rows a.0 ≡ Some row) × Contains row.sups.items b
+
+-- t is another of the numbers, has the method, and stands below s
+pub record LowerRow (rows : List MemberRow) (sups : List ClassId) (m : Name) (s t : ClassId) : Type 0 where
+  pub among : Contains sups t
+  pub other : t ≡ s → ⊥
+  pub has : MethodAtRow rows m t
+  pub below : SupAtRow rows t s
+
+-- some one stands below s
+abbrev pub HasLowerRow : List MemberRow → List ClassId → Name → ClassId → Type 0
+HasLowerRow rows sups m s = (t : ClassId) × LowerRow rows sups m s t
+
+-- if s has the method, it is `but`, or another that has it stands below
+abbrev pub PassedRow : List MemberRow → List ClassId → Name → Option ClassId → ClassId → Type 0
+PassedRow rows sups m but s = MethodAtRow rows m s → (but ≡ Some s) ⊎ HasLowerRow rows sups m s
+
+-- the first n of the numbers are passed
+abbrev pub PassedTo : List MemberRow → List ClassId → Name → Option ClassId → ℕ → Type 0
+PassedTo rows sups m but n = (k : ℕ) (s : ClassId) → k < n → slice_get sups k ≡ Some s → PassedRow rows sups m but s
+
+-- the first of the numbers that has the method, is not `but`, and has none below
+pub record FirstLowRow (rows : List MemberRow) (sups : List ClassId) (m : Name) (but : Option ClassId) (a : ClassId) : Type 0 where
+  pub place : ℕ
+  pub at : slice_get sups place ≡ Some a
+  pub has : MethodAtRow rows m a
+  pub other : but ≡ Some a → ⊥
+  pub low : HasLowerRow rows sups m a → ⊥
+  pub before : PassedTo rows sups m but place
+
+-- none of the first n numbers but `but` has the field
+abbrev pub FieldlessTo : List MemberRow → List ClassId → Name → Option ClassId → ℕ → Type 0
+FieldlessTo rows sups f but n = (k : ℕ) (s : ClassId) → k < n → slice_get sups k ≡ Some s → FieldAtRow rows f s → but ≡ Some s
+
+-- the first of the numbers that has the field and is not `but`
+pub record FirstFieldRow (rows : List MemberRow) (sups : List ClassId) (f : Name) (but : Option ClassId) (a : ClassId) : Type 0 where
+  pub place : ℕ
+  pub at : slice_get sups place ≡ Some a
+  pub has : FieldAtRow rows f a
+  pub other : but ≡ Some a → ⊥
+  pub before : FieldlessTo rows sups f but place

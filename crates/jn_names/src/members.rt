@@ -1,0 +1,208 @@
+ghost use Rattle.std.specs.Prelude.{◌≡◌, ◌↔◌, Contains, Option, Some, IsTrue, IfOk, IfSome, IfNone, MatchOption, length};
+ghost use Rattle.jn_base.specs.TableRules.{IsCycle, NoneIs};
+ghost use Rattle.jn_table.specs.Tables.{IsFilled};
+ghost use Rattle.jn_names.specs.MemberRows.{MethodAtRow, FieldAtRow, SupAtRow, LowerRow, HasLowerRow, PassedTo, FirstLowRow, FieldlessTo, FirstFieldRow};
+
+use crate::bound::{has, is_name};
+use jn_base::tree::{Name, Program};
+use jn_table::{ClassId, Table};
+use std::alloc::{AllocError, Global};
+
+/// How often a class has a method or a field among its supers.
+#[derive(Clone, Copy, Debug, PartialEq, Eq)]
+pub enum Least {
+    /// No super declares it.
+    None,
+    /// The least declaration of a method, or the only one of a field.
+    One(ClassId),
+    /// There is no such one: the first two declarations of a method below which no other stands, or of a field, in class order.
+    Many(ClassId, ClassId),
+}
+
+/// The supers of a class, and what its declarations have themselves.
+#[derive(Drop)]
+pub struct MemberRow {
+    pub sups: Vec<ClassId>,
+    pub methods: Vec<Name>,
+    pub fields: Vec<Name>,
+}
+
+/// Which declarations the methods and fields of each class have.
+#[derive(Drop)]
+pub struct Members {
+    rows: Vec<MemberRow>,
+}
+
+/// Whether the two are one number.
+fn is_class(a: ClassId, b: ClassId) -> bool
+    ensures { IsTrue result ↔ (a ≡ b) }
+{
+    a.0 == b.0
+}
+
+/// Whether the number is in the list.
+fn has_class(ids: &[ClassId], id: ClassId) -> bool
+    ensures { IsTrue result ↔ Contains ids.now id }
+{
+    for other in ids {
+        if is_class(*other, id) {
+            return true;
+        }
+    }
+    false
+}
+
+/// Whether it is the number.
+fn is_just(but: Option<ClassId>, id: ClassId) -> bool
+    ensures { IsTrue result ↔ (but ≡ Some id) }
+{
+    match but {
+        None => false,
+        Some(other) => is_class(other, id),
+    }
+}
+
+fn has_method(rows: &[MemberRow], m: Name, s: ClassId) -> bool
+    ensures { IsTrue result ↔ MethodAtRow rows.now m s }
+{
+    match rows.get(s.0 as usize) {
+        None => false,
+        Some(row) => has(&row.methods, m),
+    }
+}
+
+fn has_field(rows: &[MemberRow], f: Name, s: ClassId) -> bool
+    ensures { IsTrue result ↔ FieldAtRow rows.now f s }
+{
+    match rows.get(s.0 as usize) {
+        None => false,
+        Some(row) => has(&row.fields, f),
+    }
+}
+
+fn has_sup(rows: &[MemberRow], a: ClassId, b: ClassId) -> bool
+    ensures { IsTrue result ↔ SupAtRow rows.now a b }
+{
+    match rows.get(a.0 as usize) {
+        None => false,
+        Some(row) => has_class(&row.sups, b),
+    }
+}
+
+/// Whether `t` is another one that has the method and stands below `s`.
+fn is_lower(rows: &[MemberRow], m: Name, s: ClassId, t: ClassId) -> bool
+    ensures { IsTrue result ↔ ((t ≡ s → ⊥) × MethodAtRow rows.now m t × SupAtRow rows.now t s) }
+{
+    !is_class(t, s) && has_method(rows, m, t) && has_sup(rows, t, s)
+}
+
+/// Whether another of the numbers has the method and stands below `s`.
+fn has_lower(rows: &[MemberRow], sups: &[ClassId], m: Name, s: ClassId) -> bool
+    ensures { IsTrue result ↔ HasLowerRow rows.now sups.now m s }
+{
+    for t in sups {
+        if is_lower(rows, m, s, *t) {
+            return true;
+        }
+    }
+    false
+}
+
+/// The first of the numbers, but for one, that has the method and none below.
+fn first_low(
+    rows: &[MemberRow],
+    sups: &[ClassId],
+    m: Name,
+    but: Option<ClassId>,
+) -> Option<ClassId>
+    ensures { MatchOption result (PassedTo rows.now sups.now m but (length sups.now)) (FirstLowRow rows.now sups.now m but) }
+{
+    for s in sups {
+        if has_method(rows, m, *s) && !is_just(but, *s) && !has_lower(rows, sups, m, *s) {
+            return Some(*s);
+        }
+    }
+    None
+}
+
+/// The first of the numbers, but for one, that has the field.
+fn first_field(
+    rows: &[MemberRow],
+    sups: &[ClassId],
+    f: Name,
+    but: Option<ClassId>,
+) -> Option<ClassId>
+    ensures { MatchOption result (FieldlessTo rows.now sups.now f but (length sups.now)) (FirstFieldRow rows.now sups.now f but) }
+{
+    for s in sups {
+        if has_field(rows, f, *s) && !is_just(but, *s) {
+            return Some(*s);
+        }
+    }
+    None
+}
+
+/// A copy of the numbers.
+fn copied(alloc: Global, ids: &[ClassId]) -> Result<Vec<ClassId>, AllocError>
+    ensures { IfOk result (λ all. all.items ≡ ids.now) }
+{
+    let mut all = Vec::new(alloc);
+    for id in ids {
+        all.push(*id)?;
+    }
+    Ok(all)
+}
+
+impl Members {
+    ghost use Rattle.jn_names.specs.Members.{IsMembersOf, SaysLeast, SaysField};
+
+    /// The members of a program, by a table in which its universe is filled.
+    pub fn build(alloc: Global, p: &Program, t: &Table) -> Result<Members, AllocError>
+        requires filled { IsFilled p.now t.now }
+        requires acyclic { NoneIs (IsCycle p.now) }
+        ensures { IfOk result (λ members. IsMembersOf p.now t.now members) }
+    {
+        let mut rows = Vec::new(alloc);
+        for k in 0..t.known().len() {
+            let id = ClassId(k as u16);
+            rows.push(MemberRow {
+                sups: copied(alloc, &t.row(id).sups)?,
+                methods: t.own_methods(id)?,
+                fields: t.own_fields(id)?,
+            })?;
+        }
+        Ok(Members { rows })
+    }
+
+    /// The least declaration of a method of a class, or the first two where there is none.
+    pub fn least(&self, id: ClassId, m: Name) -> Least
+        ensures { SaysLeast self.now id m result }
+    {
+        match self.rows.get(id.0 as usize) {
+            None => Least::None,
+            Some(row) => match first_low(&self.rows, &row.sups, m, None) {
+                None => Least::None,
+                Some(a) => match first_low(&self.rows, &row.sups, m, Some(a)) {
+                    None => Least::One(a),
+                    Some(b) => Least::Many(a, b),
+                },
+            },
+        }
+    }
+
+    /// The declaration of a field of a class, or the first two where there are more.
+    pub fn field(&self, id: ClassId, f: Name) -> Least
+        ensures { SaysField self.now id f result }
+    {
+        match self.rows.get(id.0 as usize) {
+            None => Least::None,
+            Some(row) => match first_field(&self.rows, &row.sups, f, None) {
+                None => Least::None,
+                Some(a) => match first_field(&self.rows, &row.sups, f, Some(a)) {
+                    None => Least::One(a),
+                    Some(b) => Least::Many(a, b),
+                },
+            },
+        }
+    }
+}
