@@ -1,6 +1,9 @@
 -- How loops gather names.
 use Rattle.std.proofs.Common.{◌≡◌, ◌<◌, ◌≤◌, ◌+◌, ℕ, List, [], ◌∷◌, ◌++◌, length, Contains, slice_get, Some, arith, sym, ◌∙◌, ap, subst, refl, inl, inr, take, get_or, ◌⊎◌, ◌↔◌}
 use Rattle.std.specs.List.{Any}
+use Rattle.std.specs.declared.vec.Vec.{Vec}
+use Rattle.std.specs.declared.alloc.Global.{Global}
+use Rattle.jn_reach.specs.Graph.{Graph}
 use Rattle.std.proofs.lemmas.List.{take_more}
 use Rattle.std.proofs.lemmas.Option.{slice_get_read}
 use Rattle.std.proofs.lemmas.List.Elements.{Contains-push, Contains-push_cases, Contains-append_left}
@@ -8,7 +11,7 @@ use Rattle.jn_reach.proofs.Searches.{same_some}
 use Rattle.jn_table.proofs.Places.{same_item, take_whole}
 use Rattle.jn_base.specs.declared.tree.Name.{Name}
 use Rattle.jn_base.specs.Paths.{Path}
-use Rattle.jn_table.specs.Gather.{Gains, Declares, HasPart, IsPart, PartAt, PartsAt, DeclaresIn, MemberAt, MembersAt, part_of}
+use Rattle.jn_table.specs.Gather.{Gains, NamedAt, PartOf, NamedAmong, PartAmong, NamedIn, PartIn, part_of}
 use Rattle.jn_table.specs.declared.entry.Entry.{Entry}
 use Rattle.jn_table.specs.declared.gather.Part.{Part}
 
@@ -114,73 +117,121 @@ pub named_all : (names : List Name) (i : ℕ) (before after : List Name) → len
     → Gains (Contains names) before after
 named_all names i before after past g = subst (λ ys. Gains (Contains ys) before after) (take_whole i names past) g
 
--- one more entry: its names, or none of them
-pub part_more : (P : Path) (C : Name) (part : Part) (es : List Entry) (i : ℕ) (x : Entry) (before mid after : List Name) → i < length es → x ≡ get_or es i x
-    → x.name ≡ C → x.namespace ≡ P → Gains (IsPart (take i es) P C part) before mid
-    → Gains (Contains (part_of part x)) mid after → Gains (IsPart (take (i + 1) es) P C part) before after
-part_more P C part es i x before mid after l is name at g h =
-    gains_more (λ e D. HasPart P C part D e) es i x (Contains (part_of part x)) before mid after l is
-    (λ D w. w.2) (λ D c. (name, at, c)) g h
+any_same : {X : Type 0} (F G : X → Type 0) (xs : List X) → ((x : X) → F x → G x) → Any F xs → Any G xs
+any_same F G xs f a = (a.0, a.1, a.2, a.3, f a.1 a.4)
 
-pub part_skipped : (P : Path) (C : Name) (part : Part) (es : List Entry) (i : ℕ) (x : Entry) (before mid : List Name) → i < length es → x ≡ get_or es i x
-    → (x.name ≡ C → x.namespace ≡ P → ⊥) → Gains (IsPart (take i es) P C part) before mid
-    → Gains (IsPart (take (i + 1) es) P C part) before mid
-part_skipped P C part es i x before mid l is none g =
-    gains_more (λ e D. HasPart P C part D e) es i x (λ D. ⊥) before mid mid l is
-    (λ D w. none w.0 w.1) (λ D b. absurd b) g (gains_none (λ D. ⊥) mid (λ D b. b))
+-- what stands at a number of the entries
+module _ (es : List Entry) (i : ℕ) (x : Entry) (l : i < length es) (is : x ≡ get_or es i x) where
+  entry_at : slice_get es i ≡ Some x
+  entry_at = slice_get_read es (length es) i x refl l is
 
-pub part_all : (P : Path) (C : Name) (part : Part) (es : List Entry) (i : ℕ) (before after : List Name) → length es ≤ i
-    → Gains (IsPart (take i es) P C part) before after → Gains (IsPart es P C part) before after
-part_all P C part es i before after past g = gains_all (λ e D. HasPart P C part D e) es i before after past g
+  pub named_here : (D : Name) → x.name ≡ D → NamedAt es D i
+  named_here D n = (x, entry_at, n)
 
-pub declared_more : (P : Path) (es : List Entry) (i : ℕ) (x : Entry) (before mid : List Name) → i < length es → x ≡ get_or es i x
-    → x.namespace ≡ P → Gains (DeclaresIn (take i es) P) before mid
-    → Gains (DeclaresIn (take (i + 1) es) P) before (mid ++ x.name ∷ [])
-declared_more P es i x before mid l is at g =
-    gains_more (λ e D. Declares P D e) es i x (λ D. x.name ≡ D) before mid (mid ++ x.name ∷ []) l
-    is (λ D w. w.0) (λ D n. (n, at)) g (gains_push mid x.name)
+  pub named_is : (D : Name) → NamedAt es D i → x.name ≡ D
+  named_is D w = subst (λ (e : Entry). e.name ≡ D) (same_some (slice_get es i) w.0 x w.1 entry_at) w.2
 
-pub declared_skipped : (P : Path) (es : List Entry) (i : ℕ) (x : Entry) (before mid : List Name) → i < length es → x ≡ get_or es i x
-    → (x.namespace ≡ P → ⊥) → Gains (DeclaresIn (take i es) P) before mid → Gains (DeclaresIn (take (i + 1) es) P) before mid
-declared_skipped P es i x before mid l is none g =
-    gains_more (λ e D. Declares P D e) es i x (λ D. ⊥) before mid mid l is
-    (λ D w. none w.1) (λ D b. absurd b) g (gains_none (λ D. ⊥) mid (λ D b. b))
+  pub part_here : (C : Name) (part : Part) (D : Name) → x.name ≡ C → Contains (part_of part x) D → PartOf es C part D i
+  part_here C part D n c = (x, entry_at, n, c)
 
-pub declared_all : (P : Path) (es : List Entry) (i : ℕ) (before after : List Name) → length es ≤ i
-    → Gains (DeclaresIn (take i es) P) before after → Gains (DeclaresIn es P) before after
-declared_all P es i before after past g = gains_all (λ e D. Declares P D e) es i before after past g
+  pub part_is : (C : Name) (part : Part) (D : Name) → PartOf es C part D i → (x.name ≡ C) × Contains (part_of part x) D
+  part_is C part D w = subst (λ (e : Entry). (e.name ≡ C) × Contains (part_of part e) D) (same_some (slice_get es i) w.0 x w.1 entry_at) (w.2, w.3)
 
--- one more namespace
-pub parts_more : (es : List Entry) (paths : List Path) (C : Name) (part : Part) (numbers : List ℕ) (i d : ℕ) (P : Path) (before mid after : List Name)
-    → i < length numbers → get_or numbers i d < length paths → P ≡ get_or paths (get_or numbers i d) P
-    → Gains (PartsAt es paths C part (take i numbers)) before mid → Gains (IsPart es P C part) mid after
-    → Gains (PartsAt es paths C part (take (i + 1) numbers)) before after
-parts_more es paths C part numbers i d P before mid after l within is g h =
-    gains_more (λ at D. PartAt es paths C part D at) numbers i (get_or numbers i d) (IsPart es P C part) before mid after l (same_item numbers i d l)
-    (λ D w. at_path (λ Q E. IsPart es Q C part E) paths (get_or numbers i d) P D within is w)
-    (λ D f. path_at (λ Q E. IsPart es Q C part E) paths (get_or numbers i d) P D within is f) g h
+-- one more number: the names of its entry, or none of them
+pub part_more : (es : List Entry) (C : Name) (part : Part) (row : List ℕ) (k d : ℕ) (x : Entry) (before mid after : List Name) → k < length row
+    → get_or row k d < length es → x ≡ get_or es (get_or row k d) x → x.name ≡ C → Gains (PartAmong es C part (take k row)) before mid
+    → Gains (Contains (part_of part x)) mid after → Gains (PartAmong es C part (take (k + 1) row)) before after
+part_more es C part row k d x before mid after l within is name g h =
+    gains_more (λ i D. PartOf es C part D i) row k (get_or row k d) (Contains (part_of part x)) before mid after l (same_item row k d l)
+    (λ D w. (part_is es (get_or row k d) x within is C part D w).1) (λ D c. part_here es (get_or row k d) x within is C part D name c) g h
 
-pub parts_none : (es : List Entry) (paths : List Path) (C : Name) (part : Part) (all : List Name) → all ≡ [] → Gains (PartsAt es paths C part []) [] all
-parts_none es paths C part all e = subst (Gains (PartsAt es paths C part []) []) (sym e) (gains_none (PartsAt es paths C part []) [] (λ D a. none_of (PartAt es paths C part D) a))
+pub part_skipped : (es : List Entry) (C : Name) (part : Part) (row : List ℕ) (k d : ℕ) (x : Entry) (before mid : List Name) → k < length row
+    → get_or row k d < length es → x ≡ get_or es (get_or row k d) x → (x.name ≡ C → ⊥) → Gains (PartAmong es C part (take k row)) before mid
+    → Gains (PartAmong es C part (take (k + 1) row)) before mid
+part_skipped es C part row k d x before mid l within is none g =
+    gains_more (λ i D. PartOf es C part D i) row k (get_or row k d) (λ D. ⊥) before mid mid l (same_item row k d l)
+    (λ D w. none (part_is es (get_or row k d) x within is C part D w).0) (λ D b. absurd b) g (gains_none (λ D. ⊥) mid (λ D b. b))
 
-pub parts_all : (es : List Entry) (paths : List Path) (C : Name) (part : Part) (numbers : List ℕ) (i : ℕ) (all : List Name) → length numbers ≤ i
-    → Gains (PartsAt es paths C part (take i numbers)) [] all → (D : Name) → Contains all D ↔ PartsAt es paths C part numbers D
-parts_all es paths C part numbers i all past g =
-    gains_exact (PartsAt es paths C part numbers) [] all refl (gains_all (λ at D. PartAt es paths C part D at) numbers i [] all past g)
+pub part_none : (es : List Entry) (C : Name) (part : Part) (all : List Name) → Gains (PartAmong es C part []) all all
+part_none es C part all = gains_none (PartAmong es C part []) all (λ D a. none_of (PartOf es C part D) a)
 
-pub members_more : (es : List Entry) (paths : List Path) (numbers : List ℕ) (i d : ℕ) (P : Path) (before mid after : List Name)
-    → i < length numbers → get_or numbers i d < length paths → P ≡ get_or paths (get_or numbers i d) P
-    → Gains (MembersAt es paths (take i numbers)) before mid → Gains (DeclaresIn es P) mid after
-    → Gains (MembersAt es paths (take (i + 1) numbers)) before after
-members_more es paths numbers i d P before mid after l within is g h =
-    gains_more (λ at D. MemberAt es paths D at) numbers i (get_or numbers i d) (DeclaresIn es P) before mid after l (same_item numbers i d l)
-    (λ D w. at_path (λ Q E. DeclaresIn es Q E) paths (get_or numbers i d) P D within is w)
-    (λ D f. path_at (λ Q E. DeclaresIn es Q E) paths (get_or numbers i d) P D within is f) g h
+pub part_all : (es : List Entry) (C : Name) (part : Part) (row : List ℕ) (k : ℕ) (before after : List Name) → length row ≤ k
+    → Gains (PartAmong es C part (take k row)) before after → Gains (PartAmong es C part row) before after
+part_all es C part row k before after past g = gains_all (λ i D. PartOf es C part D i) row k before after past g
 
-pub members_none : (es : List Entry) (paths : List Path) (all : List Name) → all ≡ [] → Gains (MembersAt es paths []) [] all
-members_none es paths all e = subst (Gains (MembersAt es paths []) []) (sym e) (gains_none (MembersAt es paths []) [] (λ D a. none_of (MemberAt es paths D) a))
+-- one more number: the name of its entry, which is there already or not
+gains_there : (names : List Name) (C : Name) → Contains names C → Gains (λ D. C ≡ D) names names
+gains_there names C c D = (λ h. inl h, λ s. elim s [ inl h ↦ h | inr e ↦ subst (Contains names) e c ])
 
-pub members_all : (es : List Entry) (paths : List Path) (numbers : List ℕ) (i : ℕ) (all : List Name) → length numbers ≤ i
-    → Gains (MembersAt es paths (take i numbers)) [] all → (D : Name) → Contains all D ↔ MembersAt es paths numbers D
-members_all es paths numbers i all past g =
-    gains_exact (MembersAt es paths numbers) [] all refl (gains_all (λ at D. MemberAt es paths D at) numbers i [] all past g)
+pub declared_more : (es : List Entry) (row : List ℕ) (k d : ℕ) (x : Entry) (before mid : List Name) → k < length row
+    → get_or row k d < length es → x ≡ get_or es (get_or row k d) x → Gains (NamedAmong es (take k row)) before mid
+    → Gains (NamedAmong es (take (k + 1) row)) before (mid ++ x.name ∷ [])
+declared_more es row k d x before mid l within is g =
+    gains_more (λ i D. NamedAt es D i) row k (get_or row k d) (λ D. x.name ≡ D) before mid (mid ++ x.name ∷ []) l (same_item row k d l)
+    (λ D w. named_is es (get_or row k d) x within is D w) (λ D n. named_here es (get_or row k d) x within is D n) g (gains_push mid x.name)
+
+pub declared_there : (es : List Entry) (row : List ℕ) (k d : ℕ) (x : Entry) (before mid : List Name) → k < length row
+    → get_or row k d < length es → x ≡ get_or es (get_or row k d) x → Contains mid x.name → Gains (NamedAmong es (take k row)) before mid
+    → Gains (NamedAmong es (take (k + 1) row)) before mid
+declared_there es row k d x before mid l within is c g =
+    gains_more (λ i D. NamedAt es D i) row k (get_or row k d) (λ D. x.name ≡ D) before mid mid l (same_item row k d l)
+    (λ D w. named_is es (get_or row k d) x within is D w) (λ D n. named_here es (get_or row k d) x within is D n) g (gains_there mid x.name c)
+
+pub declared_none : (es : List Entry) (all : List Name) → Gains (NamedAmong es []) all all
+declared_none es all = gains_none (NamedAmong es []) all (λ D a. none_of (NamedAt es D) a)
+
+pub declared_all : (es : List Entry) (row : List ℕ) (k : ℕ) (before after : List Name) → length row ≤ k
+    → Gains (NamedAmong es (take k row)) before after → Gains (NamedAmong es row) before after
+declared_all es row k before after past g = gains_all (λ i D. NamedAt es D i) row k before after past g
+
+-- one more row
+module _ (rows : Graph) (n : ℕ) (row : Vec ℕ Global) (l : n < length rows) (is : row ≡ get_or rows n row) where
+  row_at : slice_get rows n ≡ Some row
+  row_at = slice_get_read rows (length rows) n row refl l is
+
+  named_in : (es : List Entry) (D : Name) → NamedAmong es row.items D → NamedIn es rows D n
+  named_in es D h = record { row = row; at = row_at; has = h }
+
+  in_named : (es : List Entry) (D : Name) → NamedIn es rows D n → NamedAmong es row.items D
+  in_named es D w = subst (λ (v : Vec ℕ Global). NamedAmong es v.items D) (same_some (slice_get rows n) w.row row w.at row_at) w.has
+
+  part_in : (es : List Entry) (C : Name) (part : Part) (D : Name) → PartAmong es C part row.items D → PartIn es C part rows D n
+  part_in es C part D h = record { row = row; at = row_at; has = h }
+
+  in_part : (es : List Entry) (C : Name) (part : Part) (D : Name) → PartIn es C part rows D n → PartAmong es C part row.items D
+  in_part es C part D w = subst (λ (v : Vec ℕ Global). PartAmong es C part v.items D) (same_some (slice_get rows n) w.row row w.at row_at) w.has
+
+pub parts_more : (es : List Entry) (C : Name) (part : Part) (rows : Graph) (numbers : List ℕ) (i d : ℕ) (row : Vec ℕ Global) (before mid after : List Name)
+    → i < length numbers → get_or numbers i d < length rows → row ≡ get_or rows (get_or numbers i d) row
+    → Gains (λ D. Any (PartIn es C part rows D) (take i numbers)) before mid → Gains (PartAmong es C part row.items) mid after
+    → Gains (λ D. Any (PartIn es C part rows D) (take (i + 1) numbers)) before after
+parts_more es C part rows numbers i d row before mid after l within is g h =
+    gains_more (λ n D. PartIn es C part rows D n) numbers i (get_or numbers i d) (PartAmong es C part row.items) before mid after l (same_item numbers i d l)
+    (λ D w. in_part rows (get_or numbers i d) row within is es C part D w) (λ D f. part_in rows (get_or numbers i d) row within is es C part D f) g h
+
+pub parts_none : (es : List Entry) (C : Name) (part : Part) (rows : Graph) (all : List Name) → all ≡ [] → Gains (λ D. Any (PartIn es C part rows D) []) [] all
+parts_none es C part rows all e =
+    subst (Gains (λ D. Any (PartIn es C part rows D) []) []) (sym e)
+    (gains_none (λ D. Any (PartIn es C part rows D) []) [] (λ D a. none_of (PartIn es C part rows D) a))
+
+pub parts_all : (es : List Entry) (C : Name) (part : Part) (rows : Graph) (numbers : List ℕ) (i : ℕ) (all : List Name) → length numbers ≤ i
+    → Gains (λ D. Any (PartIn es C part rows D) (take i numbers)) [] all → (D : Name) → Contains all D ↔ Any (PartIn es C part rows D) numbers
+parts_all es C part rows numbers i all past g =
+    gains_exact (λ D. Any (PartIn es C part rows D) numbers) [] all refl (gains_all (λ n D. PartIn es C part rows D n) numbers i [] all past g)
+
+pub members_more : (es : List Entry) (rows : Graph) (numbers : List ℕ) (i d : ℕ) (row : Vec ℕ Global) (before mid after : List Name)
+    → i < length numbers → get_or numbers i d < length rows → row ≡ get_or rows (get_or numbers i d) row
+    → Gains (λ D. Any (NamedIn es rows D) (take i numbers)) before mid → Gains (NamedAmong es row.items) mid after
+    → Gains (λ D. Any (NamedIn es rows D) (take (i + 1) numbers)) before after
+members_more es rows numbers i d row before mid after l within is g h =
+    gains_more (λ n D. NamedIn es rows D n) numbers i (get_or numbers i d) (NamedAmong es row.items) before mid after l (same_item numbers i d l)
+    (λ D w. in_named rows (get_or numbers i d) row within is es D w) (λ D f. named_in rows (get_or numbers i d) row within is es D f) g h
+
+pub members_none : (es : List Entry) (rows : Graph) (all : List Name) → all ≡ [] → Gains (λ D. Any (NamedIn es rows D) []) [] all
+members_none es rows all e =
+    subst (Gains (λ D. Any (NamedIn es rows D) []) []) (sym e) (gains_none (λ D. Any (NamedIn es rows D) []) [] (λ D a. none_of (NamedIn es rows D) a))
+
+pub members_all : (es : List Entry) (rows : Graph) (numbers : List ℕ) (i : ℕ) (all : List Name) → length numbers ≤ i
+    → Gains (λ D. Any (NamedIn es rows D) (take i numbers)) [] all → (D : Name) → Contains all D ↔ Any (NamedIn es rows D) numbers
+members_all es rows numbers i all past g =
+    gains_exact (λ D. Any (NamedIn es rows D) numbers) [] all refl (gains_all (λ n D. NamedIn es rows D n) numbers i [] all past g)

@@ -1,6 +1,7 @@
 pub mod Places
 pub mod Flats
 pub mod Gathers
+pub mod Insides
 pub mod DirectNext
 pub mod NextLevel
 pub mod RootLevel

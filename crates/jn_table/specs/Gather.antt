@@ -1,5 +1,9 @@
 -- The names that declarations have.
 use Rattle.std.specs.Prelude.{◌≡◌, ◌↔◌, ◌⊎◌, ℕ, List, Contains, slice_get, Some, Any}
+use Rattle.std.specs.declared.vec.Vec.{Vec}
+use Rattle.std.specs.declared.alloc.Global.{Global}
+use Rattle.jn_reach.specs.Each.{Each}
+use Rattle.jn_reach.specs.Graph.{Graph, Lists}
 use Rattle.jn_base.specs.declared.tree.Name.{Name}
 use Rattle.jn_base.specs.declared.tree.Kind.{Kind}
 use Rattle.jn_base.specs.Paths.{Path}
@@ -52,3 +56,36 @@ OwnIn es R part D = Any (λ e. (e.path ≡ R) × Contains (part_of part e) D) es
 
 abbrev pub KindIn : List Entry → Path → Kind → Type 0
 KindIn es R kind = Any (λ e. (e.path ≡ R) × (e.kind ≡ kind)) es
+
+-- the entry of that number stands in the namespace P
+abbrev pub StandsInside : List Entry → Path → ℕ → Type 0
+StandsInside es P i = (e : Entry) × (slice_get es i ≡ Some e) × (e.namespace ≡ P)
+
+-- for each path the numbers of the entries that stand in it
+abbrev pub AreInside : List Entry → List Path → Graph → Type 0
+AreInside es paths rows = Each (λ P row. Lists (StandsInside es P) row.items) paths rows
+
+-- the entry of that number is a declaration of D, has D
+abbrev pub NamedAt : List Entry → Name → ℕ → Type 0
+NamedAt es D i = (e : Entry) × (slice_get es i ≡ Some e) × (e.name ≡ D)
+
+abbrev pub PartOf : List Entry → Name → Part → Name → ℕ → Type 0
+PartOf es C part D i = (e : Entry) × (slice_get es i ≡ Some e) × (e.name ≡ C) × Contains (part_of part e) D
+
+-- one of those numbers
+abbrev pub NamedAmong : List Entry → List ℕ → Name → Type 0
+NamedAmong es row D = Any (NamedAt es D) row
+
+abbrev pub PartAmong : List Entry → Name → Part → List ℕ → Name → Type 0
+PartAmong es C part row D = Any (PartOf es C part D) row
+
+-- one of the numbers of the n-th row
+pub record NamedIn (es : List Entry) (inside : Graph) (D : Name) (n : ℕ) : Type 0 where
+  pub row : Vec ℕ Global
+  pub at : slice_get inside n ≡ Some row
+  pub has : NamedAmong es row.items D
+
+pub record PartIn (es : List Entry) (C : Name) (part : Part) (inside : Graph) (D : Name) (n : ℕ) : Type 0 where
+  pub row : Vec ℕ Global
+  pub at : slice_get inside n ≡ Some row
+  pub has : PartAmong es C part row.items D

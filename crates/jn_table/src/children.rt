@@ -1,4 +1,5 @@
 ghost use Rattle.std.specs.Prelude.{◌≡◌, ◌<◌, ◌≤◌, ◌++◌, take, All, Contains, IfOk, OnOk, length, vec_len};
+ghost use Rattle.jn_table.specs.Gather.{AreInside};
 ghost use Rattle.jn_table.specs.Level.{IsShaped};
 ghost use Rattle.jn_table.specs.Children.{AddsPicked, ChildrenFront};
 
@@ -33,14 +34,16 @@ pub fn children(
     entries: &[Entry],
     order: &[Name],
     level: &Level,
+    inside: &[Vec<usize>],
     room: usize,
 ) -> Result<Vec<Child>, AllocError>
-    requires { IsShaped level.now }
+    requires shaped { IsShaped level.now }
+    requires inside { AreInside entries.now level.now.paths.items inside.now }
     ensures { IfOk result (λ all. ChildrenFront entries.now order.now level.now (length level.now.paths.items) room all.items) }
 {
     let mut all = Vec::new(alloc);
     for up in 0..level.paths.len() {
-        let members = declared(alloc, entries, &level.paths, &level.sups[up])?;
+        let members = declared(alloc, entries, inside, &level.sups[up])?;
         add_picked(&mut all, order, &members, up, room)?;
     }
     Ok(all)

@@ -3,6 +3,7 @@ ghost use Rattle.jn_table.specs.Depths.{Answers, Fits};
 
 use crate::children::children;
 use crate::entry::Entry;
+use crate::gather::insides;
 use crate::level::{next, root};
 use crate::nodes::{Nodes, add_level};
 use crate::spot::Spot;
@@ -31,7 +32,8 @@ pub fn depths(alloc: Global, entries: &[Entry], order: &[Name]) -> Result<Found,
     let mut level = root(alloc)?;
     let mut room = ROOM;
     loop {
-        let members = children(alloc, entries, order, &level, room)?;
+        let inside = insides(alloc, entries, &level.paths)?;
+        let members = children(alloc, entries, order, &level, &inside, room)?;
         if members.len() >= room {
             let last = &members[room - 1];
             let over = level.paths[last.up].down(alloc, last.name)?;
@@ -40,7 +42,7 @@ pub fn depths(alloc: Global, entries: &[Entry], order: &[Name]) -> Result<Found,
         if members.is_empty() {
             return Ok(Found::Whole(nodes));
         }
-        let below = next(alloc, entries, &level, &members)?;
+        let below = next(alloc, entries, &level, &inside, &members)?;
         add_level(alloc, &mut nodes, &below)?;
         room -= members.len();
         level = below;

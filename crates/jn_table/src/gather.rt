@@ -1,11 +1,41 @@
-ghost use Rattle.std.specs.Prelude.{◌≡◌, ◌<◌, ◌↔◌, All, Contains, IsTrue, IfOk, OnOk, length};
+ghost use Rattle.std.specs.Prelude.{◌≡◌, ◌<◌, ◌↔◌, All, Any, Contains, IsTrue, IfOk, OnOk, length};
+ghost use Rattle.jn_reach.specs.Graph.{Lists};
 ghost use Rattle.jn_base.specs.declared.tree.Name.{Name as AName};
-ghost use Rattle.jn_table.specs.Gather.{Gains, part_of, IsPart, PartsAt, DeclaresIn, MembersAt};
+ghost use Rattle.jn_table.specs.Gather.{Gains, part_of, StandsInside, AreInside, NamedAmong, NamedIn, PartAmong, PartIn};
 
 use crate::entry::Entry;
 use crate::spot::{Spot, is_name};
 use jn_base::tree::Name;
 use std::alloc::{AllocError, Global};
+
+/// The numbers of the entries that stand in the namespace.
+fn inside(alloc: Global, entries: &[Entry], namespace: &Spot) -> Result<Vec<usize>, AllocError>
+    ensures { IfOk result (λ row. Lists (StandsInside entries.now namespace.now) row.items) }
+{
+    let mut row = Vec::new(alloc);
+    for (number, entry) in entries.iter().enumerate() {
+        if entry.namespace.is(namespace) {
+            row.push(number)?;
+        }
+    }
+    Ok(row)
+}
+
+/// For each namespace the numbers of the entries that stand in it.
+pub fn insides(
+    alloc: Global,
+    entries: &[Entry],
+    paths: &[Spot],
+) -> Result<Vec<Vec<usize>>, AllocError>
+    ensures { IfOk result (λ rows. AreInside entries.now paths.now rows.items) }
+{
+    let mut rows = Vec::new(alloc);
+    for path in paths {
+        let row = inside(alloc, entries, path)?;
+        rows.push(row)?;
+    }
+    Ok(rows)
+}
 
 /// The names of a declaration that are asked for.
 #[derive(Clone, Copy)]
@@ -48,18 +78,20 @@ pub fn add_names(all: &mut Vec<Name>, names: &[Name]) -> Result<(), AllocError>
     Ok(())
 }
 
-/// Adds the names that a declaration of `name` in the namespace has.
+/// Adds the names that those of the entries that are declarations of `name` have.
 fn add_part(
     all: &mut Vec<Name>,
     entries: &[Entry],
-    namespace: &Spot,
+    row: &[usize],
     name: Name,
     part: Part,
 ) -> Result<(), AllocError>
-    ensures { OnOk result (Gains (IsPart entries.now namespace.now name part) all.old.items all.new.items) }
+    requires { All (λ i. i < length entries.now) row.now }
+    ensures { OnOk result (Gains (PartAmong entries.now name part row.now) all.old.items all.new.items) }
 {
-    for entry in entries {
-        if is_name(entry.name, name) && entry.namespace.is(namespace) {
+    for number in row {
+        let entry = &entries[*number];
+        if is_name(entry.name, name) {
             add_names(all, names_of(entry, part))?;
         }
     }
@@ -70,27 +102,30 @@ fn add_part(
 pub fn parts(
     alloc: Global,
     entries: &[Entry],
-    paths: &[Spot],
+    inside: &[Vec<usize>],
     numbers: &[usize],
     name: Name,
     part: Part,
 ) -> Result<Vec<Name>, AllocError>
-    requires { All (λ n. n < length paths.now) numbers.now }
-    ensures { IfOk result (λ all. (D : AName) → Contains all.items D ↔ PartsAt entries.now paths.now name part numbers.now D) }
+    requires inside { All (λ row. All (λ i. i < length entries.now) row.items) inside.now }
+    requires numbers { All (λ n. n < length inside.now) numbers.now }
+    ensures { IfOk result (λ all. (D : AName) → Contains all.items D ↔ Any (PartIn entries.now name part inside.now D) numbers.now) }
 {
     let mut all = Vec::new(alloc);
     for at in numbers {
-        add_part(&mut all, entries, &paths[*at], name, part)?;
+        add_part(&mut all, entries, &inside[*at], name, part)?;
     }
     Ok(all)
 }
 
-/// Adds the names that are declared in the namespace.
-fn add_declared(all: &mut Vec<Name>, entries: &[Entry], namespace: &Spot) -> Result<(), AllocError>
-    ensures { OnOk result (Gains (DeclaresIn entries.now namespace.now) all.old.items all.new.items) }
+/// Adds the names of those of the entries, each that isn't there yet.
+fn add_declared(all: &mut Vec<Name>, entries: &[Entry], row: &[usize]) -> Result<(), AllocError>
+    requires { All (λ i. i < length entries.now) row.now }
+    ensures { OnOk result (Gains (NamedAmong entries.now row.now) all.old.items all.new.items) }
 {
-    for entry in entries {
-        if entry.namespace.is(namespace) {
+    for number in row {
+        let entry = &entries[*number];
+        if !has_name(all, entry.name) {
             all.push(entry.name)?;
         }
     }
@@ -101,15 +136,16 @@ fn add_declared(all: &mut Vec<Name>, entries: &[Entry], namespace: &Spot) -> Res
 pub fn declared(
     alloc: Global,
     entries: &[Entry],
-    paths: &[Spot],
+    inside: &[Vec<usize>],
     numbers: &[usize],
 ) -> Result<Vec<Name>, AllocError>
-    requires { All (λ n. n < length paths.now) numbers.now }
-    ensures { IfOk result (λ all. (D : AName) → Contains all.items D ↔ MembersAt entries.now paths.now numbers.now D) }
+    requires inside { All (λ row. All (λ i. i < length entries.now) row.items) inside.now }
+    requires numbers { All (λ n. n < length inside.now) numbers.now }
+    ensures { IfOk result (λ all. (D : AName) → Contains all.items D ↔ Any (NamedIn entries.now inside.now D) numbers.now) }
 {
     let mut all = Vec::new(alloc);
     for at in numbers {
-        add_declared(&mut all, entries, &paths[*at])?;
+        add_declared(&mut all, entries, &inside[*at])?;
     }
     Ok(all)
 }

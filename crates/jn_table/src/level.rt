@@ -2,6 +2,7 @@ ghost use Rattle.std.specs.Prelude.{◌≡◌, ◌<◌, ℕ, All, IsTrue, IfOk, 
 ghost use Rattle.jn_base.specs.declared.tree.Name.{Name as AName};
 ghost use Rattle.jn_reach.specs.Graph.{Lists};
 ghost use Rattle.jn_table.specs.Exact.{IsNextOf, IsRoot};
+ghost use Rattle.jn_table.specs.Gather.{AreInside};
 ghost use Rattle.jn_table.specs.Level.{DirectBy, DirectByAt, DirectRow, DirectRows, ChildPaths, IsShaped};
 
 use crate::entry::Entry;
@@ -61,15 +62,17 @@ fn direct_row(
     alloc: Global,
     entries: &[Entry],
     level: &Level,
+    inside: &[Vec<usize>],
     children: &[Child],
     heir: &Child,
 ) -> Result<Vec<usize>, AllocError>
     requires shaped { IsShaped level.now }
+    requires inside { AreInside entries.now level.now.paths.items inside.now }
     requires heir { heir.now.up < length level.now.paths.items }
     ensures row { IfOk result (λ row. DirectRow entries.now level.now children.now heir.now row.items) }
 {
     let sups = &level.sups[heir.up];
-    let written = parts(alloc, entries, &level.paths, sups, heir.name, Part::Extends)?;
+    let written = parts(alloc, entries, inside, sups, heir.name, Part::Extends)?;
     let row = supers_of(alloc, &written, &level.direct[heir.up], children, heir)?;
     Ok(row)
 }
@@ -79,15 +82,17 @@ fn direct_rows(
     alloc: Global,
     entries: &[Entry],
     level: &Level,
+    inside: &[Vec<usize>],
     children: &[Child],
 ) -> Result<Vec<Vec<usize>>, AllocError>
     requires shaped { IsShaped level.now }
+    requires inside { AreInside entries.now level.now.paths.items inside.now }
     requires children { All (λ child. child.up < length level.now.paths.items) children.now }
     ensures rows { IfOk result (λ rows. DirectRows entries.now level.now children.now children.now rows.items) }
 {
     let mut rows = Vec::new(alloc);
     for heir in children {
-        let row = direct_row(alloc, entries, level, children, heir)?;
+        let row = direct_row(alloc, entries, level, inside, children, heir)?;
         rows.push(row)?;
     }
     Ok(rows)
@@ -111,16 +116,18 @@ pub fn next(
     alloc: Global,
     entries: &[Entry],
     level: &Level,
+    inside: &[Vec<usize>],
     children: &[Child],
 ) -> Result<Level, AllocError>
     requires shaped { IsShaped level.now }
+    requires inside { AreInside entries.now level.now.paths.items inside.now }
     requires children { All (λ child. child.up < length level.now.paths.items) children.now }
     ensures shaped { IfOk result (λ below. IsShaped below) }
     ensures paths { IfOk result (λ below. ChildPaths level.now.paths.items children.now below.paths.items) }
     ensures exact { IfOk result (λ below. IsNextOf entries.now level.now children.now below) }
 {
     let paths = child_paths(alloc, level, children)?;
-    let direct = direct_rows(alloc, entries, level, children)?;
+    let direct = direct_rows(alloc, entries, level, inside, children)?;
     let sups = closure(alloc, &direct)?;
     Ok(Level {
         paths,

@@ -15,6 +15,7 @@ struct Top {
 }
 
 const CLASS: Kind = Kind::Class;
+
 const PACKAGE: Kind = Kind::Package;
 
 fn named(number: u32) -> Named {
@@ -56,11 +57,7 @@ fn texts(alloc: Global, names: &[&str]) -> Result<Items<Text>, AllocError> {
     Ok(all)
 }
 
-fn program(
-    alloc: Global,
-    names: &[&str],
-    decls: &[Top],
-) -> Result<Program, AllocError> {
+fn program(alloc: Global, names: &[&str], decls: &[Top]) -> Result<Program, AllocError> {
     let mut all = Items::new(alloc);
     for top in decls {
         all.push(with_inner(alloc, &top.shape, top.inner)?)?;
@@ -156,7 +153,12 @@ fn answer(alloc: Global, program: &Program) -> Result<(&'static str, usize, Opti
 #[test]
 fn answers_of_small_programs(rt: HostRuntime) -> Result<(), Fail> {
     let rows: [(&[Top], &str, usize, &[Name]); 5] = [
-        (&[FIRST, SECOND, COMPOSED, MAIN], "Cycle", 0, &[Name(2), Name(3)]),
+        (
+            &[FIRST, SECOND, COMPOSED, MAIN],
+            "Cycle",
+            0,
+            &[Name(2), Name(3)],
+        ),
         (&[FIRST, SECOND, MAIN], "Ok", 7, &[]),
         (&FOUR, "Cycle", 0, &[Name(8), Name(3)]),
         (&[BASE, KINDS], "Kind", 0, &[Name(1), Name(3)]),

@@ -32,17 +32,17 @@ returns-then-is_empty-clause-exact c =
     (no_items _ (omega (arith, no_length _ _ c.is_empty.ensures c.if-is_empty.true, c.in_ok-members.members.ok.0)))
 
 pub next-requires-clause-children : goal.next-requires-clause-children
-next-requires-clause-children c = rw c.deref.ensures.value (front_within _ _ _ _ _ _ c.in_ok-members.ensures)
+next-requires-clause-children c = rw c.deref-in-loop-level-3.ensures.value (front_within _ _ _ _ _ _ c.in_ok-members.ensures)
 
 pub add_level-requires-clause-few : goal.add_level-requires-clause-few
 add_level-requires-clause-few c =
     stage_few c.args.entries.now c.args.order.now _ _ c.in_ok-below.below c.loop-level.room c.in_ok-members.members.items c.loop-level.invariant
-    (omega (arith, c.if-len-room.false, c.len.ensures, c.in_ok-members.members.ok.0)) (rw c.deref.ensures.value at c.in_ok-below.ensures.paths)
+    (omega (arith, c.if-len-room.false, c.len.ensures, c.in_ok-members.members.ok.0)) (rw c.deref-in-loop-level-3.ensures.value at c.in_ok-below.ensures.paths)
 
 pub loop-level-preserved : goal.loop-level-preserved
 loop-level-preserved c =
     stage_next c.args.entries.now c.args.order.now _ _ _ _ c.loop-level.room _ c.loop-level.invariant c.in_ok-members.ensures
     (omega (arith, c.if-len-room.false, c.len.ensures, c.in_ok-members.members.ok.0))
-    c.in_ok-below.ensures.shaped (rw c.deref.ensures.value at c.in_ok-below.ensures.paths)
-    (rw c.deref.ensures.value at c.in_ok-below.ensures.exact) c.in_ok-add_level.ensures _
+    c.in_ok-below.ensures.shaped (rw c.deref-in-loop-level-3.ensures.value at c.in_ok-below.ensures.paths)
+    (rw c.deref-in-loop-level-3.ensures.value at c.in_ok-below.ensures.exact) c.in_ok-add_level.ensures _
     (omega (arith, c.if-len-room.false, c.len.ensures, c.len-room.ensures, c.in_ok-members.members.ok.0))
