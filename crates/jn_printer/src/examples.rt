@@ -1,6 +1,7 @@
 //! Expressions and texts worked out by the definitions.
 
 ghost use Rattle.jn_printer.specs.EscapeLaw.{EscapedReads};
+ghost use Rattle.jn_printer.specs.OperandLaw.{OperandLaw};
 ghost use Rattle.jn_printer.specs.Examples.{ChainExamples, PartExamples, EscapeExample};
 
 /// Chains as operands of chains.
@@ -21,4 +22,10 @@ pub fn escapes()
 /// What is written between the quotes of a text reads as the text.
 pub fn escapes_read()
     ensures { EscapedReads }
+{}
+
+/// An expression stands without parentheses at the place of a symbol where its own symbol is an instance of that one, and
+/// nowhere else.
+pub fn operands()
+    ensures { OperandLaw }
 {}

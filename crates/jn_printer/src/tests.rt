@@ -128,4 +128,5 @@ fn each_example_holds() {
     crate::examples::parts();
     crate::examples::escapes();
     crate::examples::escapes_read();
+    crate::examples::operands();
 }
