@@ -1,5 +1,5 @@
 -- The symbols of expressions are those of the grammar.
-use Rattle.std.proofs.Common.{◌≡◌, ℕ, zero, suc, ◌+◌, ◌≤◌, Bool, true, false, List, [], ◌∷◌, ◌++◌, nat_le, refl, sym, ap, subst, ◌∙◌, append-nil, arith, ◌⊎◌, inl, inr}
+use Rattle.std.proofs.Common.{◌≡◌, ℕ, suc, ◌≤◌, true, false, List, [], ◌∷◌, ◌++◌, nat_le, refl, sym, ap, subst, ◌∙◌, append-nil, arith, ◌⊎◌, inl, inr}
 use Rattle.std.proofs.lemmas.Bool.Decides.{nat_tests}
 use Rattle.jn_base.specs.declared.tree.Place.{Place}
 use Rattle.jn_base.specs.declared.tree.Expr.{Expr}
@@ -9,8 +9,8 @@ use Rattle.jn_base.specs.declared.tree.Level.{Level}
 use Rattle.jn_base.specs.declared.tree.Level.TheVariants as level
 use Rattle.jn_base.specs.declared.tree.Node.TheVariants as node
 use Rattle.jn_base.specs.declared.tree.Node.TheVariants.{outs-Int, outs-Bool, outs-Null, outs-This, outs-Var, outs-New, outs-Super, outs-Post, outs-Not, outs-Neg, outs-View, outs-Chain}
-use Rattle.jn_base.specs.Parts.{Part, expr, posted, chained}
-use Rattle.jn_base.specs.GrammarExpr.{IsForm, new_object, super_call, IsPrim, constant, yes, no, null, this_object, variable, parens, form, IsSuffixes, no_suffix, then_suffix, IsPost, post, IsUnary, inverse, negative, viewed, unsigned, IsProduct, product, no_factor, then_factor, IsSum, sum, no_summand, then_summand, IsComparison, one_sum, two_sums, IsEquality, one_side, two_sides, IsConjunction, conjunction, no_conjunct, then_conjunct, IsExpr, disjunction, no_disjunct, then_disjunct}
+use Rattle.jn_base.specs.Parts.{Part}
+use Rattle.jn_base.specs.GrammarExpr.{IsForm, new_object, super_call, IsPrim, constant, yes, no, null, this_object, variable, parens, form, no_suffix, then_suffix, IsPost, post, IsUnary, inverse, negative, viewed, unsigned, IsProduct, product, no_factor, then_factor, IsSum, sum, no_summand, then_summand, IsComparison, one_sum, two_sums, IsEquality, one_side, two_sides, IsConjunction, conjunction, no_conjunct, then_conjunct, IsExpr, disjunction, no_disjunct, then_disjunct}
 use Rattle.jn_printer.specs.declared.symbol.Symbol.{Symbol}
 use Rattle.jn_printer.specs.declared.symbol.Symbol.TheVariants as symbol
 use Rattle.jn_printer.specs.ExprText.{tightness, is_instance, chain_symbol, symbol_of, symbol_at}
