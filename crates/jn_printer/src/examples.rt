@@ -1,7 +1,8 @@
-//! Expressions and texts worked out by the definitions.
+//! Expressions and texts worked out by the definitions, and what is proved of the definitions.
 
 ghost use Rattle.jn_printer.specs.EscapeLaw.{EscapedReads};
 ghost use Rattle.jn_printer.specs.OperandLaw.{OperandLaw};
+ghost use Rattle.jn_printer.specs.WayBack.{PlacesUnseen};
 ghost use Rattle.jn_printer.specs.Examples.{ChainExamples, PartExamples, EscapeExample};
 
 /// Chains as operands of chains.
@@ -24,8 +25,13 @@ pub fn escapes_read()
     ensures { EscapedReads }
 {}
 
-/// An expression stands without parentheses at the place of a symbol where its own symbol is an instance of that one, and
-/// nowhere else.
+/// Where an expression stands at the place of a symbol, its own symbol is an instance of that one, or it stands in
+/// parentheses; and an instance of a symbol is one of each looser symbol.
 pub fn operands()
     ensures { OperandLaw }
+{}
+
+/// Programs that are the same but for places have one canonical text.
+pub fn places_unseen()
+    ensures { PlacesUnseen }
 {}

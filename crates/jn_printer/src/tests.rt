@@ -129,4 +129,5 @@ fn each_example_holds() {
     crate::examples::escapes();
     crate::examples::escapes_read();
     crate::examples::operands();
+    crate::examples::places_unseen();
 }
