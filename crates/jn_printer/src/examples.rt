@@ -3,7 +3,7 @@
 ghost use Rattle.jn_printer.specs.EscapeLaw.{EscapedReads};
 ghost use Rattle.jn_printer.specs.OperandLaw.{OperandLaw};
 ghost use Rattle.jn_printer.specs.WayBack.{PlacesUnseen};
-ghost use Rattle.jn_printer.specs.Examples.{ChainExamples, PartExamples, EscapeExample};
+ghost use Rattle.jn_printer.specs.Examples.{ChainExamples, PartExamples, StmtExamples, PlaceExamples, EscapeExample};
 
 /// Chains as operands of chains.
 pub fn chains()
@@ -13,6 +13,16 @@ pub fn chains()
 /// Prefix operators, views, and what stands behind a dot.
 pub fn parts()
     ensures { PartExamples }
+{}
+
+/// Statements whose text drops or keeps parentheses, and an `else` with nothing in it.
+pub fn statements()
+    ensures { StmtExamples }
+{}
+
+/// Trees that are the same but for places, and two that are not.
+pub fn places()
+    ensures { PlaceExamples }
 {}
 
 /// The escapes of a text.
