@@ -22,3 +22,4 @@ pub mod LimitsIn
 pub mod TheWayBack
 pub mod PlacesUnseen
 pub mod TextUnseen
+pub mod OperandProof

@@ -34,6 +34,16 @@ record SplitAt (front : List Part) (before behind : List Lexeme) (u : Lexeme) : 
   words : map lexeme_of head ≡ before
   word_is : lexeme_of here ≡ u
 
+split_on : (t : Part) (front : List Part) (b : Lexeme) (before behind : List Lexeme) (u : Lexeme) → lexeme_of t ≡ b → SplitAt front before behind u → SplitAt (t ∷ front) (b ∷ before) behind u
+split_on t front b before behind u h s = record {
+  head = t ∷ s.head;
+  here = s.here;
+  tail = s.tail;
+  split = ap (λ (x : List Part). t ∷ x) s.split;
+  words = ap₂ (λ (x : Lexeme) (xs : List Lexeme). x ∷ xs) h s.words;
+  word_is = s.word_is;
+}
+
 split_at : (front : List Part) (before behind : List Lexeme) (u : Lexeme) → map lexeme_of front ≡ before ++ u ∷ behind → SplitAt front before behind u
 split_at [] [] behind u e = absurd (cc)
 split_at [] (b ∷ before) behind u e = absurd (cc)
@@ -41,8 +51,7 @@ split_at (t ∷ front) [] behind u e = let h : lexeme_of t ≡ u = cc in record 
 split_at (t ∷ front) (b ∷ before) behind u e =
     let h : lexeme_of t ≡ b = cc in
     let r : map lexeme_of front ≡ before ++ u ∷ behind = cc in
-    let s = split_at front before behind u r in
-    record { head = t ∷ s.head; here = s.here; tail = s.tail; split = ap (λ (x : List Part). t ∷ x) s.split; words = ap₂ (λ (x : Lexeme) (xs : List Lexeme). x ∷ xs) h s.words; word_is = s.word_is }
+    split_on t front b before behind u h (split_at front before behind u r)
 
 module _ (names_ texts : List Text) (source : List ℕ) (parts : List Part) (decls : List Decl) (is_program : IsProgram parts decls)
     (are_words : AreWordsOf source names_ texts (map lexeme_of parts)) (never : (r : Refusal) → IsTextRefused source r → ⊥) where

@@ -130,11 +130,13 @@ spelled_by : (q : Program) (source : List ℕ) (t : IsTextOf q source) (w : List
 spelled_by q source t w p e l = record {
   spelled = record { names = q.names; texts = q.texts; decls = l.is.0 };
   same = ap (λ (ds : List Decl). record { names = q.names; texts = q.texts; decls = ds }) l.is.2;
-  parts = l.parts ++ end_of_file (place_of (program_text q) (length (program_text q))) ∷ [];
-  are_words =
-      words_made q (program_text q) l.parts (lexed_of q.names q.texts (program_text q) l.written [] refl refl)
-      (numbered_names q source t l.parts w p e l.alike) (numbered_texts q source t l.parts w p e l.alike);
-  is_program = tops_end l.is.1 (place_of (program_text q) (length (program_text q)));
+  spells = record {
+    parts = l.parts ++ end_of_file (place_of (program_text q) (length (program_text q))) ∷ [];
+    are_words =
+        words_made q (program_text q) l.parts (lexed_of q.names q.texts (program_text q) l.written [] refl refl)
+        (numbered_names q source t l.parts w p e l.alike) (numbered_texts q source t l.parts w p e l.alike);
+    is_program = tops_end l.is.1 (place_of (program_text q) (length (program_text q)));
+  };
   counted = all_counted (l.parts ++ end_of_file (place_of (program_text q) (length (program_text q))) ∷ []) (low_on l.parts (place_of (program_text q) (length (program_text q))) l.low);
   few_masks = masks_few q source t l.parts w p (place_of (program_text q) (length (program_text q))) e l.alike;
   few_names = names_few q source t w p e;
@@ -150,9 +152,7 @@ same_within : (p q : Program) (bytes : List ℕ) → unplaced q ≡ unplaced p �
 same_within p q bytes h b = record {
   spelled = b.spelled;
   same = b.same ∙ h;
-  parts = b.parts;
-  are_words = b.are_words;
-  is_program = b.is_program;
+  spells = b.spells;
   counted = b.counted;
   few_masks = b.few_masks;
   few_names = b.few_names;

@@ -13,10 +13,13 @@ use Rattle.jn_base.specs.declared.tree.Op.TheVariants as op
 use Rattle.jn_base.specs.declared.tree.Expr.{Expr}
 use Rattle.jn_base.specs.declared.tree.Suffix.{Suffix}
 use Rattle.jn_base.specs.declared.tree.Node.TheVariants as node
+use Rattle.jn_base.specs.declared.tree.Stmt.{Stmt}
+use Rattle.jn_base.specs.declared.tree.Stmt.TheVariants as stmt
 use Rattle.jn_base.specs.Parts.{named, term, expr, suffix, link}
 use Rattle.jn_printer.specs.declared.symbol.Symbol.TheVariants as symbol
 use Rattle.jn_printer.specs.ExprText.{expr_text}
-use Rattle.jn_printer.specs.StmtText.{escaped}
+use Rattle.jn_printer.specs.StmtText.{escaped, stmt_text}
+use Rattle.jn_printer.specs.Unplaced.{unplaced_expr}
 
 abbrev pub here : Place
 here = record { line = 1; column = 1 }
@@ -97,3 +100,27 @@ pub record PartExamples : Type 0 where
 -- The three escapes, and a character of two bytes.
 abbrev pub EscapeExample : Type 0
 EscapeExample = escaped (34 ∷ 92 ∷ 10 ∷ 195 ∷ 164 ∷ []) ≡ 92 ∷ 34 ∷ 92 ∷ 92 ∷ 92 ∷ 110 ∷ 195 ∷ 164 ∷ []
+
+abbrev pub stated : Stmt → List ℕ
+stated t = stmt_text names [] t []
+
+-- What stands in front of the last name of `E.f = E;`, and an `else` with nothing in it.
+pub record StmtExamples : Type 0 where
+  pub set : stated (stmt.Set a (named (called 3) here) b) ≡ codes "a.f = b;"
+  pub set_of_part : stated (stmt.Set (part a field) (named (called 3) here) b) ≡ codes "a.f.f = b;"
+  pub set_of_parts : stated (stmt.Set (part (part a field) field) (named (called 3) here) b) ≡ codes "(a.f).f.f = b;"
+  pub set_of_sum : stated (stmt.Set (two level.Sum op.Add a b) (named (called 3) here) c) ≡ codes "(a + b).f = c;"
+  pub empty_else : stated (stmt.If a [] [] here) ≡ codes "if (a) {\n}"
+  pub other_block : stated (stmt.If a [] (stmt.Block [] ∷ []) here) ≡ codes "if (a) {\n} else {\n  {\n  }\n}"
+
+abbrev pub there : Place
+there = record { line = 7; column = 9 }
+
+-- a + b with places of its own
+abbrev pub sum_at : Place → Place → Expr
+sum_at p q = expr p (node.Chain level.Sum (expr p (node.Var (called 0))) (link op.Add q (expr q (node.Var (called 1))) ∷ []))
+
+-- Places are not seen, and names are.
+pub record PlaceExamples : Type 0 where
+  pub same : unplaced_expr (sum_at here there) ≡ unplaced_expr (sum_at there here)
+  pub differs : unplaced_expr a ≡ unplaced_expr b → ⊥

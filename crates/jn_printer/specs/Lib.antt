@@ -6,3 +6,4 @@ pub mod Examples
 pub mod EscapeLaw
 pub mod Unplaced
 pub mod WayBack
+pub mod OperandLaw

@@ -2,7 +2,8 @@
 //!
 //! What it is, the definitions in specs/ say: `program_text` in specs/DeclText.antt, with statements in
 //! specs/StmtText.antt, expressions in specs/ExprText.antt, and names, terms and types in
-//! specs/Pieces.antt. Each line is indented by two spaces for each open brace.
+//! specs/Pieces.antt. Each line is indented by two spaces for each open brace. That it is a source of the
+//! program again, specs/WayBack.antt says, by the definitions of tokens and grammar alone.
 #![tactic(auto)]
 
 ghost use Rattle.std.specs.Prelude.{◌≡◌, IfOk};
@@ -26,10 +27,11 @@ use std::alloc::{AllocError, Global};
 /// The canonical text of a program.
 ///
 /// A name or a text that the program has not prints nothing, and a number below zero, which no source
-/// has, is printed with its sign.
+/// has, is printed with its sign. The text of a program that some source spells without passing a limit
+/// is itself a source of that program, but for places, and passes no limit.
 pub fn print_program(alloc: Global, p: &Program) -> Result<Vec<u8>, AllocError>
     ensures text { IfOk result (λ r. r.items ≡ program_text p.now) }
-    // Of a program within the limits it is a source, the same program but for places, and within the limits.
+    // The text of a program within the limits spells it but for places, and is within them.
     ensures back { IfOk result (λ r. WayBack p.now r.items) }
 {
     let names = p.names.as_slice();

@@ -126,6 +126,10 @@ fn a_program_in_its_canonical_text(rt: HostRuntime) -> Result<(), Fail> {
 fn each_example_holds() {
     crate::examples::chains();
     crate::examples::parts();
+    crate::examples::statements();
+    crate::examples::places();
     crate::examples::escapes();
     crate::examples::escapes_read();
+    crate::examples::operands();
+    crate::examples::places_unseen();
 }
