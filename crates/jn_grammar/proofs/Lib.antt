@@ -21,3 +21,4 @@ pub mod Finish
 pub mod Finishes
 pub mod Whole
 pub mod WholeInners
+pub mod Examples

@@ -2,6 +2,8 @@ pub mod Begins
 pub mod Answers
 pub mod ReadTypes
 pub mod ReadExprs
+pub mod ReadStmts
+pub mod ReadDecls
 pub mod Expected
 pub mod Places
 pub mod ReadWhole

@@ -4,6 +4,7 @@ use Rattle.jn_base.specs.declared.tree.Place.{Place}
 use Rattle.jn_base.specs.declared.tree.Expr.{Expr as ExprTree}
 use Rattle.jn_base.specs.declared.tree.TypeTerm.{TypeTerm}
 use Rattle.jn_base.specs.declared.tree.ViewTerm.{ViewTerm}
+use Rattle.jn_base.specs.declared.tree.Decl.{Decl}
 use Rattle.jn_base.specs.declared.word.Word.TheVariants.{End}
 use Rattle.jn_base.specs.declared.word.Lexeme.{Lexeme}
 use Rattle.jn_base.specs.Parts.{Part, end_of_file}
@@ -12,6 +13,7 @@ use Rattle.jn_base.specs.GrammarExpr.{IsExpr}
 use Rattle.jn_grammar.specs.Answers.{Answer, ◌>>=◌, here, expect}
 use Rattle.jn_grammar.specs.ReadTypes.{type_in, view_in}
 use Rattle.jn_grammar.specs.ReadExprs.{expr_in, level}
+use Rattle.jn_grammar.specs.ReadDecls.{tops_in}
 use Rattle.jn_grammar.specs.Expected.{Symbol, EndOfFile}
 
 -- `Is p w x`: the words w, which begin at p, have the tree x.
@@ -64,3 +66,7 @@ inner_view strict left ts = view_in left ts
 
 abbrev pub whole_view_in : List Lexeme → Answer ViewTerm
 whole_view_in = whole_in inner_view true 200
+
+-- ---- programs
+abbrev pub program_in : List Lexeme → Answer (List Decl)
+program_in = whole_in tops_in true 200

@@ -6,6 +6,7 @@
 
 pub mod fault;
 pub mod laws;
+pub mod shape;
 
 #[cfg(test)]
 mod tests {
