@@ -12,7 +12,6 @@ use Rattle.jn_lexer.specs.declared.front.Flaw.TheVariants as flaw
 use Rattle.jn_lexer.specs.declared.front.Piece.{Piece}
 use Rattle.jn_lexer.specs.declared.front.Piece.TheVariants.{Gap, Token, Fault}
 use Rattle.jn_lexer.specs.Front.{fault_at, front}
-use Rattle.jn_lexer.specs.Lexing.{IsFaultIn}
 use Rattle.jn_lexer.proofs.Stands.{Stands}
 use Rattle.jn_lexer.proofs.Stands as stands
 use Rattle.jn_lexer.proofs.FrontFound.{front_stands}
@@ -139,12 +138,6 @@ place_within {cs} {passed = passed} {after = after} {end = end} s p =
     let e : end + width after ≡ width cs = passes_place cs p s.place in
     (omega arith, omega (arith, p.end_is))
 
--- the fault, as what is answered says it
-pub fault_in : (cs : List ℕ) (g : Flaw) (at : ℕ) (ts : List Lexed) (f : LexFault) → Lexes 0 cs ts (Some (fault_at g at)) → f ≡ fault_at g at → IsFaultIn cs f
-fault_in cs g at ts f l e = subst (IsFaultIn cs) (sym e) (by_flaw g l)
-  where
-    by_flaw : (g : Flaw) → Lexes 0 cs ts (Some (fault_at g at)) → IsFaultIn cs (fault_at g at)
-    by_flaw flaw.BadChar l = (ts, l)
-    by_flaw flaw.BadNumber l = (ts, l)
-    by_flaw flaw.OpenComment l = (ts, l)
-    by_flaw flaw.OpenText l = (ts, l)
+-- up to the fault that is given
+pub faulty : (cs : List ℕ) (found : List Lexed) (g : Flaw) (at : ℕ) (f : LexFault) → Lexes 0 cs (found ++ []) (Some (fault_at g at)) → f ≡ fault_at g at → Lexes 0 cs found (Some f)
+faulty cs found g at f l e = subst (λ h. Lexes 0 cs found (Some h)) (sym e) (subst (λ (xs : List Lexed). Lexes 0 cs xs (Some (fault_at g at))) (append-nil found) l)

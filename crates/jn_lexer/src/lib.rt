@@ -9,7 +9,7 @@ ghost use Rattle.std.specs.Str.{IsUtf8, chars};
 ghost use Rattle.jn_base.specs.Tokens.{width, Lexes, TokensOf};
 ghost use Rattle.jn_base.specs.declared.token.Token.{Token as Lexed};
 ghost use Rattle.jn_base.specs.declared.token.LexFault.{LexFault as Faulty};
-ghost use Rattle.jn_lexer.specs.Lexing.{IsAnswer, IsFaultIn, IsFaultOf, AreInOrder};
+ghost use Rattle.jn_lexer.specs.Lexing.{IsAnswer, IsFaultOf, AreInOrder};
 
 mod front;
 #[cfg(test)]
@@ -38,6 +38,31 @@ pub fn tokens(alloc: Global, bytes: &[u8]) -> Result<Vec<Token>, LexFault>
     // So each token's text is a slice of the bytes, and the slices are in order.
     ensures in_order { IfOk result (λ v. AreInOrder 0 v.items (length bytes.now)) }
 {
+    let Scanned { tokens, fault } = scan(alloc, bytes)?;
+    match fault {
+        None => Ok(tokens),
+        Some(fault) => Err(fault),
+    }
+}
+
+/// The tokens of a source up to its first fault, or up to its end.
+#[derive(Debug, Drop)]
+pub struct Scanned {
+    pub tokens: Vec<Token>,
+    pub fault: Option<LexFault>,
+}
+
+/// The tokens of a source up to its first fault, with that fault, or up to its end.
+pub fn scan(alloc: Global, bytes: &[u8]) -> Result<Scanned, AllocError>
+    requires utf8 { IsUtf8 bytes.now }
+    requires within { length bytes.now ≤ 1_048_576 }
+
+    // They are those of the bytes.
+    ensures found { IfOk result (λ s. TokensOf bytes.now s.tokens.items s.fault) }
+
+    // Each token's text is a slice of the bytes, and the slices are in order.
+    ensures in_order { IfOk result (λ s. AreInOrder 0 s.tokens.items (length bytes.now)) }
+{
     let characters = characters(alloc, bytes)?;
     pieces(alloc, characters.as_slice())
 }
@@ -53,13 +78,12 @@ fn characters(alloc: Global, bytes: &[u8]) -> Result<Vec<char>, AllocError>
     }
 }
 
-/// The tokens of characters, or the first fault in them.
-fn pieces(alloc: Global, cs: &[char]) -> Result<Vec<Token>, LexFault>
+/// The tokens of characters up to the first fault in them.
+fn pieces(alloc: Global, cs: &[char]) -> Result<Scanned, AllocError>
     requires { width cs.now < 2 ^ 32 }
-    ensures found { IfOk result (λ v. Lexes 0 cs.now v.items None) }
-    ensures fault { IfErr result (λ f. IsFaultIn cs.now f) }
+    ensures { IfOk result (λ s. Lexes 0 cs.now s.tokens.items s.fault) }
 {
-    let mut found = Vec::new(alloc);
+    let mut tokens = Vec::new(alloc);
     let mut at: u32 = 0;
     let mut rest = cs;
     while !rest.is_empty() {
@@ -68,15 +92,19 @@ fn pieces(alloc: Global, cs: &[char]) -> Result<Vec<Token>, LexFault>
         let end = at + width(passed);
         match piece {
             Piece::Gap(_) => {}
-            Piece::Token(kind, _) => found.push(Token {
+            Piece::Token(kind, _) => tokens.push(Token {
                 kind,
                 start: at,
                 end,
             })?,
-            Piece::Fault(flaw, _) => return Err(flaw.at(end)),
+            Piece::Fault(flaw, _) => {
+                let fault = Some(flaw.at(end));
+                return Ok(Scanned { tokens, fault });
+            }
         }
         at = end;
         rest = after;
     }
-    Ok(found)
+    let fault = None;
+    Ok(Scanned { tokens, fault })
 }

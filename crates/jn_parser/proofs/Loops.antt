@@ -4,7 +4,10 @@ use Rattle.std.proofs.lemmas.List.{append-nil}
 use Rattle.jn_base.specs.declared.word.Lexeme.{Lexeme}
 use Rattle.jn_grammar.specs.declared.fault.Fault.{Fault}
 use Rattle.jn_grammar.specs.Answers.{Answer, ◌>>=◌, many}
+use Rattle.jn_grammar.specs.ReadTypes.{term_in}
 use Rattle.jn_grammar.specs.ReadExprs.{level, closed, inside}
+use Rattle.jn_grammar.specs.ReadStmts.{counting, in_body}
+use Rattle.jn_grammar.specs.ReadDecls.{in_file}
 use Rattle.jn_grammar.proofs.Meets.{if_true, if_false}
 use Rattle.jn_parser.specs.declared.fault.Stop.{Stop}
 use Rattle.jn_parser.specs.declared.fault.Stop.TheVariants as stop
@@ -84,3 +87,63 @@ pub level_some : (n : ℕ) → (n ≡ 0 → ⊥) → level n ≡ inside (n - 1) 
 unfolding level
 level_some zero e = absurd (e refl)
 level_some (suc n) e = let one : suc n - 1 ≡ n = omega arith in ap (λ m. inside m (level m)) (sym one)
+
+pub term_at_is : (n : ℕ) (ts : List Lexeme) → (level n).term_at ts ≡ term_in n ts
+unfolding level
+term_at_is zero ts = refl
+term_at_is (suc n) ts = refl
+
+-- ---- rows whose items hand on a count
+
+abbrev pub with_counted : {A : Type 0} → List A → Answer (List A × ℕ) → Answer (List A × ℕ)
+with_counted found r = r >>= λ x. Ok ((found ++ x.0.0, x.0.1), x.1)
+
+abbrev pub Counting : {A : Type 0} → (List Lexeme → Bool) → (ℕ → List Lexeme → Answer (A × ℕ)) → ℕ → List A → List Lexeme → Answer (List A × ℕ) → Type 0
+Counting more item k found rest answer = (clock : ℕ) × (length rest ≤ clock) × (with_counted found (counting more item clock k rest) ≡ answer)
+
+pub count_starts : {A : Type 0} (more : List Lexeme → Bool) (item : ℕ → List Lexeme → Answer (A × ℕ)) (k : ℕ) (ts : List Lexeme) → Counting more item k [] ts (counting more item (length ts) k ts)
+count_starts {A} more item k ts = (length ts, omega arith, by_answer (counting more item (length ts) k ts))
+  where
+    by_answer : (r : Answer (List A × ℕ)) → with_counted [] r ≡ r
+    by_answer (Ok x) = refl
+    by_answer (Err f) = refl
+
+pub count_goes : {A : Type 0} (more : List Lexeme → Bool) (item : ℕ → List Lexeme → Answer (A × ℕ)) (k : ℕ) (found : List A) (rest : List Lexeme) (answer : Answer (List A × ℕ)) (x : A) (j : ℕ) (after : List Lexeme)
+    → more rest ≡ true → item k rest ≡ Ok ((x, j), after) → length after < length rest → Counting more item k found rest answer → Counting more item j (found ++ x ∷ []) after answer
+unfolding counting
+count_goes more item k found rest answer x j after m i less (zero, fits, eq) = absurd (omega arith)
+count_goes {A} more item k found rest answer x j after m i less (suc clock, fits, eq) =
+    (clock, omega arith, sym (by_answer (counting more item clock j after)) ∙ sym (ap (λ r. with_counted found r) opened) ∙ eq)
+  where
+    by_answer : (r : Answer (List A × ℕ)) → with_counted found (r >>= λ others. Ok ((x ∷ others.0.0, others.0.1), others.1)) ≡ with_counted (found ++ x ∷ []) r
+    by_answer (Ok y) = ap (λ (ys : List A). Ok ((ys, y.0.1), y.1)) (sym (append_assoc found (x ∷ []) y.0.0))
+    by_answer (Err f) = refl
+
+    opened : counting more item (suc clock) k rest ≡ (counting more item clock j after >>= λ others. Ok ((x ∷ others.0.0, others.0.1), others.1))
+    opened = if_true (more rest) _ _ m ∙ ap (λ r. r >>= λ y. counting more item clock y.0.1 y.1 >>= λ others. Ok ((y.0.0 ∷ others.0.0, others.0.1), others.1)) i
+
+pub count_ends : {A : Type 0} (more : List Lexeme → Bool) (item : ℕ → List Lexeme → Answer (A × ℕ)) (k : ℕ) (found : List A) (rest : List Lexeme) (answer : Answer (List A × ℕ))
+    → more rest ≡ false → Counting more item k found rest answer → answer ≡ Ok ((found, k), rest)
+unfolding counting
+count_ends {A} more item k found rest answer m (zero, fits, eq) = sym eq ∙ ap (λ (xs : List A). Ok ((xs, k), rest)) (append-nil found)
+count_ends {A} more item k found rest answer m (suc clock, fits, eq) = sym eq ∙ ap (λ r. with_counted found r) (if_false (more rest) _ _ m) ∙ ap (λ (xs : List A). Ok ((xs, k), rest)) (append-nil found)
+
+count_fails : {A : Type 0} (more : List Lexeme → Bool) (item : ℕ → List Lexeme → Answer (A × ℕ)) (k : ℕ) (found : List A) (rest : List Lexeme) (answer : Answer (List A × ℕ)) (f : Fault)
+    → more rest ≡ true → item k rest ≡ Err f → (0 < length rest) → Counting more item k found rest answer → answer ≡ Err f
+unfolding counting
+count_fails more item k found rest answer f m i some (zero, fits, eq) = absurd (omega arith)
+count_fails more item k found rest answer f m i some (suc clock, fits, eq) =
+    sym eq ∙ ap (λ r. with_counted found r) (if_true (more rest) _ _ m ∙ ap (λ r. r >>= λ y. counting more item clock y.0.1 y.1 >>= λ others. Ok ((y.0.0 ∷ others.0.0, others.0.1), others.1)) i)
+
+pub count_error : {A : Type 0} (more : List Lexeme → Bool) (item : ℕ → List Lexeme → Answer (A × ℕ)) (k : ℕ) (found : List A) (rest : List Lexeme) (answer : Answer (List A × ℕ)) (e : Stop)
+    → more rest ≡ true → FailsAs e (item k rest) → (0 < length rest) → Counting more item k found rest answer → FailsAs e answer
+count_error more item k found rest answer stop.Memory m i some inv = tt
+count_error more item k found rest answer (stop.Refused f) m i some inv = count_fails more item k found rest answer f m i some inv
+
+pub body_there : (ts : List Lexeme) → in_body ts ≡ true → 0 < length ts
+body_there [] h = cc
+body_there (t ∷ ts) h = omega arith
+
+pub file_there : (ts : List Lexeme) → in_file ts ≡ true → 0 < length ts
+file_there [] h = cc
+file_there (t ∷ ts) h = omega arith

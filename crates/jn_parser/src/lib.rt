@@ -2,7 +2,10 @@
 #![tactic(auto)]
 
 mod cursor;
+mod decl;
+mod expr;
 mod fault;
+mod stmt;
 mod types;
 
 pub use fault::ParseFault;

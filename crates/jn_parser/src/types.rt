@@ -4,7 +4,7 @@ ghost use Rattle.std.specs.Prelude.{◌≡◌, ◌∷◌, ℕ, true, IfOk};
 ghost use Rattle.jn_grammar.specs.ReadTypes.{dot_in, dots_in, bang_in, names_in, tail_in, ref_in, class_in, own_in, prefix_in, after_names_in, name_or_class_in, after_name_in, term_in, mask_in, masks_in, view_in, begins_term, atom_in, next_atom_in, atoms_in, class_type_in, type_in};
 ghost use Rattle.jn_base.specs.declared.word.Mark.TheVariants.{Ampersand};
 ghost use Rattle.jn_base.specs.declared.word.Word.TheVariants as words;
-ghost use Rattle.jn_base.specs.Parts as parts;
+ghost use Rattle.jn_base.specs.Parts as grammar;
 ghost use Rattle.jn_grammar.specs.Answers.{row};
 ghost use Rattle.jn_grammar.specs.Begins.{begins};
 ghost use Rattle.jn_parser.specs.Giving.{Gives};
@@ -138,7 +138,7 @@ fn own(alloc: Global, at: Place, path: Ref, ts: &[Lexeme]) -> Result<(Term, &[Le
 }
 
 fn term_of(head: Head, names: TermNames, at: Place) -> Term
-    ensures { result ≡ parts.term head names.exact names.loose at }
+    ensures { result ≡ grammar.term head names.exact names.loose at }
 {
     Term {
         head,
@@ -171,7 +171,7 @@ fn prefix(
 
 /// A term at `at`, behind these names.
 #[tactic(auto, unfolding(jn_grammar::specs::ReadTypes::after_names_in))]
-fn after_names(
+pub fn after_names(
     alloc: Global,
     left: u32,
     at: Place,
@@ -250,7 +250,7 @@ fn mask(ts: &[Lexeme]) -> Result<(Named, &[Lexeme]), Stop>
     name(behind(ts))
 }
 
-fn masks(alloc: Global, ts: &[Lexeme]) -> Result<(Items<Named>, &[Lexeme]), Stop>
+pub fn masks(alloc: Global, ts: &[Lexeme]) -> Result<(Items<Named>, &[Lexeme]), Stop>
     ensures { Gives (λ x. (x.0, x.1.now)) result (masks_in ts.now) }
 {
     let mut found = Items::new(alloc);
@@ -305,7 +305,7 @@ fn next_atom(alloc: Global, left: u32, k: usize, ts: &[Lexeme]) -> Result<(Term,
 }
 
 /// The terms of a type behind the first.
-fn next_atoms(alloc: Global, left: u32, ts: &[Lexeme]) -> Result<(Items<Term>, &[Lexeme]), Stop>
+pub fn next_atoms(alloc: Global, left: u32, ts: &[Lexeme]) -> Result<(Items<Term>, &[Lexeme]), Stop>
     ensures { Gives (λ x. (x.0, x.1.now)) result (row (begins (words.Mark Ampersand)) (next_atom_in true left) 2 ts.now) }
 {
     let mut found = Items::new(alloc);

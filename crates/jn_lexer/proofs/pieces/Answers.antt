@@ -4,7 +4,7 @@ use Rattle.jn_base.specs.Tokens.{width}
 use Rattle.jn_base.specs.declared.token.Token.{Token as Lexed}
 use Rattle.jn_lexer.specs.Front.{len_of, front}
 use Rattle.jn_lexer.proofs.Once.{front_within}
-use Rattle.jn_lexer.proofs.Loop.{passes, IsSoFar, nonempty, is_empty_at, so_far_gap, so_far_token, so_far_fault, so_far_ends, less_at_gap, less_at_token, place_within, fault_in}
+use Rattle.jn_lexer.proofs.Loop.{passes, IsSoFar, nonempty, is_empty_at, so_far_gap, so_far_token, so_far_fault, so_far_ends, less_at_gap, less_at_token, place_within, faulty}
 use Rattle.jn_lexer.proofs.pieces.Goals as goal
 
 pub split_at-requires : goal.split_at-requires
@@ -24,9 +24,9 @@ overflow_add-end c =
     let bound : c.loop-rest.at + c.width.result ≤ width c.args.cs.now = bounds.0 in
     omega (arith, c.requires)
 
-pub returns-in-Fault-clause-fault : goal.returns-in-Fault-clause-fault
-returns-in-Fault-clause-fault c =
-    fault_in c.args.cs.now c.in-Fault.flaw (c.loop-rest.at + c.width.result) _ c.at.result
+pub returns-in-Fault : goal.returns-in-Fault
+returns-in-Fault c =
+    faulty c.args.cs.now c.loop-rest.tokens.items c.in-Fault.flaw (c.loop-rest.at + c.width.result) c.at.result
     (so_far_fault c.loop-rest.invariant (sym c.front-piece.ensures ∙ c.in-Fault.is) (passes c.loop-rest.at c.loop-rest.rest.now c.in-Fault.field-1 c.len.result c.split_at.result.0.now c.split_at.result.1.now c.width.result (nonempty _ _ c.is_empty.ensures c.loop-rest-test.true) c.split_at.ensures.front c.split_at.ensures.back (c.len.ensures ∙ ap len_of c.in-Fault.is) c.width.ensures)) c.at.ensures
 
 pub loop-rest-smaller-in-Gap : goal.loop-rest-smaller-in-Gap
@@ -44,5 +44,5 @@ loop-rest-preserved c =
     subst (λ (xs : List Lexed). IsSoFar c.args.cs.now (c.loop-rest.at + c.width.result) c.split_at.result.1.now xs) (sym pushed)
     (so_far_token c.loop-rest.invariant (sym c.front-piece.ensures ∙ c.in-Token.is) (passes c.loop-rest.at c.loop-rest.rest.now c.in-Token.field-1 c.len.result c.split_at.result.0.now c.split_at.result.1.now c.width.result (nonempty _ _ c.is_empty.ensures c.loop-rest-test.true) c.split_at.ensures.front c.split_at.ensures.back (c.len.ensures ∙ ap len_of c.in-Token.is) c.width.ensures))
 
-pub returns-clause-found : goal.returns-clause-found
-returns-clause-found c = so_far_ends c.loop-rest.invariant (is_empty_at _ _ c.is_empty.ensures c.loop-rest-test.false)
+pub returns : goal.returns
+returns c = so_far_ends c.loop-rest.invariant (is_empty_at _ _ c.is_empty.ensures c.loop-rest-test.false)
