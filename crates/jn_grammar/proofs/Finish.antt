@@ -126,7 +126,7 @@ pub TidyAct : Act → List Symbol → Type 0
 TidyAct (Takes s) below = Tidy (s ++ below)
 TidyAct (Counts r s) below = Tidy (s ++ below)
 TidyAct (Opens s) below = Tidy (s ++ below)
-TidyAct Closes below = Tidy below
+TidyAct (Closes s) below = Tidy (s ++ below)
 TidyAct Leaves below = Tidy below
 TidyAct Ends below = Tidy below
 TidyAct Finishes below = Unit {0}
@@ -282,7 +282,7 @@ rest_tidy l k below f t = by_operator (operator l k)
 pub does_tidy : (x : Symbol) (k : Word) (below : List Symbol) → Follow x (finish below) → Tidy below → TidyAct (does x k) below
 unfolding TidyAct Tidy Follow finish word
 does_tidy (Expects w) k below f t = on_tidy w (Takes []) Refuses k below t tt
-does_tidy (Shuts w) k below f t = on_tidy w Closes Refuses k below t tt
+does_tidy (Shuts w) k below f t = on_tidy w (Closes []) Refuses k below t tt
 does_tidy AName (Named_ x) below f t = t
 does_tidy AName k below f t = tt
 does_tidy Dots k below f t = on_tidy (Marked Dot) (Takes (AName ∷ Dots ∷ [])) Leaves k below (tt, (f, t)) t
@@ -376,7 +376,7 @@ unfolding TidyState TidyAct
 led_tidy s (Takes z) n below left others t h = t
 led_tidy s (Counts r z) n below left others t h = counts_tidy _ n (z ++ below) left t
 led_tidy s (Opens z) n below left others t h = opened_tidy n (z ++ below) left t
-led_tidy s Closes n below left others t h = t
+led_tidy s (Closes z) n below left others t h = t
 led_tidy s Leaves n below left others t h = h t n
 led_tidy s Ends n below left others t h = h t (suc n)
 led_tidy s Finishes n below left others t h = tt

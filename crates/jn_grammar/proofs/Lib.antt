@@ -21,4 +21,9 @@ pub mod Finish
 pub mod Finishes
 pub mod Whole
 pub mod WholeInners
-pub mod Examples
+pub mod Shapes
+pub mod Counting
+pub mod LocalSound
+pub mod StmtSound
+pub mod MethodSound
+pub mod DeclSound

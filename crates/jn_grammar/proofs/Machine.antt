@@ -100,7 +100,7 @@ pub shuts : (s : Bool) (w : Word) (n : ℕ) (ts : List Lexeme) (below : List Sym
 shuts s w n [] below = record { eq = refl }
 shuts s w n (t ∷ ts) below = record { eq = by_bool (is_word w t.word) }
   where
-    by_bool : (c : Bool) → run s ts (led s (if c then Closes else Refuses) n below (suc (length ts)) (λ i. step s below i t.word (suc (length ts))))
+    by_bool : (c : Bool) → run s ts (led s (if c then Closes [] else Refuses) n below (suc (length ts)) (λ i. step s below i t.word (suc (length ts))))
         ≡ into (λ y. run s y.1 (Going (suc n) below)) (if c then Ok (t.at, ts) else here (t ∷ ts))
     by_bool true = refl
     by_bool false = run_fails s ts (Syntax (suc (length ts)))

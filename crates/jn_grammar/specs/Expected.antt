@@ -1,21 +1,36 @@
 -- What may come next: a stack of what is still expected, and how many more marks and operators may open. One step a word.
-use Rattle.std.specs.Prelude.{ℕ, zero, suc, Bool, List, [], ◌∷◌, ◌++◌, length, Option, Some, None, if◌then◌else◌}
+use Rattle.std.specs.Prelude.{ℕ, zero, suc, Bool, true, false, List, [], ◌∷◌, ◌++◌, length, Option, Some, None, if◌then◌else◌}
 use Rattle.jn_base.specs.declared.tree.Level.{Level}
 use Rattle.jn_base.specs.declared.tree.Level.TheVariants.{Or, And, Equal, Compare, Sum, Product}
 use Rattle.jn_base.specs.declared.tree.Op.{Op}
+use Rattle.jn_base.specs.declared.tree.Kind.{Kind}
+use Rattle.jn_base.specs.declared.tree.Kind.TheVariants as kind
 use Rattle.jn_base.specs.declared.refusal.Limit.{Limit}
 use Rattle.jn_base.specs.declared.refusal.Limit.TheVariants.{Nesting}
-use Rattle.jn_base.specs.declared.word.Keyword.TheVariants.{Boolean, Class, False, Int, New, Null, Super, This, True, View as ViewKey}
-use Rattle.jn_base.specs.declared.word.Mark.TheVariants.{Ampersand, Backslash, Bang, CloseBracket, CloseParen, Comma, Dot, Minus, OpenBracket, OpenParen}
+use Rattle.jn_base.specs.declared.word.Keyword.{Keyword}
+use Rattle.jn_base.specs.declared.word.Keyword.TheVariants.{Adapts, Boolean, Class, Else, Extends, False, Final, If, Int, New, Null, Package, Print, Return, Shares, Sharing as SharingKey, Super, This, True, View as ViewKey, Void, While}
+use Rattle.jn_base.specs.declared.word.Mark.TheVariants.{Ampersand, Arrow, Backslash, Bang, CloseBrace, CloseBracket, CloseParen, Comma, Dot, Equals, Minus, OpenBrace, OpenBracket, OpenParen, Semicolon}
 use Rattle.jn_base.specs.declared.word.Word.{Word}
-use Rattle.jn_base.specs.declared.word.Word.TheVariants.{Name as Named_, Keyword as Key, Number, Mark as Marked, End}
+use Rattle.jn_base.specs.declared.word.Word.TheVariants.{Name as Named_, Keyword as Key, Number, Text, Mark as Marked, End}
 use Rattle.jn_base.specs.declared.word.Lexeme.{Lexeme}
-use Rattle.jn_base.specs.Parts.{Role, Atom as AtomRole}
+use Rattle.jn_base.specs.Parts.{Role, Declares, Parameter, Local, Atom as AtomRole}
 use Rattle.jn_grammar.specs.declared.fault.Fault.{Fault}
 use Rattle.jn_grammar.specs.declared.fault.Fault.TheVariants.{Syntax, Passed}
 use Rattle.jn_grammar.specs.Begins.{is_word}
 use Rattle.jn_grammar.specs.Answers.{passed}
 use Rattle.jn_grammar.specs.ReadExprs.{operator}
+
+-- How far a method's body is: its locals so far, and the blocks that are open inside its own, the innermost first: true, where an
+-- "else" may follow.
+pub record Body : Type 0 where
+  pub used : ℕ
+  pub blocks : List Bool
+
+abbrev pub one_more : Body → Body
+one_more b = record { used = suc b.used; blocks = b.blocks }
+
+abbrev pub deeper : Bool → Body → Body
+deeper may_else b = record { used = b.used; blocks = may_else ∷ b.blocks }
 
 pub data Symbol : Type 0 where
   -- this word, or this mark, which shuts the last that is open
@@ -31,6 +46,31 @@ pub data Symbol : Type 0 where
   Prim Suffixes SuffixName MayCall Post InParens Unary OperandEnd : Symbol
   Expr Rest : Level → Symbol
   CallArgs Args MoreArgs SuperTerm : Symbol
+  -- statements: the rest of a body; that behind the block of an "if"
+  Stmts MayElse : Body → Symbol
+  -- a statement's rest: behind a first name; behind that and a dot; behind one name, several, and these and a dot; behind "this", and a dot
+  FirstName NameOrClassPart OneName Path PathName AfterThis ThisPart : Body → Symbol
+  -- behind a Prim that is no name; behind a dot there; behind a field; behind a call
+  Bare PartName AfterPart AfterCall : Body → Symbol
+  -- a block and the rest of the body
+  Block : Bool → Body → Symbol
+  -- behind "if" or "while"; behind "return"; behind "print"; what is printed
+  Test Returned Printed TextOrExpr : Symbol
+  -- a name that is declared
+  NewName : Role → Symbol
+  -- parameters: those up to the ")"; the k-th; those from the k-th on
+  Params : Symbol
+  Param MoreParams : ℕ → Symbol
+  -- constraints, and those behind one
+  Sharing MoreRels : Symbol
+  -- names behind the keyword, if it stands there; those behind one
+  ListOf : Keyword → Symbol
+  MoreNames : Symbol
+  -- members of a declaration of the kind at the depth, and the body that they stand in
+  Members DeclBody : Kind → ℕ → Symbol
+  -- behind a type and a name; behind "void" and a name; the block of a method
+  SlotOrMethod MethodOpen MethodBody : Symbol
+  Tops : Symbol
   EndOfFile : Symbol
 
 -- What a symbol does with a word.
@@ -41,8 +81,8 @@ pub data Act : Type 0 where
   Counts : Role → List Symbol → Act
   -- takes it as one that opens, and then expects these
   Opens : List Symbol → Act
-  -- takes it as the one that shuts
-  Closes : Act
+  -- takes it as the one that shuts, and then expects these
+  Closes : List Symbol → Act
   -- leaves it to the next symbol; an operand that ends so is no longer open
   Leaves Ends : Act
   -- takes it as the last of all
@@ -54,7 +94,7 @@ abbrev pub followed : Act → List Symbol → Act
 followed (Takes s) more = Takes (s ++ more)
 followed (Counts r s) more = Counts r (s ++ more)
 followed (Opens s) more = Opens (s ++ more)
-followed Closes more = Refuses
+followed (Closes s) more = Refuses
 followed Leaves more = Refuses
 followed Ends more = Refuses
 followed Finishes more = Refuses
@@ -65,7 +105,7 @@ abbrev pub counted : Role → Act → Act
 counted r (Takes s) = Counts r s
 counted r (Counts q s) = Refuses
 counted r (Opens s) = Refuses
-counted r Closes = Refuses
+counted r (Closes s) = Refuses
 counted r Leaves = Refuses
 counted r Ends = Refuses
 counted r Finishes = Refuses
@@ -164,10 +204,135 @@ abbrev pub on_operator : Act → Option Op → Act
 on_operator a (Some o) = a
 on_operator a None = Leaves
 
+abbrev pub on_expr : Word → Act
+on_expr w = followed (on_unary w) (rests Or)
+
+-- ---- statements
+
+-- Expr ";" and the rest of the body
+abbrev pub value : Body → List Symbol
+value b = Expr Or ∷ Expects (Marked Semicolon) ∷ Stmts b ∷ []
+
+-- behind the name of a local, and from there on behind its type
+abbrev pub local_value : Body → List Symbol
+local_value b = Expects (Marked Equals) ∷ value (one_more b)
+
+abbrev pub local_end : Body → List Symbol
+local_end b = NewName (Local (suc b.used)) ∷ local_value b
+
+-- ... behind the first term of its type
+abbrev pub type_rest : Body → List Symbol
+type_rest b = Atoms 2 ∷ Masks ∷ local_end b
+
+-- "}": the body's own, or that of a block in it
+abbrev pub behind_block : ℕ → List Bool → List Symbol
+behind_block used [] = []
+behind_block used (true ∷ blocks) = MayElse (record { used = used; blocks = blocks }) ∷ []
+behind_block used (false ∷ blocks) = Stmts (record { used = used; blocks = blocks }) ∷ []
+
+-- the arguments of a part, and what follows
+abbrev pub part_args : Body → Act
+part_args b = Opens (Args ∷ Shuts (Marked CloseParen) ∷ AfterCall b ∷ [])
+
+abbrev pub on_stmts : Body → Word → Act
+on_stmts b (Marked CloseBrace) = Closes (behind_block b.used b.blocks)
+on_stmts b (Marked OpenBrace) = Opens (Stmts (deeper false b) ∷ [])
+on_stmts b (Key Final) = Takes (Type_ ∷ local_end b)
+on_stmts b (Key Int) = Takes (local_end b)
+on_stmts b (Key Boolean) = Takes (local_end b)
+on_stmts b (Key If) = Takes (Test ∷ Block true b ∷ [])
+on_stmts b (Key While) = Takes (Test ∷ Block false b ∷ [])
+on_stmts b (Key Return) = Takes (Returned ∷ Stmts b ∷ [])
+on_stmts b (Key Print) = Takes (Printed ∷ Stmts b ∷ [])
+on_stmts b (Key This) = Takes (AfterThis b ∷ [])
+on_stmts b (Key New) = Takes (Term ∷ CallArgs ∷ AfterCall b ∷ [])
+on_stmts b (Key Super) = Takes (SuperTerm ∷ AfterCall b ∷ [])
+on_stmts b (Named_ x) = Takes (FirstName b ∷ [])
+on_stmts b w = followed (on_prim w) (Bare b ∷ [])
+
+-- behind names: a local whose type begins with them
+abbrev pub after_path : Body → Word → Act
+after_path b (Named_ x) = Counts (Local (suc b.used)) (local_value b)
+after_path b (Marked Bang) = Takes (Dots ∷ type_rest b)
+after_path b (Marked OpenBracket) = Opens (Ref ∷ Expects (Marked Dot) ∷ Expects (Key Class) ∷ Shuts (Marked CloseBracket) ∷ Tail ∷ type_rest b)
+after_path b (Marked Ampersand) = Takes (Atom 2 ∷ Atoms 3 ∷ Masks ∷ local_end b)
+after_path b (Marked Backslash) = Takes (AName ∷ Masks ∷ local_end b)
+after_path b (Marked Equals) = Takes (value b)
+after_path b w = Refuses
+
+abbrev pub on_first_name : Body → Word → Act
+on_first_name b (Marked Dot) = Takes (NameOrClassPart b ∷ [])
+on_first_name b w = after_path b w
+
+abbrev pub on_one_name : Body → Word → Act
+on_one_name b (Marked Dot) = Takes (PathName b ∷ [])
+on_one_name b w = after_path b w
+
+abbrev pub on_path : Body → Word → Act
+on_path b (Marked Dot) = Takes (PathName b ∷ [])
+on_path b (Marked OpenParen) = part_args b
+on_path b w = after_path b w
+
+abbrev pub name_or_class_part : Body → Word → Act
+name_or_class_part b (Named_ x) = Takes (Path b ∷ [])
+name_or_class_part b (Key Class) = Takes (Tail ∷ type_rest b)
+name_or_class_part b w = Refuses
+
+abbrev pub this_part : Body → Word → Act
+this_part b (Named_ x) = Takes (AfterPart b ∷ [])
+this_part b (Key Class) = Takes (Tail ∷ type_rest b)
+this_part b w = Refuses
+
+abbrev pub after_part : Body → Word → Act
+after_part b (Marked Dot) = Takes (PartName b ∷ [])
+after_part b (Marked Equals) = Takes (value b)
+after_part b (Marked OpenParen) = part_args b
+after_part b w = Refuses
+
+abbrev pub after_call : Body → Word → Act
+after_call b (Marked Dot) = Takes (PartName b ∷ [])
+after_call b (Marked Semicolon) = Takes (Stmts b ∷ [])
+after_call b w = Refuses
+
+-- ---- declarations
+
+abbrev pub on_param : ℕ → Word → Act
+on_param k (Key Final) = Takes (Type_ ∷ NewName (Parameter k) ∷ [])
+on_param k w = followed (on_type w) (NewName (Parameter k) ∷ [])
+
+abbrev pub a_rel : List Symbol
+a_rel = View ∷ Expects (Marked Arrow) ∷ View ∷ MoreRels ∷ []
+
+abbrev pub inner_rest : Kind → ℕ → List Symbol
+inner_rest k n = NewName (Declares n) ∷ ListOf Extends ∷ ListOf Shares ∷ DeclBody k (suc n) ∷ []
+
+abbrev pub top_rest : Kind → List Symbol
+top_rest k = NewName (Declares 1) ∷ ListOf Extends ∷ ListOf Adapts ∷ DeclBody k 2 ∷ []
+
+abbrev pub params_open : Act
+params_open = Opens (Params ∷ Shuts (Marked CloseParen) ∷ Sharing ∷ MethodBody ∷ [])
+
+abbrev pub on_member : Kind → ℕ → Word → Act
+on_member k n (Key Class) = Takes (inner_rest kind.Class n)
+on_member k n (Key Package) = Takes (inner_rest kind.Package n)
+on_member kind.Class n (Key Void) = Takes (AName ∷ MethodOpen ∷ [])
+on_member kind.Class n w = followed (on_type w) (AName ∷ SlotOrMethod ∷ [])
+on_member kind.Package n w = Refuses
+
+abbrev pub slot_or_method : Word → Act
+slot_or_method (Marked Semicolon) = Takes []
+slot_or_method (Marked OpenParen) = params_open
+slot_or_method w = Refuses
+
+abbrev pub on_top : Word → Act
+on_top (Key Class) = Takes (top_rest kind.Class)
+on_top (Key Package) = Takes (top_rest kind.Package)
+on_top w = Refuses
+
 -- THE TABLE
 abbrev pub does : Symbol → Word → Act
 does (Expects v) w = on v (Takes []) Refuses w
-does (Shuts v) w = on v Closes Refuses w
+does (Shuts v) w = on v (Closes []) Refuses w
 does AName w = on_name (Takes []) w
 does Dots w = on (Marked Dot) (Takes (AName ∷ Dots ∷ [])) Leaves w
 does MayBang w = on (Marked Bang) (Takes (Dots ∷ [])) Leaves w
@@ -198,6 +363,44 @@ does SuperTerm w = on (Marked OpenBracket) (Opens (Term ∷ Shuts (Marked CloseB
 does Args (Marked CloseParen) = Leaves
 does Args w = followed (followed (on_unary w) (rests Or)) (MoreArgs ∷ [])
 does MoreArgs w = on (Marked Comma) (Takes (Expr Or ∷ MoreArgs ∷ [])) Leaves w
+does (Stmts b) w = on_stmts b w
+does (MayElse b) (Key Else) = Takes (Block false b ∷ [])
+does (MayElse b) w = on_stmts b w
+does (FirstName b) w = on_first_name b w
+does (NameOrClassPart b) w = name_or_class_part b w
+does (OneName b) w = on_one_name b w
+does (Path b) w = on_path b w
+does (PathName b) w = on_name (Takes (Path b ∷ [])) w
+does (AfterThis b) w = on (Marked Dot) (Takes (ThisPart b ∷ [])) Refuses w
+does (ThisPart b) w = this_part b w
+does (Bare b) w = on (Marked Dot) (Takes (PartName b ∷ [])) Refuses w
+does (PartName b) w = on_name (Takes (AfterPart b ∷ [])) w
+does (AfterPart b) w = after_part b w
+does (AfterCall b) w = after_call b w
+does (Block may_else b) w = on (Marked OpenBrace) (Opens (Stmts (deeper may_else b) ∷ [])) Refuses w
+does Test w = on (Marked OpenParen) (Opens (Expr Or ∷ Shuts (Marked CloseParen) ∷ [])) Refuses w
+does Returned (Marked Semicolon) = Takes []
+does Returned w = followed (on_expr w) (Expects (Marked Semicolon) ∷ [])
+does Printed w = on (Marked OpenParen) (Opens (TextOrExpr ∷ Shuts (Marked CloseParen) ∷ Expects (Marked Semicolon) ∷ [])) Refuses w
+does TextOrExpr (Text n) = Takes []
+does TextOrExpr w = on_expr w
+does (NewName r) w = on_name (Counts r []) w
+does Params (Marked CloseParen) = Leaves
+does Params w = followed (on_param 1 w) (MoreParams 2 ∷ [])
+does (Param k) w = on_param k w
+does (MoreParams k) w = on (Marked Comma) (Takes (Param k ∷ MoreParams (suc k) ∷ [])) Leaves w
+does Sharing w = on (Key SharingKey) (Takes a_rel) Leaves w
+does MoreRels w = on (Marked Comma) (Takes a_rel) Leaves w
+does (ListOf k) w = on (Key k) (Takes (AName ∷ MoreNames ∷ [])) Leaves w
+does MoreNames w = on (Marked Ampersand) (Takes (AName ∷ MoreNames ∷ [])) Leaves w
+does (Members k n) (Marked CloseBrace) = Leaves
+does (Members k n) w = followed (on_member k n w) (Members k n ∷ [])
+does (DeclBody k n) w = on (Marked OpenBrace) (Opens (Members k n ∷ Shuts (Marked CloseBrace) ∷ [])) Refuses w
+does SlotOrMethod w = slot_or_method w
+does MethodOpen w = on (Marked OpenParen) params_open Refuses w
+does MethodBody w = on (Marked OpenBrace) (Opens (Stmts (record { used = 0; blocks = [] }) ∷ [])) Refuses w
+does Tops End = Leaves
+does Tops w = followed (on_top w) (Tops ∷ [])
 does EndOfFile w = on End Finishes Refuses w
 
 -- What there is after a word, or behind several: how many more may open and what is expected, or the fault at a word.
@@ -221,7 +424,7 @@ module _ (strict : Bool) where
   led (Takes s) n below left others = Going n (s ++ below)
   led (Counts r s) n below left others = counts_by (passed strict r) n (s ++ below) left
   led (Opens s) n below left others = opened n (s ++ below) left
-  led Closes n below left others = Going (suc n) below
+  led (Closes s) n below left others = Going (suc n) (s ++ below)
   led Leaves n below left others = others n
   led Ends n below left others = others (suc n)
   led Finishes n below left others = Done
