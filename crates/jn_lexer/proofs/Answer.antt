@@ -1,5 +1,6 @@
 -- What the tokens of the characters say of the bytes.
 use Rattle.std.proofs.Common.{◌≡◌, ℕ, List, length, sym, ◌∙◌, ap, subst, Option, Some, None, Result, Ok, Err}
+use Rattle.std.specs.Prelude.{IfOk}
 use Rattle.std.specs.Str.{IsUtf8, chars}
 use Rattle.std.proofs.lemmas.Str.{encodes-chars, scalars-chars, chars-encodes}
 use Rattle.std.proofs.Math.Nat.{zero-add}
@@ -7,6 +8,7 @@ use Rattle.jn_base.specs.declared.token.Token.{Token}
 use Rattle.jn_base.specs.declared.token.LexFault.{LexFault}
 use Rattle.jn_base.specs.declared.token.LexFault.TheVariants.{BadChar, BadNumber, OpenComment, OpenText, Memory}
 use Rattle.jn_base.specs.Tokens.{width, Lexes, TokensOf}
+use Rattle.jn_lexer.specs.declared.Scanned.{Scanned}
 use Rattle.jn_lexer.specs.Lexing.{IsAnswer, IsFaultOf, AreInOrder}
 use Rattle.jn_lexer.proofs.Once.{AreSame, once}
 use Rattle.jn_lexer.proofs.Order.{lexes_order}
@@ -17,11 +19,13 @@ of_bytes bytes ts f u l = record { characters = chars bytes; scalars = scalars-c
 of_characters : (bytes : List ℕ) (ts : List Token) (f : Option LexFault) → TokensOf bytes ts f → Lexes 0 (chars bytes) ts f
 of_characters bytes ts f t = subst (λ (cs : List ℕ). Lexes 0 cs ts f) (sym (chars-encodes t.characters t.scalars) ∙ ap chars t.spelled) t.lexed
 
-pub scanned_of : (bytes cs : List ℕ) (ts : List Token) (f : Option LexFault) → IsUtf8 bytes → cs ≡ chars bytes → Lexes 0 cs ts f → TokensOf bytes ts f
-scanned_of bytes cs ts f u e l = of_bytes bytes ts f u (subst (λ (xs : List ℕ). Lexes 0 xs ts f) e l)
+pub scanned_of : {E : Type 0} (bytes cs : List ℕ) (r : Result Scanned E) → IsUtf8 bytes → cs ≡ chars bytes → IfOk r (λ s. Lexes 0 cs s.tokens.items s.fault) → IfOk r (λ s. TokensOf bytes s.tokens.items s.fault)
+scanned_of bytes cs (Ok s) u e l = of_bytes bytes s.tokens.items s.fault u (subst (λ (xs : List ℕ). Lexes 0 xs s.tokens.items s.fault) e l)
+scanned_of bytes cs (Err f) u e l = tt
 
-pub order_of : (bytes cs : List ℕ) (ts : List Token) (f : Option LexFault) → IsUtf8 bytes → cs ≡ chars bytes → Lexes 0 cs ts f → AreInOrder 0 ts (length bytes)
-order_of bytes cs ts f u e l = subst (λ n. AreInOrder 0 ts n) (zero-add (width cs) ∙ ap width e ∙ ap length (encodes-chars bytes u)) (lexes_order l)
+pub order_of : {E : Type 0} (bytes cs : List ℕ) (r : Result Scanned E) → IsUtf8 bytes → cs ≡ chars bytes → IfOk r (λ s. Lexes 0 cs s.tokens.items s.fault) → IfOk r (λ s. AreInOrder 0 s.tokens.items (length bytes))
+order_of bytes cs (Ok s) u e l = subst (λ n. AreInOrder 0 s.tokens.items n) (zero-add (width cs) ∙ ap width e ∙ ap length (encodes-chars bytes u)) (lexes_order l)
+order_of bytes cs (Err f) u e l = tt
 
 pub fault_of : (bytes : List ℕ) (ts : List Token) (g : LexFault) → TokensOf bytes ts (Some g) → IsFaultOf bytes g
 fault_of bytes ts (BadChar at) t = (ts, t)

@@ -8,7 +8,6 @@ use Rattle.jn_base.specs.declared.token.Token.{Token as Lexed}
 use Rattle.jn_base.specs.declared.token.LexFault.{LexFault}
 use Rattle.jn_base.specs.Tokens.{width, Lexes, at_end, fault, blank, comment, token}
 use Rattle.jn_lexer.specs.declared.front.Flaw.{Flaw}
-use Rattle.jn_lexer.specs.declared.front.Flaw.TheVariants as flaw
 use Rattle.jn_lexer.specs.declared.front.Piece.{Piece}
 use Rattle.jn_lexer.specs.declared.front.Piece.TheVariants.{Gap, Token, Fault}
 use Rattle.jn_lexer.specs.Front.{fault_at, front}

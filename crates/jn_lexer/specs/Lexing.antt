@@ -2,7 +2,7 @@
 use Rattle.std.specs.Prelude.{◌≡◌, ◌≤◌, ◌<◌, ℕ, List, [], ◌∷◌, Option, Some, None, Result, Ok, Err}
 use Rattle.jn_base.specs.declared.token.Token.{Token}
 use Rattle.jn_base.specs.declared.token.LexFault.{LexFault}
-use Rattle.jn_base.specs.Tokens.{Lexes, TokensOf}
+use Rattle.jn_base.specs.Tokens.{TokensOf}
 use Rattle.jn_base.specs.declared.token.LexFault.TheVariants.{Memory}
 
 -- the fault is this one
@@ -17,11 +17,7 @@ IsAnswer view (Ok v) ts (Some f) = ⊥
 IsAnswer view (Err Memory) ts f = Unit {0}
 IsAnswer view (Err g) ts f = IsFaultOrNone f g
 
--- unless memory ran out, the fault is the first in the characters, or in the bytes
-abbrev pub IsFaultIn : List ℕ → LexFault → Type 0
-IsFaultIn cs Memory = Unit {0}
-IsFaultIn cs f = (ts : List Token) × Lexes 0 cs ts (Some f)
-
+-- unless memory ran out, the fault is the first in the bytes
 abbrev pub IsFaultOf : List ℕ → LexFault → Type 0
 IsFaultOf bytes Memory = Unit {0}
 IsFaultOf bytes f = (ts : List Token) × TokensOf bytes ts (Some f)

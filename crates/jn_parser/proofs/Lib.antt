@@ -1,3 +1,4 @@
 pub mod Heights
 pub mod Loops
 pub mod Shorter
+pub mod ShorterBodies
