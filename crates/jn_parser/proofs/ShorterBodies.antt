@@ -29,10 +29,10 @@ use Rattle.jn_grammar.proofs.DeclSound.{member_sound, members_sounds_below, top_
 
 stmt_long : (k : ℕ) (w : List Part) (x : Stmt × ℕ) → StmtOf 0 k w x → 1 ≤ length w
 stmt_long k w x (block c d) = omega arith
-stmt_long k w x (local {u = u} {v = v} o s f t e) = omega (arith, length-append u (v ++ _), length-append v _)
+stmt_long k w x (local o s f t e) = omega (arith, length-append {A = Part})
 stmt_long k w x (assign s e) = omega arith
-stmt_long k w x (set_field {v = v} b n o s t e) = omega (arith, length-append v _)
-stmt_long k w x (act s {w = v} c) = omega (arith, length-append v _)
+stmt_long k w x (set_field b n o s t e) = omega (arith, length-append {A = Part})
+stmt_long k w x (act s c) = omega (arith, length-append {A = Part})
 stmt_long k w x (choice c b e t d r) = omega arith
 stmt_long k w x (turns c b e t d) = omega arith
 stmt_long k w x leave = omega arith
@@ -86,8 +86,8 @@ inner_long i w x (inner o c k es ss ms) = omega arith
 
 member_long : (k : Kind) (i : ℕ) (w : List Part) (x : Member) → IsMember k 0 i w x → 1 ≤ length w
 member_long k i w x (declared {t = t} d) = inner_long i w t d
-member_long k i w x (slot p s {w = v} t) = omega (arith, length-append v _)
-member_long k i w x (method p o c b e {r = r} t ps cs ss) = omega (arith, length-append r _)
+member_long k i w x (slot p s t) = omega (arith, length-append {A = Part})
+member_long k i w x (method p o c b e t ps cs ss) = omega (arith, length-append {A = Part})
 
 pub member_less : (n : ℕ) (k : Kind) (i j : ℕ) (ts : List Lexeme) (x : Member × List Lexeme) → member_in true n (members_of true n) k i j ts ≡ Ok x → length x.1 < length ts
 member_less n k i j ts x h = strictly (IsMember k 0 i) ts _ x (λ w. member_long k i w x.0) (member_sound true n (members_sounds_below true n) k 0 i j ts) h

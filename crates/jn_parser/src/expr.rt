@@ -21,14 +21,19 @@ use sqlite_items::{Boxed, Items};
 use std::alloc::{AllocError, Global};
 
 /// The parts behind a Prim at `at`: without any it is the Prim itself.
-pub fn posted(alloc: Global, at: Place, e: Expr, parts: Items<Suffix>) -> Result<Expr, AllocError>
+pub fn posted(
+    alloc: Global,
+    at: Place,
+    e: Boxed<Expr>,
+    parts: Items<Suffix>,
+) -> Result<Boxed<Expr>, AllocError>
     ensures { IfOk result (λ x. x ≡ grammar.posted at e parts) }
 {
     if parts.is_empty() {
         return Ok(e);
     }
-    let node = Node::Post(Boxed::new(alloc, e)?, parts);
-    Ok(Expr { at, node })
+    let node = Node::Post(e, parts);
+    Boxed::new(alloc, Expr { at, node })
 }
 
 /// The operands behind the first: without any it is the first itself.
@@ -36,16 +41,16 @@ fn chained(
     alloc: Global,
     at: Place,
     level: Level,
-    first: Expr,
+    first: Boxed<Expr>,
     links: Items<Link>,
-) -> Result<Expr, AllocError>
+) -> Result<Boxed<Expr>, AllocError>
     ensures { IfOk result (λ x. x ≡ grammar.chained at level first links) }
 {
     if links.is_empty() {
         return Ok(first);
     }
-    let node = Node::Chain(level, Boxed::new(alloc, first)?, links);
-    Ok(Expr { at, node })
+    let node = Node::Chain(level, first, links);
+    Boxed::new(alloc, Expr { at, node })
 }
 
 /// The operator of a level that a word is.
@@ -116,13 +121,18 @@ fn call_args(alloc: Global, left: u32, ts: &[Lexeme]) -> Result<(Items<Expr>, &[
 /// What stands behind a `new` at `at`.
 #[cycle(expr)]
 #[tactic(auto, unfolding(jn_grammar::specs::ReadExprs::new_in))]
-fn new_object(alloc: Global, left: u32, at: Place, ts: &[Lexeme]) -> Result<(Expr, &[Lexeme]), Stop>
+fn new_object(
+    alloc: Global,
+    left: u32,
+    at: Place,
+    ts: &[Lexeme],
+) -> Result<(Boxed<Expr>, &[Lexeme]), Stop>
     ensures { Gives (λ x. (x.0, x.1.now)) result (new_in (level left) at ts.now) }
 {
     let (class, rest) = term(alloc, left, ts)?;
     let (args, rest) = call_args(alloc, left, rest)?;
     let node = Node::New(class, args);
-    Ok((Expr { at, node }, rest))
+    Ok((Boxed::new(alloc, Expr { at, node })?, rest))
 }
 
 /// The term behind a `[`, from that mark on.
@@ -138,7 +148,12 @@ fn term_inside(alloc: Global, left: u32, ts: &[Lexeme]) -> Result<(Term, &[Lexem
 /// What stands behind a `super` at `at`.
 #[cycle(expr)]
 #[tactic(auto, unfolding(jn_grammar::specs::ReadExprs::super_in, jn_grammar::specs::ReadExprs::super_call_in))]
-fn super_form(alloc: Global, left: u32, at: Place, ts: &[Lexeme]) -> Result<(Expr, &[Lexeme]), Stop>
+fn super_form(
+    alloc: Global,
+    left: u32,
+    at: Place,
+    ts: &[Lexeme],
+) -> Result<(Boxed<Expr>, &[Lexeme]), Stop>
     ensures { Gives (λ x. (x.0, x.1.now)) result (super_in (level left) at ts.now) }
 {
     if !starts(Mark::OpenBracket, ts) {
@@ -150,12 +165,12 @@ fn super_form(alloc: Global, left: u32, at: Place, ts: &[Lexeme]) -> Result<(Exp
     let (method, rest) = name(rest)?;
     let (args, rest) = call_args(alloc, left, rest)?;
     let node = Node::Super(class, method, args);
-    Ok((Expr { at, node }, rest))
+    Ok((Boxed::new(alloc, Expr { at, node })?, rest))
 }
 
 #[cycle(expr)]
 #[tactic(auto, unfolding(jn_grammar::specs::ReadExprs::prim_in, jn_grammar::specs::ReadExprs::prim_by, jn_grammar::specs::ReadExprs::parens_in))]
-pub fn prim(alloc: Global, left: u32, ts: &[Lexeme]) -> Result<(Expr, &[Lexeme]), Stop>
+pub fn prim(alloc: Global, left: u32, ts: &[Lexeme]) -> Result<(Boxed<Expr>, &[Lexeme]), Stop>
     ensures { Gives (λ x. (x.0, x.1.now)) result (prim_in (level left) ts.now) }
 {
     match ts {
@@ -178,7 +193,7 @@ pub fn prim(alloc: Global, left: u32, ts: &[Lexeme]) -> Result<(Expr, &[Lexeme])
                 }
                 _ => return Err(syntax(ts)),
             };
-            Ok((Expr { at, node }, rest))
+            Ok((Boxed::new(alloc, Expr { at, node })?, rest))
         }
     }
 }
@@ -228,7 +243,7 @@ pub fn suffixes(alloc: Global, left: u32, ts: &[Lexeme]) -> Result<(Items<Suffix
 
 #[cycle(expr)]
 #[tactic(auto, unfolding(jn_grammar::specs::ReadExprs::post_in))]
-fn post(alloc: Global, left: u32, ts: &[Lexeme]) -> Result<(Expr, &[Lexeme]), Stop>
+fn post(alloc: Global, left: u32, ts: &[Lexeme]) -> Result<(Boxed<Expr>, &[Lexeme]), Stop>
     ensures { Gives (λ x. (x.0, x.1.now)) result (post_in (level left) ts.now) }
 {
     let (e, rest) = prim(alloc, left, ts)?;
@@ -239,32 +254,32 @@ fn post(alloc: Global, left: u32, ts: &[Lexeme]) -> Result<(Expr, &[Lexeme]), St
 /// A view and its operand, from the `(` on.
 #[cycle(expr)]
 #[tactic(auto, unfolding(jn_grammar::specs::ReadExprs::viewed_in))]
-fn viewed(alloc: Global, left: u32, ts: &[Lexeme]) -> Result<(Expr, &[Lexeme]), Stop>
+fn viewed(alloc: Global, left: u32, ts: &[Lexeme]) -> Result<(Boxed<Expr>, &[Lexeme]), Stop>
     ensures { Gives (λ x. (x.0, x.1.now)) result (viewed_in (level left) ts.now) }
 {
     let (target, rest) = view_inside(alloc, left, ts)?;
     let (_, rest) = take(Mark::CloseParen, rest)?;
     let (e, rest) = operand_inside(alloc, left, rest)?;
     let at = place_of(ts);
-    let node = Node::View(target, Boxed::new(alloc, e)?);
-    Ok((Expr { at, node }, rest))
+    let node = Node::View(target, e);
+    Ok((Boxed::new(alloc, Expr { at, node })?, rest))
 }
 
 #[cycle(expr)]
 #[tactic(auto, unfolding(jn_grammar::specs::ReadExprs::unary_in, jn_grammar::specs::ReadExprs::inverse_in, jn_grammar::specs::ReadExprs::negative_in))]
-fn unary(alloc: Global, left: u32, ts: &[Lexeme]) -> Result<(Expr, &[Lexeme]), Stop>
+fn unary(alloc: Global, left: u32, ts: &[Lexeme]) -> Result<(Boxed<Expr>, &[Lexeme]), Stop>
     ensures { Gives (λ x. (x.0, x.1.now)) result (unary_in (level left) ts.now) }
 {
     let at = place_of(ts);
     if starts(Mark::Bang, ts) {
         let (e, rest) = unary_inside(alloc, left, ts)?;
-        let node = Node::Not(Boxed::new(alloc, e)?);
-        return Ok((Expr { at, node }, rest));
+        let node = Node::Not(e);
+        return Ok((Boxed::new(alloc, Expr { at, node })?, rest));
     }
     if starts(Mark::Minus, ts) {
         let (e, rest) = unary_inside(alloc, left, ts)?;
-        let node = Node::Neg(Boxed::new(alloc, e)?);
-        return Ok((Expr { at, node }, rest));
+        let node = Node::Neg(e);
+        return Ok((Boxed::new(alloc, Expr { at, node })?, rest));
     }
     if starts_view(ts) {
         return viewed(alloc, left, ts);
@@ -275,7 +290,12 @@ fn unary(alloc: Global, left: u32, ts: &[Lexeme]) -> Result<(Expr, &[Lexeme]), S
 /// An operand of a level: an expression of the next level.
 #[cycle(expr)]
 #[tactic(auto, unfolding(jn_grammar::specs::ReadExprs::conjunction_in, jn_grammar::specs::ReadExprs::equality_in, jn_grammar::specs::ReadExprs::comparison_in, jn_grammar::specs::ReadExprs::sum_in, jn_grammar::specs::ReadExprs::product_in))]
-fn operand(alloc: Global, left: u32, level: Level, ts: &[Lexeme]) -> Result<(Expr, &[Lexeme]), Stop>
+fn operand(
+    alloc: Global,
+    left: u32,
+    level: Level,
+    ts: &[Lexeme],
+) -> Result<(Boxed<Expr>, &[Lexeme]), Stop>
     ensures { Gives (λ x. (x.0, x.1.now)) result (operand_in (readers.level left) level ts.now) }
 {
     match level {
@@ -299,6 +319,7 @@ fn link(alloc: Global, left: u32, level: Level, ts: &[Lexeme]) -> Result<(Link, 
         Some(op) => {
             let at = place_of(ts);
             let (right, rest) = operand(alloc, left, level, behind(ts))?;
+            let right = right.into_inner();
             Ok((Link { op, at, right }, rest))
         }
     }
@@ -327,7 +348,12 @@ fn links(
 /// Operands with operators of the level between them.
 #[cycle(expr)]
 #[tactic(auto, unfolding(jn_grammar::specs::ReadExprs::chain_in))]
-fn chain(alloc: Global, left: u32, level: Level, ts: &[Lexeme]) -> Result<(Expr, &[Lexeme]), Stop>
+fn chain(
+    alloc: Global,
+    left: u32,
+    level: Level,
+    ts: &[Lexeme],
+) -> Result<(Boxed<Expr>, &[Lexeme]), Stop>
     ensures { Gives (λ x. (x.0, x.1.now)) result (chain_in level (operand_in (readers.level left) level) ts.now) }
 {
     let (first, rest) = operand(alloc, left, level, ts)?;
@@ -338,7 +364,12 @@ fn chain(alloc: Global, left: u32, level: Level, ts: &[Lexeme]) -> Result<(Expr,
 /// One operand, or two with an operator of the level between them.
 #[cycle(expr)]
 #[tactic(auto, unfolding(jn_grammar::specs::ReadExprs::pair_in))]
-fn pair(alloc: Global, left: u32, level: Level, ts: &[Lexeme]) -> Result<(Expr, &[Lexeme]), Stop>
+fn pair(
+    alloc: Global,
+    left: u32,
+    level: Level,
+    ts: &[Lexeme],
+) -> Result<(Boxed<Expr>, &[Lexeme]), Stop>
     ensures { Gives (λ x. (x.0, x.1.now)) result (pair_in level (operand_in (readers.level left) level) ts.now) }
 {
     let (first, rest) = operand(alloc, left, level, ts)?;
@@ -353,7 +384,7 @@ fn pair(alloc: Global, left: u32, level: Level, ts: &[Lexeme]) -> Result<(Expr, 
 
 #[cycle(expr)]
 #[tactic(auto, unfolding(jn_grammar::specs::ReadExprs::expr_in))]
-pub fn expr(alloc: Global, left: u32, ts: &[Lexeme]) -> Result<(Expr, &[Lexeme]), Stop>
+pub fn expr(alloc: Global, left: u32, ts: &[Lexeme]) -> Result<(Boxed<Expr>, &[Lexeme]), Stop>
     ensures { Gives (λ x. (x.0, x.1.now)) result (expr_in (level left) ts.now) }
 {
     chain(alloc, left, Level::Or, ts)
@@ -365,7 +396,8 @@ pub fn expr(alloc: Global, left: u32, ts: &[Lexeme]) -> Result<(Expr, &[Lexeme])
 fn arg(alloc: Global, left: u32, ts: &[Lexeme]) -> Result<(Expr, &[Lexeme]), Stop>
     ensures { (k : ℕ) → Gives (λ x. (x.0, x.1.now)) result (arg_in (level left) k ts.now) }
 {
-    expr(alloc, left, behind(ts))
+    let (e, rest) = expr(alloc, left, behind(ts))?;
+    Ok((e.into_inner(), rest))
 }
 
 /// The arguments behind the first.
@@ -395,14 +427,14 @@ fn args(alloc: Global, left: u32, ts: &[Lexeme]) -> Result<(Items<Expr>, &[Lexem
     }
     let (first, rest) = expr(alloc, left, ts)?;
     let (others, rest) = more_args(alloc, left, rest)?;
-    found.push(first)?;
+    found.push(first.into_inner())?;
     found.append(others)?;
     Ok((found, rest))
 }
 
 /// The expression behind a mark that opens, from that mark on.
 #[cycle(expr)]
-fn expr_inside(alloc: Global, left: u32, ts: &[Lexeme]) -> Result<(Expr, &[Lexeme]), Stop>
+fn expr_inside(alloc: Global, left: u32, ts: &[Lexeme]) -> Result<(Boxed<Expr>, &[Lexeme]), Stop>
     ensures { Gives (λ x. (x.0, x.1.now)) result ((level left).expr_of ts.now) }
 {
     if left == 0 {
@@ -413,7 +445,7 @@ fn expr_inside(alloc: Global, left: u32, ts: &[Lexeme]) -> Result<(Expr, &[Lexem
 
 /// The operand behind a prefix operator, from the operator on.
 #[cycle(expr)]
-fn unary_inside(alloc: Global, left: u32, ts: &[Lexeme]) -> Result<(Expr, &[Lexeme]), Stop>
+fn unary_inside(alloc: Global, left: u32, ts: &[Lexeme]) -> Result<(Boxed<Expr>, &[Lexeme]), Stop>
     ensures { Gives (λ x. (x.0, x.1.now)) result ((level left).unary_of ts.now) }
 {
     if left == 0 {
@@ -434,7 +466,7 @@ fn view_inside(alloc: Global, left: u32, ts: &[Lexeme]) -> Result<(ViewTerm, &[L
 
 /// The operand of a view, which is open up to its end.
 #[cycle(expr)]
-fn operand_inside(alloc: Global, left: u32, ts: &[Lexeme]) -> Result<(Expr, &[Lexeme]), Stop>
+fn operand_inside(alloc: Global, left: u32, ts: &[Lexeme]) -> Result<(Boxed<Expr>, &[Lexeme]), Stop>
     ensures { Gives (λ x. (x.0, x.1.now)) result ((level left).operand_of ts.now) }
 {
     if left == 0 {

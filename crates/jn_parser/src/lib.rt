@@ -5,6 +5,7 @@ mod cursor;
 mod decl;
 mod expr;
 mod fault;
+mod place;
 mod stmt;
 mod types;
 

@@ -15,7 +15,7 @@ use jn_base::refusal::Limit;
 use jn_base::tree::{Expr, Name, Named, Place, Stmt, Suffix, Term, TypeTerm};
 use jn_base::word::{Keyword, Lexeme, Mark, Word};
 use jn_grammar::shape::Shape;
-use sqlite_items::Items;
+use sqlite_items::{Boxed, Items};
 use std::alloc::{AllocError, Global};
 
 pub fn starts_name(ts: &[Lexeme]) -> bool
@@ -60,7 +60,7 @@ fn value(alloc: Global, left: u32, ts: &[Lexeme]) -> Result<(Expr, &[Lexeme]), S
 {
     let (e, rest) = expr(alloc, left, ts)?;
     let (_, rest) = take(Mark::Semicolon, rest)?;
-    Ok((e, rest))
+    Ok((e.into_inner(), rest))
 }
 
 /// The expression behind a `(`, from that mark on, with its `)`.
@@ -73,7 +73,7 @@ fn tested(alloc: Global, left: u32, ts: &[Lexeme]) -> Result<(Expr, &[Lexeme]), 
     }
     let (e, rest) = expr(alloc, left - 1, behind(ts))?;
     let (_, rest) = take(Mark::CloseParen, rest)?;
-    Ok((e, rest))
+    Ok((e.into_inner(), rest))
 }
 
 #[tactic(auto, unfolding(jn_grammar::specs::ReadStmts::test_in))]
@@ -110,7 +110,7 @@ fn printed(alloc: Global, left: u32, at: Place, ts: &[Lexeme]) -> Result<(Stmt, 
                 return Ok((Stmt::PrintText(n, at), rest));
             }
             let (e, rest) = expr(alloc, left, ts)?;
-            Ok((Stmt::Print(e, at), rest))
+            Ok((Stmt::Print(e.into_inner(), at), rest))
         }
     }
 }
@@ -310,7 +310,7 @@ fn set(
     left: u32,
     used: u32,
     at: Place,
-    e: Expr,
+    e: Boxed<Expr>,
     parts: Items<Suffix>,
     ts: &[Lexeme],
 ) -> Result<(Stmt, u32, &[Lexeme]), Stop>
@@ -318,7 +318,7 @@ fn set(
 {
     let (value, rest) = value(alloc, left, ts)?;
     let (front, last) = split_last(parts);
-    let target = posted(alloc, at, e, front)?;
+    let target = posted(alloc, at, e, front)?.into_inner();
     Ok((Stmt::Set(target, last, value), used, rest))
 }
 
@@ -330,7 +330,7 @@ fn shaped<'a>(
     used: u32,
     shape: Shape,
     first: Named,
-    e: Expr,
+    e: Boxed<Expr>,
     parts: Items<Suffix>,
     ts: &'a [Lexeme],
 ) -> Result<(Stmt, u32, &'a [Lexeme]), Stop>
@@ -338,19 +338,34 @@ fn shaped<'a>(
 {
     let rest = behind(ts);
     match shape {
-        Shape::Name if starts(Mark::Equals, ts) => assign(alloc, left, used, first, rest),
-        Shape::Path | Shape::Part if starts(Mark::Equals, ts) => {
-            set(alloc, left, used, first.at, e, parts, rest)
-        }
-        Shape::Name | Shape::Path => {
+        Shape::Name => {
+            if starts(Mark::Equals, ts) {
+                return assign(alloc, left, used, first, rest);
+            }
             let names = path(alloc, first.name, parts.as_slice())?;
             path_local(alloc, left, used, first.at, names, ts)
         }
-        Shape::Call if starts(Mark::Semicolon, ts) => {
-            let e = posted(alloc, first.at, e, parts)?;
+        Shape::Path => {
+            if starts(Mark::Equals, ts) {
+                return set(alloc, left, used, first.at, e, parts, rest);
+            }
+            let names = path(alloc, first.name, parts.as_slice())?;
+            path_local(alloc, left, used, first.at, names, ts)
+        }
+        Shape::Call => {
+            if !starts(Mark::Semicolon, ts) {
+                return Err(syntax(ts));
+            }
+            let e = posted(alloc, first.at, e, parts)?.into_inner();
             Ok((Stmt::Do(e), used, rest))
         }
-        Shape::Call | Shape::Part | Shape::Bare => Err(syntax(ts)),
+        Shape::Part => {
+            if !starts(Mark::Equals, ts) {
+                return Err(syntax(ts));
+            }
+            set(alloc, left, used, first.at, e, parts, rest)
+        }
+        Shape::Bare => Err(syntax(ts)),
     }
 }
 
