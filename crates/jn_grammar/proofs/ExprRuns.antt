@@ -113,7 +113,7 @@ suffix_long : (w : List Part) (x : Suffix) → IsSuffix 0 w x → 1 ≤ length w
 suffix_long w x field = omega arith
 suffix_long w x (call c i) = omega arith
 
-suffix_less : (n k : ℕ) (ts : List Lexeme) (x : Suffix × List Lexeme) → begins (Marked Dot) ts ≡ true → suffix_in (level n) k ts ≡ Ok x → length x.1 < length ts
+pub suffix_less : (n k : ℕ) (ts : List Lexeme) (x : Suffix × List Lexeme) → begins (Marked Dot) ts ≡ true → suffix_in (level n) k ts ≡ Ok x → length x.1 < length ts
 suffix_less n k ts x h = strictly (IsSuffix 0) ts _ x (λ w. suffix_long w x.0) (suffix_sound n (sounds_below n) 0 k ts h)
 
 pub suffixes_run : (s : Bool) (n : ℕ) → Below (Runs s) n → (ts : List Lexeme) (below : List Symbol) → Does s Suffixes n ts below (row (begins (Marked Dot)) (suffix_in (level n)) 1 ts)

@@ -18,6 +18,11 @@ abbrev pub done_of : {A : Type 0} → Answer A → State
 done_of (Ok x) = Done
 done_of (Err f) = Fails f
 
+ended_done : (u : State) → ended u ≡ Done → u ≡ Done
+ended_done (Going n e) q = cc
+ended_done Done q = refl
+ended_done (Fails f) q = cc
+
 -- what is expected can come
 pub record IsEnded (m : ℕ) (expected : List Symbol) : Type 0 where
   pub finish : List Lexeme
@@ -132,7 +137,7 @@ alive_freed Done a = tt
 alive_freed (Fails f) a = a
 
 -- a beginning of what is read is read
-alive_front : (a b : List Lexeme) (st : State) → Alive (read true (a ++ b) st) → Alive (read true a st)
+pub alive_front : (a b : List Lexeme) (st : State) → Alive (read true (a ++ b) st) → Alive (read true a st)
 alive_front [] b (Going n e) h = tt
 alive_front [] b Done h = tt
 alive_front [] [] (Fails f) h = h
@@ -231,6 +236,10 @@ module _ {A : Type 0} (Is : List Part → A → Type 0) (reader : Bool → ℕ �
         begins = viable (before ++ t ∷ []) (read true (before ++ t ∷ []) (Going 200 first)) refl living;
         within = none_passed before t (read true (before ++ t ∷ []) (Going 200 first)) refl living;
       }
+
+  -- where an input is read, each word is clean
+  pub all_clean : (ws : List Lexeme) (x : A × List Lexeme) → reader true 200 ws ≡ Ok x → (before behind : List Lexeme) (t : Lexeme) → ws ≡ before ++ t ∷ behind → IsCleanSo Is before t
+  all_clean ws x e = clean_of ws Done (ended_done (read true ws (Going 200 first)) (h.does true 200 ws ∙ ap done_of e)) tt
 
   -- THE PLACE OF A SYNTAX FAULT
   pub syntax_at : (ws : List Lexeme) (l : ℕ) → reader true 200 ws ≡ Err (Syntax (suc l)) → IsSyntaxAt Is ws (suc l)

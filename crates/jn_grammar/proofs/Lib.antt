@@ -27,3 +27,16 @@ pub mod LocalSound
 pub mod StmtSound
 pub mod MethodSound
 pub mod DeclSound
+pub mod LocalAgain
+pub mod StmtAgain
+pub mod MethodAgain
+pub mod DeclAgain
+pub mod Growing
+pub mod LocalRuns
+pub mod StmtRuns
+pub mod MethodRuns
+pub mod DeclRuns
+pub mod Programs
+pub mod LastWord
+pub mod Different
+pub mod TokenFaults

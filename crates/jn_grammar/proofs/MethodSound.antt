@@ -76,7 +76,7 @@ param_sound s n d k ts =
       is = param_of (final_is ts) t.is tx.is;
     }))
 
-next_param_sound : (s : Bool) (n d k : ℕ) (ts : List Lexeme) → begins (Marked Comma) ts ≡ true → Sound (IsAfter IsComma (IsParam d k)) ts (next_param_in s n k ts)
+pub next_param_sound : (s : Bool) (n d k : ℕ) (ts : List Lexeme) → begins (Marked Comma) ts ≡ true → Sound (IsAfter IsComma (IsParam d k)) ts (next_param_in s n k ts)
 unfolding next_param_in
 next_param_sound s n d k ts h = comma_sound (IsParam d k) ts (param_in s n k (behind ts)) h (param_sound s n d k (behind ts))
 
@@ -120,7 +120,7 @@ rel_sound n d ts = sound_bind (IsView d) (IsRel d) ts ts _ _ (view_sound d n ts)
       is = rel o ts1.is tt1.is;
     })))
 
-next_rel_sound : (n d k : ℕ) (ts : List Lexeme) → begins (Marked Comma) ts ≡ true → Sound (IsAfter IsComma (IsRel d)) ts (next_rel_in n k ts)
+pub next_rel_sound : (n d k : ℕ) (ts : List Lexeme) → begins (Marked Comma) ts ≡ true → Sound (IsAfter IsComma (IsRel d)) ts (next_rel_in n k ts)
 unfolding next_rel_in
 next_rel_sound n d k ts h = comma_sound (IsRel d) ts (rel_in n (behind ts)) h (rel_sound n d (behind ts))
 
@@ -177,7 +177,7 @@ list_sound k ts = sound_if (IsList k) ts (begins (Key k) ts) (listed_in (behind 
 -- ---- fields and methods
 
 -- the pieces in a row are those of the rule
-around : (v u w : List Part) (c b e : Part) → (v ++ c ∷ []) ++ (u ++ (b ∷ (w ++ e ∷ []))) ≡ v ++ (c ∷ (u ++ (b ∷ (w ++ e ∷ []))))
+pub around : (v u w : List Part) (c b e : Part) → (v ++ c ∷ []) ++ (u ++ (b ∷ (w ++ e ∷ []))) ≡ v ++ (c ∷ (u ++ (b ∷ (w ++ e ∷ []))))
 around v u w c b e = append_assoc v (c ∷ []) (u ++ (b ∷ (w ++ e ∷ [])))
 
 method_of : {d i : ℕ} {r h u w : List Part} {res : Option TypeTerm} {ps : List Param} {cs : List Constraint} {ss : List Stmt × ℕ} (x : Name) (p : Place)

@@ -93,7 +93,7 @@ else_sound s n b d k ts = sound_if (ElseOf d k) ts (begins (Key Else) ts) (block
     by_answer h (Err f) t = tt
 
 -- the pieces in a row are those of the rule
-around : (v w z : List Part) (c b e : Part) → (v ++ c ∷ []) ++ (b ∷ ((w ++ e ∷ []) ++ z)) ≡ v ++ (c ∷ b ∷ (w ++ (e ∷ z)))
+pub around : (v w z : List Part) (c b e : Part) → (v ++ c ∷ []) ++ (b ∷ ((w ++ e ∷ []) ++ z)) ≡ v ++ (c ∷ b ∷ (w ++ (e ∷ z)))
 around v w z c b e = append_assoc v (c ∷ []) (b ∷ ((w ++ e ∷ []) ++ z)) ∙ ap (λ (i : List Part). v ++ (c ∷ b ∷ i)) (append_assoc w (e ∷ []) z)
 
 if_of : {d k m : ℕ} {v w u : List Part} {e : Expr} {ss : List Stmt × ℕ} {rs : List Stmt} (p : Place) → IsTest d v e → IsBlock d k w ss → IsElse d ss.1 u rs m

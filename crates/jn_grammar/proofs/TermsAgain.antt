@@ -76,11 +76,11 @@ pub row_of : {p : Place} {k : ℕ} {w : List Part} {xs : List Name} → IsDotted
 row_of one_name = dotted_row none
 row_of {p} {k} (more_names {x} {q = q} o {w} {xs} d) = longer x p o (row_of {k = suc k} d)
 
-bang_loose : (xs : List Name) (v : List Lexeme) → begins (Marked Bang) v ≡ false → bang_in xs v ≡ Ok (([], xs), v)
+pub bang_loose : (xs : List Name) (v : List Lexeme) → begins (Marked Bang) v ≡ false → bang_in xs v ≡ Ok (([], xs), v)
 unfolding bang_in
 bang_loose xs v e = if_false (begins (Marked Bang) v) _ _ e
 
-bang_exact : (xs : List Name) (o : Place) {w : List Part} {ys : List Name} → IsDots w ys → (v : List Lexeme) → EndsNames v → Reads (bang_in xs) (mark Bang o ∷ w) v (xs, ys)
+pub bang_exact : (xs : List Name) (o : Place) {w : List Part} {ys : List Name} → IsDots w ys → (v : List Lexeme) → EndsNames v → Reads (bang_in xs) (mark Bang o ∷ w) v (xs, ys)
 unfolding bang_in
 bang_exact xs o {w} {ys} ds v a = read_then dots_in (λ i. Ok ((xs, i.0), i.1)) w v ys _ (dots_again ds v a.dot) refl
 
@@ -105,7 +105,7 @@ unfolding own_in
 own_again p r {w} {es} {ns} d v a = read_then tail_in (λ i. Ok (term (head.Own r) i.0.0 i.0.1 p, i.1)) w v (es, ns) _ (tail_again d v a) refl
 
 -- names and then something
-dotted_then : (n : ℕ) (p : Place) {w : List Part} {xs : List Name} → DottedRow p 0 w xs → (z : List Lexeme) → begins (Marked Dot) z ≡ false
+pub dotted_then : (n : ℕ) (p : Place) {w : List Part} {xs : List Name} → DottedRow p 0 w xs → (z : List Lexeme) → begins (Marked Dot) z ≡ false
     → term_in n (lexemes w ++ z) ≡ meets w z (after_names_in n p xs z)
 unfolding term_in term_by after_name_in name_or_class_in
 dotted_then n p (dotted_row none) z e = if_false (begins (Marked Dot) z) _ _ e
@@ -126,7 +126,7 @@ shallow d n e = by_bool (nat_lt 200 (suc d)) (not_less d n e)
     by_bool true h = cc
     by_bool false h = refl
 
-prefix_again : (d n : ℕ) → d + n ≡ 200 → (p q b o c s : Place) (xs : List Name) {t : Part} {r : Ref} {w : List Part} {es ns : List Name} → IsRef q t r → IsTail w es ns → (v : List Lexeme) → EndsNames v
+pub prefix_again : (d n : ℕ) → d + n ≡ 200 → (p q b o c s : Place) (xs : List Name) {t : Part} {r : Ref} {w : List Part} {es ns : List Name} → IsRef q t r → IsTail w es ns → (v : List Lexeme) → EndsNames v
     → Reads (prefix_in n p xs) (opening d OpenBracket b ∷ t ∷ mark Dot o ∷ key Class c ∷ mark CloseBracket s ∷ w) v (term (head.Prefix xs r) es ns p)
 unfolding prefix_in ref_in class_in
 prefix_again d zero room p q b o c s xs {t} {r} {w} {es} {ns} i j v a =

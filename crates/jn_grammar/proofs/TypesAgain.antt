@@ -96,11 +96,11 @@ atom_again d k w t (one_atom {w = u} i) n room v a = by_head u (head_of i) (term
     by_head : (u : List Part) → TermHead u → Reads (term_in n) u v t → atom_in true n k (lexemes (atom k u) ++ v) ≡ meets (atom k u) v (Ok (t, v))
     by_head u (term_head {t = x} {w = z} h p) r = if_true (is_head x.word) _ _ h ∙ by_limit (limit_of (Atom k)) x z (term_in n (lexemes (x ∷ z) ++ v)) (r ∙ plain_first x z p)
 
-next_atom_again : (d n : ℕ) → d + n ≡ 200 → (k : ℕ) (w : List Part) (t : Term) → IsNextAtom d k w t → (v : List Lexeme) → EndsTerm v → Reads (next_atom_in true n k) w v t
+pub next_atom_again : (d n : ℕ) → d + n ≡ 200 → (k : ℕ) (w : List Part) (t : Term) → IsNextAtom d k w t → (v : List Lexeme) → EndsTerm v → Reads (next_atom_in true n k) w v t
 unfolding next_atom_in
 next_atom_again d n room k w t (next_atom i) v a = atom_again d k _ t i n room v a
 
-next_atom_head : (d k : ℕ) (w : List Part) (t : Term) → IsNextAtom d k w t → (v : List Lexeme) → (begins (Marked Ampersand) (lexemes w ++ v) ≡ true) × (1 ≤ length w) × EndsTerm (lexemes w ++ v)
+pub next_atom_head : (d k : ℕ) (w : List Part) (t : Term) → IsNextAtom d k w t → (v : List Lexeme) → (begins (Marked Ampersand) (lexemes w ++ v) ≡ true) × (1 ≤ length w) × EndsTerm (lexemes w ++ v)
 next_atom_head d k w t (next_atom i) v = (refl, omega arith, record { names = record { dot = refl; bang = refl }; bracket = refl })
 
 -- a first term and the others
@@ -110,11 +110,11 @@ pub data AtomsRow (d k : ℕ) : List Part → List Term → Type 0 where
 longer : {d k : ℕ} (o : Place) {u w : List Part} {t : Term} {ts : List Term} → IsAtom d k u t → AtomsRow d (suc k) w ts → AtomsRow d k (u ++ mark Ampersand o ∷ w) (t ∷ ts)
 longer o i (atoms_row j js) = atoms_row i (next (next_atom {o = o} j) js)
 
-row_atoms : {d k : ℕ} {w : List Part} {ts : List Term} → IsAtoms d k w ts → AtomsRow d k w ts
+pub row_atoms : {d k : ℕ} {w : List Part} {ts : List Term} → IsAtoms d k w ts → AtomsRow d k w ts
 row_atoms {d} {k} (last_atom {w = w} {t} i) = subst (λ (s : List Part). AtomsRow d k s (t ∷ [])) (append-nil (atom k w)) (atoms_row (one_atom i) none)
 row_atoms {d} {k} (then_atom o {v = u} {w} {t} {ts} i is) = longer o (one_atom i) (row_atoms is)
 
-next_atoms_end : {d k : ℕ} {w : List Part} {ts : List Term} → Row (IsNextAtom d) k w ts → (v : List Lexeme) → EndsTerm v → EndsTerm (lexemes w ++ v)
+pub next_atoms_end : {d k : ℕ} {w : List Part} {ts : List Term} → Row (IsNextAtom d) k w ts → (v : List Lexeme) → EndsTerm v → EndsTerm (lexemes w ++ v)
 next_atoms_end none v a = a
 next_atoms_end (next (next_atom i) is) v a = record { names = record { dot = refl; bang = refl }; bracket = refl }
 
@@ -146,7 +146,7 @@ class_head {d} {w} i u = by_row (row_atoms i)
     by_row : {w : List Part} {ts : List Term} → AtomsRow d 1 w ts → (begins (Key Int) (lexemes w ++ u) ≡ false) × (begins (Key Boolean) (lexemes w ++ u) ≡ false)
     by_row (atoms_row {w = z} j js) = by_atom j z
 
-masks_no_ampersand : {w : List Part} {ms : List Named} → IsMasks w ms → (v : List Lexeme) → begins (Marked Ampersand) v ≡ false → begins (Marked Ampersand) (lexemes w ++ v) ≡ false
+pub masks_no_ampersand : {w : List Part} {ms : List Named} → IsMasks w ms → (v : List Lexeme) → begins (Marked Ampersand) v ≡ false → begins (Marked Ampersand) (lexemes w ++ v) ≡ false
 masks_no_ampersand no_mask v e = e
 masks_no_ampersand (mask ds) v e = refl
 

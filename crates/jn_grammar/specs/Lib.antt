@@ -7,3 +7,4 @@ pub mod ReadDecls
 pub mod Expected
 pub mod Places
 pub mod ReadWhole
+pub mod TokenLimits

@@ -1,4 +1,4 @@
-//! The theory of reading: names, terms, types and expressions.
+//! The theory of reading: the whole grammar, from names to programs.
 //!
 //! `specs/` has a reader as plain functions on words, and a machine of what is still expected, one step a word.
 //! `proofs/` shows that the reader reads exactly the grammar, and that the machine does what the reader does.
@@ -10,12 +10,13 @@ pub mod shape;
 
 #[cfg(test)]
 mod tests {
-    use super::laws::{whole_expressions, whole_types, whole_views};
+    use super::laws::{whole_expressions, whole_programs, whole_types, whole_views};
 
     #[test]
     fn the_laws_are_there() {
         whole_expressions();
         whole_types();
         whole_views();
+        whole_programs();
     }
 }
