@@ -1,6 +1,11 @@
 pub mod Heights
+pub mod Passes
 pub mod Loops
+pub mod Mentioning
+pub mod Numbering
 pub mod Parts
 pub mod Places
 pub mod Shorter
 pub mod ShorterBodies
+pub mod TokenTexts
+pub mod WordsOnce

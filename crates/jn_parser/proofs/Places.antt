@@ -1,7 +1,7 @@
 -- Places, byte by byte.
 use Rattle.std.proofs.Common.{◌≡◌, ℕ, suc, ◌+◌, ◌-◌, ◌≤◌, ◌==◌, Bool, true, false, not, List, [], ◌∷◌, ◌++◌, length, take, drop, min, reverse, cond, refl, sym, ◌∙◌, ap, append_assoc, arith, if◌then◌else◌, length-drop, length-append}
 use Rattle.std.specs.List.{after_last, suffix_len, prefix_len, count_by}
-use Rattle.std.proofs.lemmas.List.{append-nil, reverse-append}
+use Rattle.std.proofs.lemmas.List.{append-nil, length-take, reverse-append}
 use Rattle.std.proofs.lemmas.Grind.{common_steps}
 use Rattle.std.proofs.lemmas.List.Sums.{sum_by-append, count_by-le-length, suffix_len-le-length}
 use Rattle.std.proofs.Math.Seq.{take-add}
@@ -64,3 +64,7 @@ take_min bytes at = grind (arith, common_steps)
 
 pub place_is : (bytes : List ℕ) (at : ℕ) → moved (record { line = 1; column = 1 }) (take (min at (length bytes)) bytes) ≡ place_of bytes at
 place_is bytes at = moved_behind (take (min at (length bytes)) bytes) [] ∙ ap behind (take_min bytes at)
+
+-- lines and columns are few
+pub place_small : (bytes : List ℕ) (at : ℕ) → ((place_of bytes at).line ≤ 1 + length bytes) × ((place_of bytes at).column ≤ 1 + length bytes)
+place_small bytes at = (omega (arith, count_by-le-length ends (take at bytes), length-take at bytes), omega (arith, column_is (take at bytes), suffix_len-le-length stays (take at bytes), length-take at bytes))

@@ -1,3 +1,5 @@
 pub mod Giving
 pub mod Levels
 pub mod Moved
+pub mod Noted
+pub mod Wording

@@ -5,8 +5,11 @@ mod cursor;
 mod decl;
 mod expr;
 mod fault;
+mod limits;
 mod place;
+mod spelling;
 mod stmt;
 mod types;
+mod words;
 
 pub use fault::ParseFault;
