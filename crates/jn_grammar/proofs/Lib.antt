@@ -40,3 +40,5 @@ pub mod Programs
 pub mod LastWord
 pub mod Different
 pub mod TokenFaults
+pub mod Refusals
+pub mod Sources

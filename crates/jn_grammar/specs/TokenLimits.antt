@@ -1,5 +1,5 @@
 -- The limits that the words alone show: different masks and different names. And the first fault of both kinds.
-use Rattle.std.specs.Prelude.{ℕ, suc, ◌-◌, Bool, true, false, ◌&&◌, not, eqb, nat_lt, nat_le, List, [], ◌∷◌, length, drop, Option, Some, None, Ok, Err, if◌then◌else◌}
+use Rattle.std.specs.Prelude.{◌≡◌, ℕ, suc, ◌-◌, Bool, true, false, ◌&&◌, not, eqb, nat_lt, nat_le, List, [], ◌∷◌, ◌++◌, length, drop, Option, Some, None, Ok, Err, if◌then◌else◌}
 use Rattle.jn_base.specs.declared.tree.Place.{Place}
 use Rattle.jn_base.specs.declared.tree.Decl.{Decl}
 use Rattle.jn_base.specs.declared.refusal.Limit.{Limit}
@@ -11,6 +11,7 @@ use Rattle.jn_base.specs.declared.word.Word.{Word}
 use Rattle.jn_base.specs.declared.word.Word.TheVariants.{Mark as Marked, End, Fault as Broken}
 use Rattle.jn_base.specs.declared.word.Lexeme.{Lexeme}
 use Rattle.jn_base.specs.Words.{name_number}
+use Rattle.jn_base.specs.Spelling.{IsClean, IsFirstRefused}
 use Rattle.jn_grammar.specs.declared.fault.Fault.{Fault}
 use Rattle.jn_grammar.specs.declared.fault.Fault.TheVariants.{Syntax, Passed}
 use Rattle.jn_grammar.specs.Begins.{is_word, place}
@@ -89,3 +90,17 @@ place_left ws left = place (drop (length ws - left) ws)
 pub data IsLast : Word → Type 0 where
   the_end : IsLast End
   no_word : IsLast Broken
+
+-- two refusals are one
+pub record SameRefusal (r q : Rule) (at p : Place) (l m : Option Limit) : Type 0 where
+  pub rules : r ≡ q
+  pub places : at ≡ p
+  pub limits : l ≡ m
+
+-- each of the words begins a program with those before it, and passes no limit
+abbrev pub AreClean : List Lexeme → Type 0
+AreClean ws = (before behind : List Lexeme) (t : Lexeme) → ws ≡ before ++ t ∷ behind → IsClean before t
+
+-- the first refusal of the words is that of this fault
+abbrev pub IsFirstFault : List Lexeme → Fault → Type 0
+IsFirstFault ws f = IsFirstRefused ws (rule_of f) (place_left ws (left_of f)) (limit_shown f)

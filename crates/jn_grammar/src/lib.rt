@@ -10,7 +10,7 @@ pub mod shape;
 
 #[cfg(test)]
 mod tests {
-    use super::laws::{whole_expressions, whole_programs, whole_types, whole_views};
+    use super::laws::{checked_programs, checked_sources, whole_expressions, whole_programs, whole_types, whole_views};
 
     #[test]
     fn the_laws_are_there() {
@@ -18,5 +18,7 @@ mod tests {
         whole_types();
         whole_views();
         whole_programs();
+        checked_programs();
+        checked_sources();
     }
 }
