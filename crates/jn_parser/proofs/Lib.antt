@@ -1,3 +1,4 @@
+pub mod Among
 pub mod Heights
 pub mod Passes
 pub mod Loops
@@ -7,5 +8,7 @@ pub mod Parts
 pub mod Places
 pub mod Shorter
 pub mod ShorterBodies
+pub mod Sources
 pub mod TokenTexts
+pub mod Values
 pub mod WordsOnce

@@ -1,5 +1,5 @@
 -- Tables that number what is mentioned, and the words of the tokens so far.
-use Rattle.std.proofs.Common.{◌≡◌, ℕ, zero, suc, ◌+◌, ◌<◌, ◌≤◌, Bool, true, false, not, ◌||◌, List, [], ◌∷◌, ◌++◌, length, map, cond, Option, Some, None, refl, sym, ◌∙◌, ap, subst, arith, length-append, ◌==◌, pos, if◌then◌else◌}
+use Rattle.std.proofs.Common.{◌≡◌, ℕ, zero, suc, ◌+◌, ◌<◌, ◌≤◌, Bool, true, false, not, ◌||◌, List, [], ◌∷◌, ◌++◌, length, map, cond, Option, Some, None, refl, sym, ◌∙◌, ap, subst, arith, length-append, ◌==◌, ℤ, pos, if◌then◌else◌}
 use Rattle.std.specs.Prelude.{slice_get, filter_map}
 use Rattle.std.specs.Str.{bytes_eq}
 use Rattle.std.specs.List.{list_any, position_or_len, cons_option}
@@ -10,13 +10,16 @@ use Rattle.std.proofs.lemmas.List.{append-nil, append_cancel_right}
 use Rattle.indexmap.specs.IndexSet.{insert_key}
 use Rattle.jn_base.specs.declared.token.Token.{Token}
 use Rattle.jn_base.specs.declared.token.TokenKind.{TokenKind}
+use Rattle.jn_base.specs.declared.token.TokenKind.TheVariants as sort
 use Rattle.jn_base.specs.declared.tree.Text.{Text}
+use Rattle.jn_base.specs.declared.word.Keyword.{Keyword}
+use Rattle.jn_base.specs.declared.word.Mark.{Mark}
 use Rattle.jn_base.specs.declared.word.Word.{Word}
 use Rattle.jn_base.specs.declared.word.Word.TheVariants as word
 use Rattle.jn_base.specs.declared.word.Lexeme.{Lexeme}
 use Rattle.jn_base.specs.Places.{place_of}
 use Rattle.jn_base.specs.Tokens.{quote, backslash, letter_n, ends_line, is_plain, is_escape, digits_value, IsInText, no_more, plain, escape}
-use Rattle.jn_base.specs.Words.{text, text_of, lexeme, Reads, nothing, plain as plain_char, escaped_quote, escaped_backslash, escaped_line_feed, IsWord, a_name, a_keyword, a_number, a_text, a_mark, AreWords, no_word, then_word, name_number, text_number, AreByMention, all_mentioned, again, first, AreNumbered}
+use Rattle.jn_base.specs.Words.{keyword_text, mark_text, text, text_of, lexeme, Reads, nothing, plain as plain_char, escaped_quote, escaped_backslash, escaped_line_feed, IsWord, a_name, a_keyword, a_number, a_text, a_mark, AreWords, no_word, then_word, name_number, text_number, AreByMention, all_mentioned, again, first, AreNumbered}
 use Rattle.jn_parser.specs.Wording.{Numbers, known, fresh, escaped, unescaped, IsQuoted, IsTextFor, Mentions, table, AreSoFar}
 use Rattle.jn_parser.specs.Wording as wording
 
@@ -294,3 +297,26 @@ so_far_more {bytes} {done} {words} {names} {texts} t s m ek ew is = by_mention m
       names_numbered = same_names words (at (word.Mark m)) refl s.names_numbered;
       texts_numbered = same_texts words (at (word.Mark m)) refl s.texts_numbered;
     }
+
+-- ---- what the function that makes a word has
+
+pub mention_name : {names texts more : List (List ℕ)} {k : TokenKind} {v w : List ℕ} {n : ℕ} → k ≡ sort.Name → v ≡ w → Numbers names v more n → Mentions names texts k w (word.Name (record { 0 = n })) more texts
+mention_name {names} {texts} {more} {k} {v} {w} {n} e f d = subst (λ j. Mentions names texts j w (word.Name (record { 0 = n })) more texts) (sym e) (wording.a_name (subst (λ (u : List ℕ). Numbers names u more n) f d))
+
+pub mention_keyword : {names texts : List (List ℕ)} {k : TokenKind} {w : List ℕ} (j : Keyword) → k ≡ sort.Keyword → w ≡ keyword_text j → Mentions names texts k w (word.Keyword j) names texts
+mention_keyword {names} {texts} {k} {w} j e f =
+    subst (λ i. Mentions names texts i w (word.Keyword j) names texts) (sym e) (subst (λ (u : List ℕ). Mentions names texts sort.Keyword u (word.Keyword j) names texts) (sym f) (wording.a_keyword j))
+
+pub mention_number : {names texts : List (List ℕ)} {k : TokenKind} {w : List ℕ} {z : ℤ} → k ≡ sort.Number → z ≡ pos (digits_value w) → Mentions names texts k w (word.Number z) names texts
+mention_number {names} {texts} {k} {w} {z} e f =
+    subst (λ i. Mentions names texts i w (word.Number z) names texts) (sym e) (subst (λ y. Mentions names texts sort.Number w (word.Number y) names texts) (sym f) wording.a_number)
+
+pub mention_text : {names texts more : List (List ℕ)} {k : TokenKind} {u : List ℕ} (v : List ℕ) {w : List ℕ} {n : ℕ} → k ≡ sort.Text → w ≡ quote ∷ (v ++ quote ∷ []) → u ≡ unescaped false v → Numbers texts u more n
+    → Mentions names texts k w (word.Text n) names more
+mention_text {names} {texts} {more} {k} {u} v {w} {n} e f g d =
+    subst (λ i. Mentions names texts i w (word.Text n) names more) (sym e)
+    (subst (λ (x : List ℕ). Mentions names texts sort.Text x (word.Text n) names more) (sym f) (wording.a_text v (subst (λ (x : List ℕ). Numbers texts x more n) g d)))
+
+pub mention_mark : {names texts : List (List ℕ)} {k : TokenKind} {w : List ℕ} (m : Mark) → k ≡ sort.Mark → w ≡ mark_text m → Mentions names texts k w (word.Mark m) names texts
+mention_mark {names} {texts} {k} {w} m e f =
+    subst (λ i. Mentions names texts i w (word.Mark m) names texts) (sym e) (subst (λ (u : List ℕ). Mentions names texts sort.Mark u (word.Mark m) names texts) (sym f) (wording.a_mark m))

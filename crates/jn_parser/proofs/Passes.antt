@@ -11,7 +11,7 @@ use Rattle.jn_base.specs.declared.word.Word.TheVariants as word
 use Rattle.jn_base.specs.declared.word.Mark.TheVariants.{Backslash}
 use Rattle.jn_base.specs.declared.word.Lexeme.{Lexeme}
 use Rattle.jn_base.specs.Words.{name_number}
-use Rattle.jn_grammar.specs.Begins.{is_word}
+use Rattle.jn_grammar.specs.Begins.{is_word, begins}
 use Rattle.jn_grammar.specs.TokenLimits.{Seen, nothing_seen, has, passes_names, shows, masks_with, after_word, limit_or, limits_from, token_limit}
 use Rattle.jn_parser.specs.Noted.{noted, shown_by}
 
@@ -70,14 +70,14 @@ pub record Passing (ks : List ℕ) (is_mask : Bool) (rest whole : List Lexeme) :
 pub passing_starts : (ws : List Lexeme) → Passing [] false ws ws
 passing_starts ws = record { seen = nothing_seen; masks = record { has_same = λ q. refl; count = refl }; behind = refl; gives = refl }
 
-pub passing_stops : (ks : List ℕ) (is_mask : Bool) (t : Lexeme) (rest whole : List Lexeme) (l : Limit) → Passing ks is_mask (t ∷ rest) whole → shown_by ks is_mask (name_number t.word) ≡ Some l
+passing_stops : (ks : List ℕ) (is_mask : Bool) (t : Lexeme) (rest whole : List Lexeme) (l : Limit) → Passing ks is_mask (t ∷ rest) whole → shown_by ks is_mask (name_number t.word) ≡ Some l
     → Some (l, suc (length rest)) ≡ token_limit whole
 unfolding limits_from
 passing_stops ks is_mask t rest whole l p e =
     let shown : shows p.seen (name_number t.word) ≡ Some l = shows_is p.seen ks (name_number t.word) p.masks ∙ ap (λ (b : Bool). shown_by ks b (name_number t.word)) p.behind ∙ e in
     sym (ap (λ o. limit_or o (suc (length rest)) (limits_from rest (after_word p.seen t.word))) shown) ∙ p.gives
 
-pub passing_goes : (ks more : List ℕ) (is_mask after : Bool) (t : Lexeme) (rest whole : List Lexeme) → Passing ks is_mask (t ∷ rest) whole → shown_by ks is_mask (name_number t.word) ≡ None
+passing_goes : (ks more : List ℕ) (is_mask after : Bool) (t : Lexeme) (rest whole : List Lexeme) → Passing ks is_mask (t ∷ rest) whole → shown_by ks is_mask (name_number t.word) ≡ None
     → more ≡ noted is_mask (name_number t.word) ks → after ≡ is_word (word.Mark Backslash) t.word → Passing more after rest whole
 unfolding limits_from
 passing_goes ks more is_mask after t rest whole p e m a =
@@ -93,3 +93,13 @@ passing_goes ks more is_mask after t rest whole p e m a =
 pub passing_ends : (ks : List ℕ) (is_mask : Bool) (rest whole : List Lexeme) → Passing ks is_mask rest whole → rest ≡ [] → None ≡ token_limit whole
 unfolding limits_from
 passing_ends ks is_mask rest whole p e = ap (λ (us : List Lexeme). limits_from us p.seen) (sym e) ∙ p.gives
+
+-- ... where the words left are this one and those behind it
+pub stops_at : (ks : List ℕ) (is_mask : Bool) (now whole : List Lexeme) (t : Lexeme) (rest : List Lexeme) (l : Limit) → now ≡ t ∷ rest → Passing ks is_mask now whole → shown_by ks is_mask (name_number t.word) ≡ Some l
+    → Some (l, length now) ≡ token_limit whole
+stops_at ks is_mask now whole t rest l e p s = ap (λ (us : List Lexeme). Some (l, length us)) e ∙ passing_stops ks is_mask t rest whole l (subst (λ (us : List Lexeme). Passing ks is_mask us whole) e p) s
+
+pub goes_behind : (ks more : List ℕ) (is_mask after : Bool) (now whole : List Lexeme) (t : Lexeme) (rest : List Lexeme) → now ≡ t ∷ rest → Passing ks is_mask now whole → shown_by ks is_mask (name_number t.word) ≡ None
+    → more ≡ noted is_mask (name_number t.word) ks → after ≡ begins (word.Mark Backslash) now → Passing more after rest whole
+goes_behind ks more is_mask after now whole t rest e p s m a =
+    passing_goes ks more is_mask after t rest whole (subst (λ (us : List Lexeme). Passing ks is_mask us whole) e p) s m (a ∙ ap (λ (us : List Lexeme). begins (word.Mark Backslash) us) e)

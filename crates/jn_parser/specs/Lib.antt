@@ -2,4 +2,5 @@ pub mod Giving
 pub mod Levels
 pub mod Moved
 pub mod Noted
+pub mod Parsing
 pub mod Wording

@@ -6,6 +6,7 @@ ghost use Rattle.jn_grammar.specs.TokenLimits.{token_limit};
 ghost use Rattle.jn_parser.specs.Noted.{noted, shown_by};
 
 use crate::cursor::starts;
+use crate::rows::split_first;
 use indexmap::IndexSet;
 use jn_base::refusal::Limit;
 use jn_base::word::{Lexeme, Mark, Word};
@@ -48,7 +49,7 @@ pub fn first_passed(alloc: Global, words: &[Lexeme]) -> Result<Option<(Limit, us
     let mut masks = IndexSet::new(alloc);
     let mut is_mask = false;
     let mut rest = words;
-    'word: while let [t, after @ ..] = rest {
+    'word: while let Some((t, after)) = split_first(rest) {
         if let Some(limit) = shown(&masks, is_mask, t.word) {
             return Ok(Some((limit, rest.len())));
         }

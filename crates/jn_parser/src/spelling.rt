@@ -8,6 +8,7 @@ ghost use Rattle.jn_base.specs.Tokens.{quote, digits_value};
 ghost use Rattle.jn_base.specs.Words.{keyword_text, mark_text};
 ghost use Rattle.jn_parser.specs.Wording.{escaped, unescaped, IsDigits, IsTextFor};
 
+use crate::rows::split_first;
 use jn_base::word::{Keyword, Mark};
 use std::alloc::{AllocError, Global};
 
@@ -73,10 +74,12 @@ pub fn keyword(text: &[u8]) -> Option<Keyword>
     ensures found { IfSome result (λ k. text.now ≡ keyword_text k) }
     ensures none { IfNone result ((k : Key) → text.now ≡ keyword_text k → ⊥) }
 {
-    for key in &KEYWORDS {
-        if text == keyword_text(*key) {
-            return Some(*key);
+    let mut rest: &[Keyword] = &KEYWORDS;
+    'key: while let Some((key, after)) = split_first(rest) {
+        if text == keyword_text(key) {
+            return Some(key);
         }
+        rest = after;
     }
     None
 }
@@ -151,10 +154,12 @@ pub fn mark(text: &[u8]) -> Option<Mark>
     ensures found { IfSome result (λ m. text.now ≡ mark_text m) }
     ensures none { IfNone result ((m : Marked) → text.now ≡ mark_text m → ⊥) }
 {
-    for mark in &MARKS {
-        if text == mark_text(*mark) {
-            return Some(*mark);
+    let mut rest: &[Mark] = &MARKS;
+    'mark: while let Some((mark, after)) = split_first(rest) {
+        if text == mark_text(mark) {
+            return Some(mark);
         }
+        rest = after;
     }
     None
 }
@@ -166,7 +171,7 @@ pub fn value(digits: &[u8]) -> i64
 {
     let mut value: u64 = 0;
     let mut rest = digits;
-    'digit: while let [digit, after @ ..] = rest {
+    'digit: while let Some((digit, after)) = split_first(rest) {
         value = 10 * value + u64::from(digit - b'0');
         rest = after;
     }

@@ -8,6 +8,7 @@ ghost use Rattle.jn_lexer.specs.Lexing.{AreInOrder};
 ghost use Rattle.jn_parser.specs.Wording.{Numbers, IsTextFor, HaveTexts, Mentions, AreSoFar};
 
 use crate::place::{moved, place_of};
+use crate::rows::split_first;
 use crate::spelling::{between_quotes, keyword, mark, unescaped, value};
 use indexmap::IndexSet;
 use jn_base::token::{LexFault, Token, TokenKind};
@@ -92,7 +93,7 @@ fn mentioned(alloc: Global, bytes: &[u8], tokens: &[Token]) -> Result<Seen, Allo
     let mut place = Place { line: 1, column: 1 };
     let mut at = 0;
     let mut rest = tokens;
-    'token: while let [token, after @ ..] = rest {
+    'token: while let Some((token, after)) = split_first(rest) {
         let start = token.start as usize;
         place = moved(place, &bytes[at..start]);
         let text = &bytes[start..token.end as usize];
