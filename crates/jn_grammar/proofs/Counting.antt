@@ -7,7 +7,7 @@ use Rattle.jn_grammar.specs.Answers.{Answer, ◌>>=◌}
 use Rattle.jn_grammar.specs.ReadStmts.{counting}
 use Rattle.jn_grammar.specs.Expected.{Symbol, Going, run}
 use Rattle.jn_grammar.proofs.Tools.{Sound, sound_bind, sound_if, glue, length_lexemes}
-use Rattle.jn_grammar.proofs.Meets.{meets, meets_bind, words_append, Reads, then_reads, if_true, if_false}
+use Rattle.jn_grammar.proofs.Meets.{meets_bind, words_append, Reads, then_reads, if_true, if_false}
 use Rattle.jn_grammar.proofs.Machine.{Comes, comes_if, comes_then}
 
 -- each of them an X, from the count k on

@@ -1,5 +1,5 @@
 -- What is in the grammar of declarations is read, with its tree, whatever stands behind it.
-use Rattle.std.proofs.Common.{◌≡◌, ℕ, zero, suc, ◌+◌, ◌≤◌, Bool, true, false, List, [], ◌∷◌, ◌++◌, length, Some, None, Ok, refl, sym, ◌∙◌, ap, subst, append_assoc, length-append, arith}
+use Rattle.std.proofs.Common.{◌≡◌, ℕ, zero, suc, ◌+◌, ◌≤◌, true, false, List, [], ◌∷◌, ◌++◌, length, Some, None, Ok, refl, ◌∙◌, ap, subst, arith}
 use Rattle.std.specs.Prelude.{not}
 use Rattle.jn_base.specs.declared.tree.Place.{Place}
 use Rattle.jn_base.specs.declared.tree.Named.{Named}
@@ -10,7 +10,7 @@ use Rattle.jn_base.specs.declared.tree.Decl.{Decl}
 use Rattle.jn_base.specs.declared.tree.Member.{Member}
 use Rattle.jn_base.specs.declared.tree.Member.TheVariants as member
 use Rattle.jn_base.specs.declared.word.Keyword.{Keyword}
-use Rattle.jn_base.specs.declared.word.Keyword.TheVariants.{Adapts, Boolean, Class, Extends, Int, Package, Shares, This, Void}
+use Rattle.jn_base.specs.declared.word.Keyword.TheVariants.{Adapts, Boolean, Extends, Int, Shares, This, Void}
 use Rattle.jn_base.specs.declared.word.Mark.TheVariants.{CloseBrace, CloseParen, OpenBrace, OpenParen, Semicolon}
 use Rattle.jn_base.specs.declared.word.Word.{Word}
 use Rattle.jn_base.specs.declared.word.Word.TheVariants.{Name as Named_, Keyword as Key, Mark as Marked, End}
@@ -18,15 +18,15 @@ use Rattle.jn_base.specs.declared.word.Lexeme.{Lexeme}
 use Rattle.jn_base.specs.Words.{lexeme}
 use Rattle.jn_base.specs.Parts.{Part, Declares, key, mark, name, new_name, opening, named}
 use Rattle.jn_base.specs.GrammarTypes.{IsType}
-use Rattle.jn_base.specs.GrammarDecl.{no_result, result, IsList, no_list, list, IsKind, a_class, a_package, IsInner, inner, IsMember, declared, slot, method, IsMembers, no_member, then_member, IsTop, top, decl}
-use Rattle.jn_grammar.specs.Begins.{begins, behind, lexemes, is_word}
-use Rattle.jn_grammar.specs.Answers.{Answer, ◌>>=◌, expect, name_in, row}
+use Rattle.jn_base.specs.GrammarDecl.{no_result, result, IsList, no_list, list, a_class, a_package, inner, IsMember, declared, slot, method, IsMembers, no_member, then_member, IsTop, top, decl}
+use Rattle.jn_grammar.specs.Begins.{lexemes, is_word}
+use Rattle.jn_grammar.specs.Answers.{◌>>=◌, expect}
 use Rattle.jn_grammar.specs.ReadStmts.{new_name_in, in_body}
-use Rattle.jn_grammar.specs.ReadDecls.{list_in, method_in, void_in, typed_in, body_in, inner_in, top_decl_in, inner_member_in, member_by, member_in, members_in, members_of, top_by, top_in, in_file, tops_in}
+use Rattle.jn_grammar.specs.ReadDecls.{list_in, void_in, typed_in, body_in, inner_in, top_decl_in, inner_member_in, member_by, member_in, members_in, members_of, top_by, top_in, in_file, tops_in}
 use Rattle.jn_grammar.proofs.FirstWords.{never}
 use Rattle.jn_grammar.proofs.Tools.{Below}
 use Rattle.jn_grammar.proofs.Row.{Row, none, next}
-use Rattle.jn_grammar.proofs.Meets.{meets, words_append, Reads, then_reads}
+use Rattle.jn_grammar.proofs.Meets.{Reads, then_reads}
 use Rattle.jn_grammar.proofs.TermsAgain.{row_again, read_then}
 use Rattle.jn_grammar.proofs.ExprAgain.{denied_again, allowed_again, deeper}
 use Rattle.jn_grammar.proofs.LocalSound.{IsNewName, one_new_name}

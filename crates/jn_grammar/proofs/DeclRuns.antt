@@ -1,7 +1,6 @@
 -- Reading declarations is what the machine does with their symbols.
-use Rattle.std.proofs.Common.{◌≡◌, ℕ, zero, suc, ◌≤◌, ◌<◌, Bool, true, false, List, [], ◌∷◌, ◌++◌, length, Ok, Err, refl, sym, ◌∙◌, ap, arith, if◌then◌else◌}
+use Rattle.std.proofs.Common.{◌≡◌, ℕ, zero, suc, ◌≤◌, ◌<◌, Bool, true, false, List, [], ◌∷◌, ◌++◌, length, Ok, refl}
 use Rattle.std.specs.Prelude.{not}
-use Rattle.jn_base.specs.declared.tree.Place.{Place}
 use Rattle.jn_base.specs.declared.tree.Kind.{Kind}
 use Rattle.jn_base.specs.declared.tree.Kind.TheVariants as kind
 use Rattle.jn_base.specs.declared.tree.Decl.{Decl}
@@ -17,15 +16,15 @@ use Rattle.jn_base.specs.Parts.{Part, Declares}
 use Rattle.jn_base.specs.GrammarDecl.{IsMember, IsTop}
 use Rattle.jn_grammar.specs.declared.fault.Fault.TheVariants.{Syntax, Passed}
 use Rattle.jn_grammar.specs.Begins.{begins, behind, is_word}
-use Rattle.jn_grammar.specs.Answers.{Answer, ◌>>=◌, expect}
+use Rattle.jn_grammar.specs.Answers.{◌>>=◌, expect}
 use Rattle.jn_grammar.specs.ReadStmts.{in_body}
 use Rattle.jn_grammar.specs.ReadDecls.{typed_in, body_in, inner_in, top_decl_in, inner_member_in, member_by, member_in, members_in, members_of, top_by, top_in, in_file, tops_in}
-use Rattle.jn_grammar.specs.Expected.{Symbol, Shuts, AName, Type_, SlotOrMethod, NewName, ListOf, Members, DeclBody, Tops, inner_rest, top_rest, opened, Going, run}
-use Rattle.jn_grammar.proofs.FirstWords.{never, word_is}
+use Rattle.jn_grammar.specs.Expected.{Symbol, Shuts, AName, Type_, SlotOrMethod, ListOf, Members, DeclBody, Tops, inner_rest, top_rest, opened, Going, run}
+use Rattle.jn_grammar.proofs.FirstWords.{never}
 use Rattle.jn_grammar.proofs.Tools.{Below, strictly}
 use Rattle.jn_grammar.proofs.DeclSound.{member_sound, members_sounds_below, top_sound}
 use Rattle.jn_grammar.proofs.DeclAgain.{member_goes, top_goes}
-use Rattle.jn_grammar.proofs.Machine.{Comes, Does, run_fails, comes_then, comes_both, from, opens_or_refuses, shuts, row_runs}
+use Rattle.jn_grammar.proofs.Machine.{Comes, Does, run_fails, comes_then, comes_both, opens_or_refuses, shuts, row_runs}
 use Rattle.jn_grammar.proofs.LocalRuns.{new_name_runs}
 use Rattle.jn_grammar.proofs.MethodRuns.{list_runs, void_runs, typed_runs}
 

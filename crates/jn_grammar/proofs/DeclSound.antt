@@ -1,12 +1,11 @@
 -- What is read of declarations is in the grammar.
-use Rattle.std.proofs.Common.{◌≡◌, ℕ, zero, suc, Bool, true, false, List, [], ◌∷◌, ◌++◌, length, Ok, Err, refl, sym, ◌∙◌, ap, subst}
+use Rattle.std.proofs.Common.{◌≡◌, ℕ, zero, suc, Bool, true, List, [], ◌∷◌, ◌++◌, length, Ok, ◌∙◌, ap}
 use Rattle.jn_base.specs.declared.tree.Place.{Place}
 use Rattle.jn_base.specs.declared.tree.Named.{Named}
 use Rattle.jn_base.specs.declared.tree.Kind.{Kind}
 use Rattle.jn_base.specs.declared.tree.Kind.TheVariants as kind
 use Rattle.jn_base.specs.declared.tree.Decl.{Decl}
 use Rattle.jn_base.specs.declared.tree.Member.{Member}
-use Rattle.jn_base.specs.declared.tree.Member.TheVariants as member
 use Rattle.jn_base.specs.declared.word.Keyword.{Keyword}
 use Rattle.jn_base.specs.declared.word.Keyword.TheVariants.{Adapts, Class, Extends, Package, Shares, Void}
 use Rattle.jn_base.specs.declared.word.Mark.TheVariants.{CloseBrace, OpenBrace}
@@ -17,9 +16,9 @@ use Rattle.jn_base.specs.Words.{lexeme}
 use Rattle.jn_base.specs.Parts.{Part, Declares, key, mark, opening}
 use Rattle.jn_base.specs.GrammarDecl.{IsList, IsKind, a_class, a_package, IsInner, inner, IsMember, declared, IsMembers, no_member, then_member, IsTop, top, decl}
 use Rattle.jn_grammar.specs.Begins.{begins, behind, place, lexemes}
-use Rattle.jn_grammar.specs.Answers.{Answer, ◌>>=◌, here, expect}
-use Rattle.jn_grammar.specs.ReadStmts.{new_name_in, in_body}
-use Rattle.jn_grammar.specs.ReadDecls.{list_in, body_in, inner_in, top_decl_in, inner_member_in, member_by, member_in, members_in, members_of, top_by, top_in, in_file, tops_in}
+use Rattle.jn_grammar.specs.Answers.{◌>>=◌, here, expect}
+use Rattle.jn_grammar.specs.ReadStmts.{in_body}
+use Rattle.jn_grammar.specs.ReadDecls.{body_in, inner_in, top_decl_in, inner_member_in, member_by, member_in, members_in, members_of, top_by, top_in, in_file, tops_in}
 use Rattle.jn_grammar.proofs.FirstWords.{begins_is}
 use Rattle.jn_grammar.proofs.Tools.{Below, Sound, sound_bind, sound_if, sound_map, sound_expect, glue}
 use Rattle.jn_grammar.proofs.Row.{Row, none, next, many_sound}

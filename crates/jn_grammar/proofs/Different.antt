@@ -1,6 +1,6 @@
 -- Lists of different numbers, and how many there can be.
-use Rattle.std.proofs.Common.{◌≡◌, ℕ, zero, suc, ◌≤◌, ◌<◌, Bool, true, false, List, [], ◌∷◌, ◌++◌, length, Some, refl, sym, ◌∙◌, ap, subst, arith, if◌then◌else◌}
-use Rattle.std.specs.Prelude.{slice_get, slice_index_or, eqb, All, Contains}
+use Rattle.std.proofs.Common.{◌≡◌, ℕ, zero, suc, ◌≤◌, ◌<◌, Bool, true, false, List, [], ◌∷◌, ◌++◌, length, Some, refl, sym, ap, subst, arith, if◌then◌else◌}
+use Rattle.std.specs.Prelude.{slice_get, eqb, All, Contains}
 use Rattle.std.proofs.lemmas.Bool.{eq-eqb, eqb-true}
 use Rattle.std.proofs.lemmas.List.Elements.{All-nil, All-cons, All-head, All-tail}
 use Rattle.jn_base.specs.Spelling.{HasDifferent}
@@ -71,9 +71,10 @@ zero_not i e = omega (arith, e)
 
 pub different_no_twice : (xs : List ℕ) → ((i j n : ℕ) → slice_get xs i ≡ Some n → slice_get xs j ≡ Some n → i ≡ j) → NoTwice xs
 different_no_twice [] h = tt
-different_no_twice (x ∷ xs) h =
-    ((λ m. (let r = at_of m in zero_not r.index (h 0 (suc r.index) x refl r.there))),
-    different_no_twice xs (λ i j n a b. (let e = h (suc i) (suc j) n a b in omega (arith, e))))
+different_no_twice (x ∷ xs) h = (
+  (λ m. (let r = at_of m in zero_not r.index (h 0 (suc r.index) x refl r.there))),
+  different_no_twice xs (λ i j n a b. (let e = h (suc i) (suc j) n a b in omega (arith, e))),
+)
 
 pub no_twice_different : (xs : List ℕ) → NoTwice xs → (i j n : ℕ) → slice_get xs i ≡ Some n → slice_get xs j ≡ Some n → i ≡ j
 no_twice_different [] t i j n a b = cc

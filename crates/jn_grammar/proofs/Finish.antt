@@ -8,7 +8,7 @@ use Rattle.jn_base.specs.declared.tree.Op.{Op}
 use Rattle.jn_base.specs.declared.refusal.Limit.{Limit}
 use Rattle.jn_base.specs.declared.tree.Kind.{Kind}
 use Rattle.jn_base.specs.declared.tree.Kind.TheVariants as kind
-use Rattle.jn_base.specs.declared.word.Keyword.TheVariants.{Adapts, Boolean, Class, Else, Extends, False, Final, If, Int, New, Null, Package, Print, Return, Shares, Sharing as SharingKey, Super, This, True, View as ViewKey, Void, While}
+use Rattle.jn_base.specs.declared.word.Keyword.TheVariants.{Boolean, Class, Else, False, Final, If, Int, New, Null, Package, Print, Return, Sharing as SharingKey, Super, This, True, View as ViewKey, Void, While}
 use Rattle.jn_base.specs.declared.word.Mark.TheVariants.{Ampersand, Arrow, Backslash, Bang, CloseBrace, CloseBracket, CloseParen, Comma, Dot, Equals, Minus, OpenBrace, OpenBracket, OpenParen, Semicolon}
 use Rattle.jn_base.specs.declared.word.Word.{Word}
 use Rattle.jn_base.specs.declared.word.Word.TheVariants.{Name as Named_, Keyword as Key, Number, Text, Mark as Marked, End}
@@ -17,7 +17,7 @@ use Rattle.jn_base.specs.Words.{lexeme}
 use Rattle.jn_base.specs.Parts.{Parameter}
 use Rattle.jn_grammar.specs.Begins.{mark_code, key_code, begins, nowhere, is_word}
 use Rattle.jn_grammar.specs.ReadExprs.{operator}
-use Rattle.jn_grammar.specs.Expected.{Symbol, Expects, Shuts, AName, Dots, MayBang, Tail, Names, Term, AfterName, NameOrClass, AfterNames, Ref, Masks, View, Type_, Atom, Atoms, Prim, Suffixes, SuffixName, MayCall, Post, InParens, Unary, OperandEnd, Expr, Rest, CallArgs, Args, MoreArgs, SuperTerm, Body, Stmts, MayElse, FirstName, NameOrClassPart, OneName, Path, PathName, AfterThis, ThisPart, Bare, PartName, AfterPart, AfterCall, Block, Test, Returned, Printed, TextOrExpr, NewName, Params, Param, MoreParams, Sharing, MoreRels, ListOf, MoreNames, Members, DeclBody, SlotOrMethod, MethodOpen, MethodBody, Tops, EndOfFile, one_more, deeper, value, local_value, type_rest, local_end, behind_block, after_path, on_stmts, on_member, on_param, on_type, on_expr, followed, inner_rest, Act, Takes, Counts, Opens, Closes, Leaves, Ends, Finishes, Refuses, on, on_name, on_operator, linked, rests, does, led, opened, counts_by, step, State, Going, Done, Fails, read}
+use Rattle.jn_grammar.specs.Expected.{Symbol, Expects, Shuts, AName, Dots, MayBang, Tail, Names, Term, AfterName, NameOrClass, AfterNames, Ref, Masks, View, Type_, Atom, Atoms, Prim, Suffixes, SuffixName, MayCall, Post, InParens, Unary, OperandEnd, Expr, Rest, CallArgs, Args, MoreArgs, SuperTerm, Body, Stmts, MayElse, FirstName, NameOrClassPart, OneName, Path, PathName, AfterThis, ThisPart, Bare, PartName, AfterPart, AfterCall, Block, Test, Returned, Printed, TextOrExpr, NewName, Params, Param, MoreParams, Sharing, MoreRels, ListOf, MoreNames, Members, DeclBody, SlotOrMethod, MethodOpen, MethodBody, Tops, EndOfFile, deeper, value, local_value, type_rest, local_end, behind_block, after_path, on_stmts, on_member, on_param, on_type, on_expr, inner_rest, Act, Takes, Counts, Opens, Closes, Leaves, Ends, Finishes, Refuses, on, on_operator, linked, rests, does, led, opened, counts_by, step, State, Going, Done, Fails, read}
 use Rattle.jn_grammar.proofs.FirstWords.{never}
 use Rattle.jn_grammar.proofs.TermsAgain.{EndsNames, EndsTerm}
 use Rattle.jn_grammar.proofs.TypesAgain.{EndsView, EndsType}

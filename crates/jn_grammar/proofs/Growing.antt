@@ -1,13 +1,13 @@
 -- The parts behind a Prim, and how its shape grows with them.
-use Rattle.std.proofs.Common.{◌≡◌, ℕ, zero, suc, ◌≤◌, ◌<◌, Bool, true, false, List, [], ◌∷◌, length, Option, Some, None, Ok, Err, refl, ◌∙◌, ap, subst, arith, if◌then◌else◌}
+use Rattle.std.proofs.Common.{◌≡◌, ℕ, zero, suc, ◌≤◌, ◌<◌, Bool, true, false, List, [], ◌∷◌, length, Some, None, Ok, Err, refl, subst, arith, if◌then◌else◌}
 use Rattle.jn_base.specs.declared.tree.Named.{Named}
 use Rattle.jn_base.specs.declared.tree.Suffix.{Suffix, out-Suffix}
-use Rattle.jn_base.specs.declared.word.Mark.TheVariants.{CloseParen, Dot, OpenParen}
+use Rattle.jn_base.specs.declared.word.Mark.TheVariants.{Dot, OpenParen}
 use Rattle.jn_base.specs.declared.word.Word.TheVariants.{Mark as Marked}
 use Rattle.jn_base.specs.declared.word.Lexeme.{Lexeme}
 use Rattle.jn_base.specs.Parts.{suffix}
 use Rattle.jn_grammar.specs.Begins.{begins, behind}
-use Rattle.jn_grammar.specs.Answers.{Answer, ◌>>=◌, expect, name_in, many, row}
+use Rattle.jn_grammar.specs.Answers.{Answer, ◌>>=◌, name_in, many, row}
 use Rattle.jn_grammar.specs.ReadExprs.{shut_args_in, call_in, suffix_in, level}
 use Rattle.jn_grammar.specs.ReadStmts.{Shape, grow_by, grown, counting}
 use Rattle.jn_grammar.specs.Expected.{Symbol, Going, run}

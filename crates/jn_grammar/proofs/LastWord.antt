@@ -1,24 +1,17 @@
 -- The end of the file and what is no word are taken by nothing: no fault stands behind them.
-use Rattle.std.proofs.Common.{◌≡◌, ◌⊎◌, inl, inr, ℕ, zero, suc, ◌≤◌, Bool, true, false, List, [], ◌∷◌, ◌++◌, length, Ok, Err, refl, sym, ◌∙◌, ap, subst, arith}
-use Rattle.jn_base.specs.declared.tree.Level.{Level}
+use Rattle.std.proofs.Common.{◌≡◌, ◌⊎◌, inl, inr, ℕ, suc, ◌≤◌, Bool, true, List, [], ◌∷◌, ◌++◌, length, Err, refl, sym, ◌∙◌, ap, subst, arith}
 use Rattle.jn_base.specs.declared.tree.Level.TheVariants as level_
 use Rattle.jn_base.specs.declared.tree.Kind.TheVariants as kind
-use Rattle.jn_base.specs.declared.tree.Decl.{Decl}
 use Rattle.jn_base.specs.declared.word.Word.{Word}
 use Rattle.jn_base.specs.declared.word.Word.TheVariants.{Keyword as Key, Mark as Marked, End, Fault as Broken}
 use Rattle.jn_base.specs.declared.word.Lexeme.{Lexeme}
-use Rattle.jn_base.specs.GrammarDecl.{IsProgram}
 use Rattle.jn_grammar.specs.declared.fault.Fault.{Fault}
-use Rattle.jn_grammar.specs.declared.fault.Fault.TheVariants.{Syntax, Passed}
-use Rattle.jn_grammar.specs.Answers.{Answer}
-use Rattle.jn_grammar.specs.ReadDecls.{tops_in}
 use Rattle.jn_grammar.specs.ReadWhole.{program_in, first}
 use Rattle.jn_grammar.specs.TokenLimits.{IsLast, the_end, no_word}
-use Rattle.jn_grammar.specs.Expected.{Symbol, Expects, Shuts, Rest, Members, Tops, EndOfFile, Act, Takes, Counts, Opens, Closes, Leaves, Ends, Finishes, Refuses, does, led, step, State, Going, Done, Fails, read, ended, run}
+use Rattle.jn_grammar.specs.Expected.{Symbol, Expects, Shuts, Rest, Members, Tops, EndOfFile, Act, Takes, Counts, Opens, Closes, Leaves, Ends, Finishes, Refuses, does, led, step, State, Going, Done, Fails, read, ended}
 use Rattle.jn_grammar.proofs.FirstWords.{never}
-use Rattle.jn_grammar.proofs.Finish.{is_fixed, finish, Follow, Tidy, TidyState, parts_of, read_tidy}
+use Rattle.jn_grammar.proofs.Finish.{finish, Follow, Tidy, TidyState, parts_of, read_tidy}
 use Rattle.jn_grammar.proofs.Steps.{next_state, read_next, read_fails, read_on, next_at, Alive, count_of}
-use Rattle.jn_grammar.proofs.Whole.{IsInner}
 use Rattle.jn_grammar.proofs.FirstFault.{done_of, alive_front}
 use Rattle.jn_grammar.proofs.Programs.{tops, program_reader}
 

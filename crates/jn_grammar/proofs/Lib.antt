@@ -42,3 +42,4 @@ pub mod Different
 pub mod TokenFaults
 pub mod Refusals
 pub mod Sources
+pub mod Examples

@@ -1,5 +1,5 @@
 -- What is in the grammar of locals is read, with its tree, whatever stands behind it.
-use Rattle.std.proofs.Common.{◌≡◌, ℕ, zero, suc, ◌+◌, ◌≤◌, Bool, true, false, ◌⊎◌, inl, inr, List, [], ◌∷◌, ◌++◌, length, Option, Some, None, Ok, Err, refl, sym, ◌∙◌, ap, subst, append_assoc, length-append, arith, if◌then◌else◌}
+use Rattle.std.proofs.Common.{◌≡◌, ℕ, suc, ◌+◌, Bool, true, false, ◌⊎◌, inl, inr, List, [], ◌∷◌, ◌++◌, length, Option, Some, None, Ok, Err, refl, sym, ◌∙◌, ap, subst, append_assoc, arith}
 use Rattle.std.specs.Prelude.{◌&&◌}
 use Rattle.std.proofs.lemmas.List.{append-nil}
 use Rattle.jn_base.specs.declared.tree.Name.{Name}
@@ -11,7 +11,7 @@ use Rattle.jn_base.specs.declared.tree.TypeTerm.{TypeTerm}
 use Rattle.jn_base.specs.declared.tree.TypeTerm.TheVariants as type_term
 use Rattle.jn_base.specs.declared.tree.Expr.{Expr}
 use Rattle.jn_base.specs.declared.tree.Node.TheVariants as node
-use Rattle.jn_base.specs.declared.tree.Suffix.{Suffix, out-Suffix}
+use Rattle.jn_base.specs.declared.tree.Suffix.{Suffix}
 use Rattle.jn_base.specs.declared.tree.Stmt.{Stmt}
 use Rattle.jn_base.specs.declared.tree.Stmt.TheVariants as stmt
 use Rattle.jn_base.specs.declared.refusal.Limit.{Limit}
@@ -20,24 +20,23 @@ use Rattle.jn_base.specs.declared.word.Mark.TheVariants.{Ampersand, Bang, CloseB
 use Rattle.jn_base.specs.declared.word.Word.TheVariants.{Name as Named_, Keyword as Key, Mark as Marked}
 use Rattle.jn_base.specs.declared.word.Lexeme.{Lexeme}
 use Rattle.jn_base.specs.Words.{lexeme}
-use Rattle.jn_base.specs.Parts.{Part, Role, Local, Atom, key, mark, name, new_name, opening, atom, named, expr, suffix}
+use Rattle.jn_base.specs.Parts.{Part, Role, Local, key, mark, name, opening, atom, named, expr, suffix}
 use Rattle.jn_base.specs.Spelling.{limit_of}
 use Rattle.jn_base.specs.GrammarTypes.{IsDotted, one_name, more_names, IsDots, no_dot, dot, loose, exact, this, variable, IsTerm, plain, own, in_prefix, IsMasks, no_mask, mask, IsAtoms, IsType, int, boolean, class}
-use Rattle.jn_base.specs.GrammarExpr.{IsSuffixes, no_suffix, then_suffix, field, IsExpr}
-use Rattle.jn_base.specs.GrammarStmt.{IsStmt}
+use Rattle.jn_base.specs.GrammarExpr.{IsSuffixes, no_suffix, then_suffix, field}
 use Rattle.jn_grammar.specs.declared.fault.Fault.TheVariants.{Passed}
-use Rattle.jn_grammar.specs.Begins.{begins, behind, place, lexemes}
+use Rattle.jn_grammar.specs.Begins.{begins, behind, lexemes}
 use Rattle.jn_grammar.specs.Answers.{Answer, ◌>>=◌, expect, within_by, row}
 use Rattle.jn_grammar.specs.ReadTypes.{masks_in, bang_in, after_names_in, next_atom_in, type_in}
-use Rattle.jn_grammar.specs.ReadExprs.{level, prim_by, prim_in, suffix_in, expr_in}
+use Rattle.jn_grammar.specs.ReadExprs.{level, prim_by, prim_in, expr_in}
 use Rattle.jn_grammar.specs.ReadStmts.{Shape, new_name_in, value_in, grow_by, grown, names_of, begins_class, local_end_in, local_in, type_rest_in, path_local_in, simple_by, simple_in, led_in, stmt_by, stmt_in}
 use Rattle.jn_grammar.specs.declared.shape.Shape.TheVariants as shape
 use Rattle.jn_grammar.proofs.Row.{Row, none, next}
-use Rattle.jn_grammar.proofs.TermsSound.{IsAtom, one_atom, IsNextAtom, next_atom}
-use Rattle.jn_grammar.proofs.Meets.{met, meets, meets_append, words_append, Reads, then_reads, then_ok, if_true, if_false}
-use Rattle.jn_grammar.proofs.TermsAgain.{EndsNames, EndsTerm, row_again, read_then, bang_loose, bang_exact, prefix_again}
-use Rattle.jn_grammar.proofs.TypesAgain.{EndsView, EndsType, TermHead, term_head, head_of, AtomsRow, atoms_row, row_atoms, next_atom_head, next_atom_again, next_atoms_end, masks_again, masks_end, masks_no_ampersand, type_again}
-use Rattle.jn_grammar.proofs.ExprAgain.{EndsPost, EndsExpr, suffixes_again}
+use Rattle.jn_grammar.proofs.TermsSound.{one_atom, IsNextAtom, next_atom}
+use Rattle.jn_grammar.proofs.Meets.{met, meets, meets_append, words_append, Reads, then_reads, then_ok, if_false}
+use Rattle.jn_grammar.proofs.TermsAgain.{EndsTerm, row_again, read_then, bang_loose, bang_exact, prefix_again}
+use Rattle.jn_grammar.proofs.TypesAgain.{EndsType, TermHead, term_head, head_of, AtomsRow, atoms_row, row_atoms, next_atom_head, next_atom_again, next_atoms_end, masks_again, masks_end, masks_no_ampersand, type_again}
+use Rattle.jn_grammar.proofs.ExprAgain.{EndsExpr, suffixes_again}
 use Rattle.jn_grammar.proofs.LevelsAgain.{expr_again, agains_below}
 use Rattle.jn_grammar.proofs.LocalSound.{IsNewName, one_new_name, IsValue, valued}
 use Rattle.jn_grammar.proofs.Shapes.{IsPath, args_of_suffix, name_of_suffix}
@@ -248,7 +247,7 @@ path_again n d k dp room p o {w} {aw} {mw} {nw} {vw} {t} {ts} {ms} {x} {e} pt js
     let res : Answer (Stmt × ℕ) = Ok ((stmt.Local false (type_term.Class (t ∷ ts) ms) x e, suc k), v) in
     let whole : w ++ ((aw ++ mw) ++ lw) ≡ nd ++ y = ap (λ (z : List Part). z ++ ((aw ++ mw) ++ lw)) pt.split ∙ append_assoc nd pt.others ((aw ++ mw) ++ lw) in
     let rest : EndsPath (lexemes y ++ v) = subst (λ (z : List Lexeme). EndsPath z) (sym (words_append pt.others ((aw ++ mw) ++ lw) v))
-        (pt.ends (lexemes ((aw ++ mw) ++ lw) ++ v) (subst (λ (z : List Lexeme). EndsPath z) (sym (words_append (aw ++ mw) lw v)) (next_path js m (lexemes lw ++ v) (name_path i (mark Equals o ∷ vw) v)))) in
+    (pt.ends (lexemes ((aw ++ mw) ++ lw) ++ v) (subst (λ (z : List Lexeme). EndsPath z) (sym (words_append (aw ++ mw) lw v)) (next_path js m (lexemes lw ++ v) (name_path i (mark Equals o ∷ vw) v)))) in
     subst (λ (z : List Part). Reads (stmt_in true n dp k) z v (stmt.Local false (type_term.Class (t ∷ ts) ms) x e, suc k)) (sym whole)
     (ap (λ (z : List Lexeme). stmt_in true n dp k z) (words_append nd y v)
     ∙ path_stmt n d k dp room pt.x p pt.is (lexemes y ++ v) rest

@@ -1,5 +1,5 @@
 -- Reading locals, assignments and calls is what the machine does with their symbols.
-use Rattle.std.proofs.Common.{◌≡◌, ℕ, zero, suc, ◌≤◌, ◌<◌, Bool, true, false, List, [], ◌∷◌, ◌++◌, length, Option, Some, None, Ok, Err, refl, sym, ◌∙◌, ap, subst, arith, if◌then◌else◌}
+use Rattle.std.proofs.Common.{◌≡◌, ℕ, suc, ◌≤◌, Bool, true, false, List, [], ◌∷◌, ◌++◌, length, Option, Some, None, Ok, refl, sym, ◌∙◌, ap, arith, if◌then◌else◌}
 use Rattle.std.specs.Prelude.{◌&&◌}
 use Rattle.jn_base.specs.declared.tree.Name.{Name}
 use Rattle.jn_base.specs.declared.tree.Place.{Place}
@@ -14,19 +14,18 @@ use Rattle.jn_base.specs.declared.refusal.Limit.{Limit}
 use Rattle.jn_base.specs.declared.word.Keyword.TheVariants.{Class, New, Super, This}
 use Rattle.jn_base.specs.declared.word.Mark.TheVariants.{Ampersand, Backslash, Bang, CloseParen, Dot, Equals, OpenBracket, OpenParen, Semicolon}
 use Rattle.jn_base.specs.declared.word.Word.{Word}
-use Rattle.jn_base.specs.declared.word.Word.TheVariants.{Name as Named_, Keyword as Key, Number, Mark as Marked}
+use Rattle.jn_base.specs.declared.word.Word.TheVariants.{Name as Named_, Keyword as Key, Mark as Marked}
 use Rattle.jn_base.specs.declared.word.Lexeme.{Lexeme}
 use Rattle.jn_base.specs.Words.{lexeme}
-use Rattle.jn_base.specs.Parts.{Role, Local, named, suffix}
+use Rattle.jn_base.specs.Parts.{Role, Local, named}
 use Rattle.jn_grammar.specs.declared.fault.Fault.TheVariants.{Syntax, Passed}
 use Rattle.jn_grammar.specs.Begins.{begins, behind, place, is_word}
 use Rattle.jn_grammar.specs.Answers.{Answer, ◌>>=◌, name_by, name_in, passed, within_by, row}
-use Rattle.jn_grammar.specs.ReadExprs.{level, prim_in, call_in, suffix_in}
+use Rattle.jn_grammar.specs.ReadExprs.{level, call_in, suffix_in}
 use Rattle.jn_grammar.specs.ReadStmts.{Shape, new_name_in, value_in, grow_by, grown, shape_by, shape_of, named_of, begins_class, local_end_in, local_in, type_rest_in, path_local_in, assign_in, set_in, simple_by, simple_in, led_in}
 use Rattle.jn_grammar.specs.declared.shape.Shape.TheVariants as shape
 use Rattle.jn_grammar.specs.Expected.{Symbol, Expects, Shuts, AfterNames, Masks, Type_, Atoms, Prim, Expr, Args, Body, Stmts, FirstName, OneName, Path, PathName, AfterThis, Bare, PartName, AfterPart, AfterCall, NewName, value, local_value, local_end, type_rest, opened, counts_by, Going, Fails, run}
 use Rattle.jn_grammar.proofs.FirstWords.{never, begins_is, behind_less}
-use Rattle.jn_grammar.proofs.Meets.{if_true, if_false}
 use Rattle.jn_grammar.proofs.Machine.{Comes, Does, run_fails, comes_then, comes_if, comes_both, from, expects}
 use Rattle.jn_grammar.proofs.TermsRuns.{after_names_run, masks_run, more_atoms_run, type_runs}
 use Rattle.jn_grammar.proofs.ExprRuns.{shut_args_run, prim_runs, suffix_less}

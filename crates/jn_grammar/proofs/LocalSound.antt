@@ -1,5 +1,5 @@
 -- What is read of locals, assignments and calls is in the grammar.
-use Rattle.std.proofs.Common.{◌≡◌, ℕ, zero, suc, Bool, true, false, List, [], ◌∷◌, ◌++◌, length, Some, None, Ok, Err, refl, sym, ◌∙◌, ap, subst, append_assoc}
+use Rattle.std.proofs.Common.{◌≡◌, ℕ, suc, Bool, true, false, List, [], ◌∷◌, ◌++◌, length, Ok, Err, refl, sym, ◌∙◌, ap, subst, append_assoc}
 use Rattle.jn_base.specs.declared.tree.Name.{Name}
 use Rattle.jn_base.specs.declared.tree.Place.{Place}
 use Rattle.jn_base.specs.declared.tree.Named.{Named}
@@ -9,29 +9,27 @@ use Rattle.jn_base.specs.declared.tree.Expr.{Expr}
 use Rattle.jn_base.specs.declared.tree.Suffix.{Suffix}
 use Rattle.jn_base.specs.declared.tree.Stmt.{Stmt}
 use Rattle.jn_base.specs.declared.tree.Stmt.TheVariants as stmt
-use Rattle.jn_base.specs.declared.word.Keyword.TheVariants.{Final}
 use Rattle.jn_base.specs.declared.word.Mark.TheVariants.{Ampersand, Dot, Equals, Semicolon}
-use Rattle.jn_base.specs.declared.word.Word.{Word}
-use Rattle.jn_base.specs.declared.word.Word.TheVariants.{Name as Named_, Keyword as Key, Mark as Marked}
+use Rattle.jn_base.specs.declared.word.Word.TheVariants.{Name as Named_, Mark as Marked}
 use Rattle.jn_base.specs.declared.word.Lexeme.{Lexeme}
 use Rattle.jn_base.specs.Words.{lexeme}
-use Rattle.jn_base.specs.Parts.{Part, Role, Local, Atom, key, mark, name, new_name, atom, named, posted}
+use Rattle.jn_base.specs.Parts.{Part, Role, Local, mark, name, new_name, atom, named, posted}
 use Rattle.jn_base.specs.GrammarTypes.{IsDotted, IsTerm, IsMasks, IsType, class}
 use Rattle.jn_base.specs.GrammarExpr.{IsPrim, IsSuffix, IsSuffixes, IsPost, post, IsExpr, IsCall}
 use Rattle.jn_base.specs.GrammarStmt.{IsFinal, not_final, IsStmt, local, assign, set_field, act}
 use Rattle.jn_grammar.specs.Begins.{begins, behind, place, lexemes}
-use Rattle.jn_grammar.specs.Answers.{Answer, ◌>>=◌, here, name_in, row}
-use Rattle.jn_grammar.specs.ReadTypes.{masks_in, after_names_in, next_atom_in, type_in}
-use Rattle.jn_grammar.specs.ReadExprs.{level, prim_in, suffix_in, expr_in}
-use Rattle.jn_grammar.specs.ReadStmts.{Shape, begins_name, new_name_in, value_in, grown, shape_of, named_of, names_of, but_last, last_name, begins_class, local_end_in, local_in, type_rest_in, path_local_in, assign_in, set_in, simple_by, simple_in, led_in}
+use Rattle.jn_grammar.specs.Answers.{Answer, ◌>>=◌, here, name_in}
+use Rattle.jn_grammar.specs.ReadTypes.{next_atom_in}
+use Rattle.jn_grammar.specs.ReadExprs.{level, suffix_in}
+use Rattle.jn_grammar.specs.ReadStmts.{Shape, begins_name, new_name_in, value_in, grown, shape_of, named_of, names_of, but_last, begins_class, local_end_in, local_in, type_rest_in, path_local_in, assign_in, set_in, simple_by, simple_in, led_in}
 use Rattle.jn_grammar.specs.declared.shape.Shape.TheVariants as shape
 use Rattle.jn_grammar.proofs.FirstWords.{begins_is}
-use Rattle.jn_grammar.proofs.Tools.{Took, Sound, sound_bind, sound_if, sound_expect, sound_name, glue, lexemes_append}
+use Rattle.jn_grammar.proofs.Tools.{Took, Sound, sound_bind, sound_if, sound_expect, sound_name, glue}
 use Rattle.jn_grammar.proofs.Row.{Row, many_sound}
-use Rattle.jn_grammar.proofs.TermsSound.{IsAtom, one_atom, lexemes_atom, within_sound, IsNextAtom, next_atom_sound, atoms_of, masks_sound, after_names_sound, type_sound}
+use Rattle.jn_grammar.proofs.TermsSound.{one_atom, lexemes_atom, within_sound, IsNextAtom, next_atom_sound, atoms_of, masks_sound, after_names_sound, type_sound}
 use Rattle.jn_grammar.proofs.ExprSound.{prim_sound, suffix_sound, suffixes_of}
 use Rattle.jn_grammar.proofs.ChainSound.{expr_sound, sounds_below}
-use Rattle.jn_grammar.proofs.Shapes.{IsPath, IsField, IsCalled, IsOne, path_start, one_only, dotted_by, LastField, last_field, OneName, name_first, no_field_first, call_by}
+use Rattle.jn_grammar.proofs.Shapes.{IsPath, IsField, IsCalled, IsOne, path_start, one_only, dotted_by, last_field, OneName, name_first, no_field_first, call_by}
 
 -- a statement with the count of locals behind it
 abbrev pub StmtOf : ℕ → ℕ → List Part → Stmt × ℕ → Type 0
@@ -162,8 +160,8 @@ set_sound strict n d k whole e s ss ts h st is_field =
     let tail : List Part = mark Dot l.dot_at ∷ name l.last l.last_at ∷ mark Equals o ∷ ti.words in
     let at_equals : ts ≡ lexemes (mark Equals o ∷ ti.words) ++ i.1 = begins_is (Marked Equals) ts h ∙ ap (λ (v : List Lexeme). lexeme (Marked Equals) o ∷ v) ti.split in
     let at_parts : lexemes st.parts ++ ts ≡ lexemes (l.words ++ tail) ++ i.1 =
-        glue (lexemes st.parts ++ ts) (l.words ++ mark Dot l.dot_at ∷ name l.last l.last_at ∷ []) (mark Equals o ∷ ti.words) ts i.1 (ap (λ (v : List Part). lexemes v ++ ts) l.split) at_equals
-        ∙ ap (λ (v : List Part). lexemes v ++ i.1) (append_assoc l.words (mark Dot l.dot_at ∷ name l.last l.last_at ∷ []) (mark Equals o ∷ ti.words)) in
+    glue (lexemes st.parts ++ ts) (l.words ++ mark Dot l.dot_at ∷ name l.last l.last_at ∷ []) (mark Equals o ∷ ti.words) ts i.1 (ap (λ (v : List Part). lexemes v ++ ts) l.split) at_equals
+    ∙ ap (λ (v : List Part). lexemes v ++ i.1) (append_assoc l.words (mark Dot l.dot_at ∷ name l.last l.last_at ∷ []) (mark Equals o ∷ ti.words)) in
     record {
       words = (st.first ++ l.words) ++ tail;
       split = glue whole st.first (l.words ++ tail) (lexemes st.parts ++ ts) i.1 st.split at_parts ∙ ap (λ (v : List Part). lexemes v ++ i.1) (sym (append_assoc st.first l.words tail));

@@ -1,39 +1,37 @@
 -- What is in the grammar of parameters, constraints, lists of names and methods is read, with its tree, whatever fits behind it.
-use Rattle.std.proofs.Common.{◌≡◌, ℕ, zero, suc, ◌+◌, ◌≤◌, Bool, true, false, List, [], ◌∷◌, ◌++◌, length, Option, Some, None, Ok, Err, refl, sym, ◌∙◌, ap, subst, append_assoc, length-append, arith, if◌then◌else◌}
+use Rattle.std.proofs.Common.{◌≡◌, ℕ, zero, suc, ◌+◌, ◌≤◌, Bool, true, false, List, [], ◌∷◌, ◌++◌, length, Option, Some, Ok, refl, ◌∙◌, ap, arith}
 use Rattle.std.proofs.lemmas.Bool.{eq-eqb}
 use Rattle.jn_base.specs.declared.tree.Name.{Name}
 use Rattle.jn_base.specs.declared.tree.Place.{Place}
 use Rattle.jn_base.specs.declared.tree.Named.{Named}
 use Rattle.jn_base.specs.declared.tree.Term.{Term}
 use Rattle.jn_base.specs.declared.tree.TypeTerm.{TypeTerm}
-use Rattle.jn_base.specs.declared.tree.ViewTerm.{ViewTerm}
 use Rattle.jn_base.specs.declared.tree.Param.{Param}
 use Rattle.jn_base.specs.declared.tree.Constraint.{Constraint}
 use Rattle.jn_base.specs.declared.tree.Stmt.{Stmt}
-use Rattle.jn_base.specs.declared.tree.Member.{Member}
 use Rattle.jn_base.specs.declared.tree.Member.TheVariants as member
 use Rattle.jn_base.specs.declared.word.Keyword.{Keyword}
-use Rattle.jn_base.specs.declared.word.Keyword.TheVariants.{Boolean, Final, Int, Sharing, This}
+use Rattle.jn_base.specs.declared.word.Keyword.TheVariants.{Boolean, Final, Int, This}
 use Rattle.jn_base.specs.declared.word.Mark.TheVariants.{Ampersand, Arrow, CloseBrace, CloseParen, Comma, OpenBrace, OpenParen, Semicolon}
 use Rattle.jn_base.specs.declared.word.Word.{Word}
 use Rattle.jn_base.specs.declared.word.Word.TheVariants.{Name as Named_, Keyword as Key, Mark as Marked}
 use Rattle.jn_base.specs.declared.word.Lexeme.{Lexeme}
 use Rattle.jn_base.specs.Words.{lexeme}
-use Rattle.jn_base.specs.Parts.{Part, Parameter, key, mark, name, opening, new_name, atom, named}
-use Rattle.jn_base.specs.GrammarTypes.{IsAtoms, IsType, int, boolean, class, IsView}
+use Rattle.jn_base.specs.Parts.{Part, Parameter, mark, name, opening, new_name, atom, named}
+use Rattle.jn_base.specs.GrammarTypes.{IsType, int, boolean, class}
 use Rattle.jn_base.specs.GrammarStmt.{not_final, final}
 use Rattle.jn_base.specs.GrammarDecl.{IsParam, param, IsMoreParams, no_more_param, then_param, IsParams, no_param, params, IsRel, rel, IsMoreRels, no_more_rel, then_rel, IsSharing, no_sharing, sharing, IsListed, last_name, then_name, IsList, no_list, list}
-use Rattle.jn_grammar.specs.Begins.{begins, behind, lexemes, is_word, key_code}
-use Rattle.jn_grammar.specs.Answers.{Answer, ◌>>=◌, expect, name_in, row}
+use Rattle.jn_grammar.specs.Begins.{begins, lexemes, is_word, key_code}
+use Rattle.jn_grammar.specs.Answers.{◌>>=◌, expect, name_in, row}
 use Rattle.jn_grammar.specs.ReadTypes.{is_head, view_in, type_in}
 use Rattle.jn_grammar.specs.ReadStmts.{new_name_in, block_in, stmts_of}
 use Rattle.jn_grammar.specs.ReadDecls.{final_in, param_in, next_param_in, params_in, params_of, rel_in, next_rel_in, sharing_in, next_name_in, listed_in, list_in, method_in, typed_end_in, typed_in}
 use Rattle.jn_grammar.proofs.FirstWords.{never}
 use Rattle.jn_grammar.proofs.Row.{Row, none, next}
 use Rattle.jn_grammar.proofs.TermsSound.{IsAtom, one_atom}
-use Rattle.jn_grammar.proofs.Meets.{meets, words_append, Reads, then_reads, if_true, if_false}
+use Rattle.jn_grammar.proofs.Meets.{meets, Reads, then_reads, if_true, if_false}
 use Rattle.jn_grammar.proofs.TermsAgain.{row_again, read_then}
-use Rattle.jn_grammar.proofs.TypesAgain.{EndsView, EndsType, TermHead, term_head, head_of, AtomsRow, atoms_row, row_atoms, view_again, type_again}
+use Rattle.jn_grammar.proofs.TypesAgain.{EndsView, TermHead, term_head, head_of, AtomsRow, atoms_row, row_atoms, view_again, type_again}
 use Rattle.jn_grammar.proofs.ExprAgain.{denied_again, allowed_again, deeper}
 use Rattle.jn_grammar.proofs.LocalSound.{IsNewName, one_new_name}
 use Rattle.jn_grammar.proofs.StmtSound.{IsBlock, braced}

@@ -1,8 +1,6 @@
 -- Reading parameters, constraints, lists of names and methods is what the machine does with their symbols.
-use Rattle.std.proofs.Common.{◌≡◌, ℕ, zero, suc, ◌+◌, ◌≤◌, ◌<◌, Bool, true, false, List, [], ◌∷◌, ◌++◌, length, Option, Some, None, Ok, Err, refl, sym, ◌∙◌, ap, length-append, arith, if◌then◌else◌}
-use Rattle.jn_base.specs.declared.tree.Place.{Place}
+use Rattle.std.proofs.Common.{◌≡◌, ℕ, zero, suc, ◌≤◌, ◌<◌, Bool, true, false, List, [], ◌∷◌, length, Option, Some, None, Ok, refl, ◌∙◌, arith, if◌then◌else◌}
 use Rattle.jn_base.specs.declared.tree.Named.{Named}
-use Rattle.jn_base.specs.declared.tree.Kind.TheVariants as kind
 use Rattle.jn_base.specs.declared.tree.TypeTerm.{TypeTerm}
 use Rattle.jn_base.specs.declared.tree.Param.{Param as ParamTree}
 use Rattle.jn_base.specs.declared.tree.Constraint.{Constraint}
@@ -18,15 +16,13 @@ use Rattle.jn_base.specs.Parts.{Part, Parameter}
 use Rattle.jn_base.specs.GrammarDecl.{IsParam, IsRel}
 use Rattle.jn_grammar.specs.declared.fault.Fault.TheVariants.{Syntax, Passed}
 use Rattle.jn_grammar.specs.Begins.{begins, behind, is_word}
-use Rattle.jn_grammar.specs.Answers.{Answer, ◌>>=◌, name_by, name_in, row}
-use Rattle.jn_grammar.specs.ReadTypes.{type_in}
-use Rattle.jn_grammar.specs.ReadStmts.{new_name_in}
+use Rattle.jn_grammar.specs.Answers.{row}
 use Rattle.jn_grammar.specs.ReadDecls.{final_in, param_in, next_param_in, params_in, params_of, rel_in, next_rel_in, sharing_in, next_name_in, listed_in, list_in, method_in, void_in, typed_end_in, typed_in}
 use Rattle.jn_grammar.specs.Expected.{Symbol, Expects, Shuts, AName, View, Type_, Stmts, NewName, Params, Param, MoreParams, Sharing, MoreRels, ListOf, MoreNames, SlotOrMethod, MethodOpen, MethodBody, a_rel, opened, Going, Fails, run}
 use Rattle.jn_grammar.proofs.Tools.{strictly}
 use Rattle.jn_grammar.proofs.Meets.{if_true, if_false}
-use Rattle.jn_grammar.proofs.MethodSound.{IsAfter, after, IsComma, a_comma, next_param_sound, next_rel_sound, IsNextName, next_name, next_name_sound}
-use Rattle.jn_grammar.proofs.Machine.{Comes, Does, run_fails, comes_then, comes_if, comes_both, from, takes_or_leaves, opens_or_refuses, expects, shuts, names, row_runs}
+use Rattle.jn_grammar.proofs.MethodSound.{IsAfter, after, IsComma, next_param_sound, next_rel_sound, IsNextName, next_name, next_name_sound}
+use Rattle.jn_grammar.proofs.Machine.{Comes, Does, run_fails, comes_then, comes_both, from, takes_or_leaves, opens_or_refuses, expects, shuts, names, row_runs}
 use Rattle.jn_grammar.proofs.TermsRuns.{type_runs, view_runs}
 use Rattle.jn_grammar.proofs.LocalRuns.{body, new_name_runs}
 use Rattle.jn_grammar.proofs.StmtRuns.{block_runs, stmts_run_below}
@@ -164,7 +160,7 @@ void_runs s n ts below = comes_then (names s n ts (MethodOpen ∷ below))
 
 slot_is : (s : Bool) (n : ℕ) (ts : List Lexeme) (below : List Symbol)
     → run s ts (Going n (SlotOrMethod ∷ below)) ≡ (if begins (Marked Semicolon) ts then run s (behind ts) (Going n below)
-        else (if begins (Marked OpenParen) ts then run s (behind ts) (opened n (Params ∷ Shuts (Marked CloseParen) ∷ Sharing ∷ MethodBody ∷ below) (length ts)) else Fails (Syntax (length ts))))
+    else (if begins (Marked OpenParen) ts then run s (behind ts) (opened n (Params ∷ Shuts (Marked CloseParen) ∷ Sharing ∷ MethodBody ∷ below) (length ts)) else Fails (Syntax (length ts))))
 slot_is s n [] below = refl
 slot_is s n (t ∷ ts) below = by_word t.word
   where

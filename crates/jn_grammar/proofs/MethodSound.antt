@@ -8,26 +8,22 @@ use Rattle.jn_base.specs.declared.tree.TypeTerm.{TypeTerm}
 use Rattle.jn_base.specs.declared.tree.Param.{Param}
 use Rattle.jn_base.specs.declared.tree.Constraint.{Constraint}
 use Rattle.jn_base.specs.declared.tree.Stmt.{Stmt}
-use Rattle.jn_base.specs.declared.tree.Member.{Member}
 use Rattle.jn_base.specs.declared.tree.Member.TheVariants as member
 use Rattle.jn_base.specs.declared.word.Keyword.{Keyword}
 use Rattle.jn_base.specs.declared.word.Keyword.TheVariants.{Final, Sharing, Void}
 use Rattle.jn_base.specs.declared.word.Mark.TheVariants.{Ampersand, Arrow, CloseBrace, CloseParen, Comma, OpenBrace, OpenParen, Semicolon}
-use Rattle.jn_base.specs.declared.word.Word.{Word}
 use Rattle.jn_base.specs.declared.word.Word.TheVariants.{Name as Named_, Keyword as Key, Mark as Marked}
 use Rattle.jn_base.specs.declared.word.Lexeme.{Lexeme}
 use Rattle.jn_base.specs.Words.{lexeme}
 use Rattle.jn_base.specs.Parts.{Part, Parameter, key, mark, name, opening, named}
 use Rattle.jn_base.specs.GrammarTypes.{IsType, IsView}
-use Rattle.jn_base.specs.GrammarStmt.{IsFinal, not_final, final, IsStmts}
+use Rattle.jn_base.specs.GrammarStmt.{IsFinal, not_final, final}
 use Rattle.jn_base.specs.GrammarDecl.{IsParam, param, IsMoreParams, no_more_param, then_param, IsParams, no_param, params, IsRel, rel, IsMoreRels, no_more_rel, then_rel, IsSharing, no_sharing, sharing, IsResult, no_result, result, IsListed, last_name, then_name, IsList, no_list, list, IsMember, slot, method}
 use Rattle.jn_grammar.specs.Begins.{begins, behind, place, lexemes}
 use Rattle.jn_grammar.specs.Answers.{Answer, ◌>>=◌, here, name_in}
-use Rattle.jn_grammar.specs.ReadTypes.{view_in, type_in}
-use Rattle.jn_grammar.specs.ReadStmts.{new_name_in, block_in, stmts_of}
 use Rattle.jn_grammar.specs.ReadDecls.{final_in, param_in, next_param_in, params_in, params_of, rel_in, next_rel_in, sharing_in, next_name_in, listed_in, list_in, method_in, void_in, typed_end_in, typed_in}
 use Rattle.jn_grammar.proofs.FirstWords.{begins_is}
-use Rattle.jn_grammar.proofs.Tools.{Sound, sound_bind, sound_if, sound_map, sound_expect, sound_name, glue}
+use Rattle.jn_grammar.proofs.Tools.{Sound, sound_bind, sound_if, sound_expect, sound_name, glue}
 use Rattle.jn_grammar.proofs.Row.{Row, none, next, many_sound}
 use Rattle.jn_grammar.proofs.TermsSound.{view_sound, type_sound}
 use Rattle.jn_grammar.proofs.LocalSound.{IsNewName, one_new_name, new_name_sound}

@@ -1,20 +1,12 @@
 -- Programs as whole inputs: what is read, and where a fault stands.
-use Rattle.std.proofs.Common.{◌≡◌, ◌⊎◌, inl, inr, ℕ, zero, suc, ◌+◌, ◌≤◌, Bool, true, false, List, [], ◌∷◌, ◌++◌, length, Ok, Err, refl, sym, ◌∙◌, ap, subst, append_assoc, length-append, arith}
-use Rattle.std.specs.Prelude.{All, Some, None}
+use Rattle.std.proofs.Common.{ℕ, List, [], ◌∷◌, ◌++◌, refl, sym, subst, append_assoc}
 use Rattle.jn_base.specs.declared.tree.Place.{Place}
 use Rattle.jn_base.specs.declared.tree.Decl.{Decl}
-use Rattle.jn_base.specs.declared.refusal.Limit.{Limit}
-use Rattle.jn_base.specs.declared.word.Word.{Word}
-use Rattle.jn_base.specs.declared.word.Word.TheVariants.{End, Fault as Broken}
-use Rattle.jn_base.specs.declared.word.Lexeme.{Lexeme}
-use Rattle.jn_base.specs.Words.{lexeme}
 use Rattle.jn_base.specs.Parts.{Part, end_of_file}
 use Rattle.jn_base.specs.GrammarDecl.{IsTop, IsProgram, no_top, then_top}
-use Rattle.jn_grammar.specs.Begins.{nowhere, lexemes}
-use Rattle.jn_grammar.specs.Answers.{Answer}
+use Rattle.jn_grammar.specs.Begins.{nowhere}
 use Rattle.jn_grammar.specs.ReadDecls.{tops_in}
-use Rattle.jn_grammar.specs.Expected.{Symbol, Tops, EndOfFile, Going}
-use Rattle.jn_grammar.specs.Places.{IsSpelled}
+use Rattle.jn_grammar.specs.Expected.{Tops, EndOfFile, Going}
 use Rattle.jn_grammar.specs.ReadWhole.{IsWhole, whole, whole_in, first}
 use Rattle.jn_grammar.proofs.Row.{Row, none, next}
 use Rattle.jn_grammar.proofs.DeclSound.{IsTops, tops_sound}

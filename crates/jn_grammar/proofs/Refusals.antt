@@ -1,16 +1,16 @@
 -- THE FIRST REFUSAL of syntax and limits: what the program's reader answers, with the limits of masks and names.
-use Rattle.std.proofs.Common.{◌≡◌, ℕ, zero, suc, ◌+◌, ◌-◌, ◌≤◌, ◌<◌, Bool, true, false, List, [], ◌∷◌, ◌++◌, length, Option, Some, None, Ok, Err, refl, sym, ◌∙◌, ap, subst, append_assoc, length-append, arith, if◌then◌else◌}
+use Rattle.std.proofs.Common.{◌≡◌, ℕ, zero, suc, ◌-◌, ◌≤◌, ◌<◌, Bool, true, false, List, [], ◌∷◌, ◌++◌, length, Option, Some, None, Ok, Err, refl, sym, ◌∙◌, ap, subst, append_assoc, length-append, arith, if◌then◌else◌}
 use Rattle.std.specs.Prelude.{nat_lt, drop}
 use Rattle.jn_base.specs.declared.tree.Place.{Place}
 use Rattle.jn_base.specs.declared.tree.Decl.{Decl}
 use Rattle.jn_base.specs.declared.refusal.Limit.{Limit}
 use Rattle.jn_base.specs.declared.refusal.Limit.TheVariants as limit
 use Rattle.jn_base.specs.declared.refusal.Rule.{Rule}
-use Rattle.jn_base.specs.declared.refusal.Rule.TheVariants.{E01, E04}
+use Rattle.jn_base.specs.declared.refusal.Rule.TheVariants.{E04}
 use Rattle.jn_base.specs.declared.word.Lexeme.{Lexeme}
 use Rattle.jn_base.specs.Parts.{Role, Plain, Opens, Declares, Parameter, Local, Atom}
 use Rattle.jn_base.specs.GrammarDecl.{IsProgram}
-use Rattle.jn_base.specs.Spelling.{limit_of, Begins, Passes, counted, masks, names, rank, IsFirstPassed, IsClean, IsRefusedAt, syntax_fault, limit_passed, IsFirstRefused}
+use Rattle.jn_base.specs.Spelling.{limit_of, Begins, Passes, counted, masks, names, rank, IsClean, IsRefusedAt, syntax_fault, limit_passed, IsFirstRefused}
 use Rattle.jn_grammar.specs.declared.fault.Fault.{Fault}
 use Rattle.jn_grammar.specs.declared.fault.Fault.TheVariants.{Syntax, Passed}
 use Rattle.jn_grammar.specs.Begins.{place}

@@ -6,12 +6,12 @@ use Rattle.jn_base.specs.declared.tree.Name.{Name}
 use Rattle.jn_base.specs.declared.tree.Place.{Place}
 use Rattle.jn_base.specs.declared.tree.Named.{Named}
 use Rattle.jn_base.specs.declared.tree.Expr.{Expr}
-use Rattle.jn_base.specs.declared.tree.Suffix.{Suffix, out-Suffix, roll-Suffix, the_lemmas}
+use Rattle.jn_base.specs.declared.tree.Suffix.{Suffix, out-Suffix, the_lemmas}
 use Rattle.jn_base.specs.declared.word.Mark.TheVariants.{Dot}
 use Rattle.jn_base.specs.declared.word.Lexeme.{Lexeme}
 use Rattle.jn_base.specs.Parts.{Part, mark, name, named, suffix, posted}
 use Rattle.jn_base.specs.GrammarTypes.{IsDotted, one_name, more_names}
-use Rattle.jn_base.specs.GrammarExpr.{IsForm, new_object, super_call, IsPrim, constant, yes, no, null, this_object, variable, parens, form, IsSuffix, field, call, IsSuffixes, no_suffix, then_suffix, EndsInCall, IsCall, called, formed}
+use Rattle.jn_base.specs.GrammarExpr.{IsForm, new_object, super_call, IsPrim, constant, yes, no, null, this_object, variable, parens, form, field, call, IsSuffixes, no_suffix, then_suffix, EndsInCall, IsCall, called, formed}
 use Rattle.jn_grammar.specs.Begins.{lexemes}
 use Rattle.jn_grammar.specs.ReadStmts.{Shape, grow_by, grown, shape_of, named_of, names_of, but_last, last_name}
 use Rattle.jn_grammar.specs.declared.shape.Shape.TheVariants as shape

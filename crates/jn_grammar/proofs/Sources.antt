@@ -1,7 +1,6 @@
 -- Programs with their limits, and the sources that they are spelled by.
-use Rattle.std.proofs.Common.{◌≡◌, ℕ, suc, ◌≤◌, Bool, true, false, List, [], ◌∷◌, ◌++◌, length, Option, Some, None, Ok, Err, refl, sym, ◌∙◌, ap, subst, append_assoc}
+use Rattle.std.proofs.Common.{◌≡◌, ℕ, ◌≤◌, true, List, [], ◌∷◌, ◌++◌, length, Option, Some, None, Ok, Err, refl, sym, ◌∙◌, ap, subst, append_assoc}
 use Rattle.std.specs.Prelude.{All}
-use Rattle.std.proofs.lemmas.List.{append-nil}
 use Rattle.std.proofs.lemmas.List.Elements.{All-nil, All-cons}
 use Rattle.jn_base.specs.declared.token.LexFault.{LexFault}
 use Rattle.jn_base.specs.declared.tree.Decl.{Decl}
@@ -14,9 +13,8 @@ use Rattle.jn_base.specs.GrammarDecl.{IsProgram}
 use Rattle.jn_base.specs.Spelling.{limit_of, Passes, counted, masks, names, SourceSpells, refusal, greatest_source, IsTextRefused, word_refused}
 use Rattle.jn_grammar.specs.declared.fault.Fault.{Fault}
 use Rattle.jn_grammar.specs.Begins.{lexemes}
-use Rattle.jn_grammar.specs.Answers.{Answer}
 use Rattle.jn_grammar.specs.ReadDecls.{tops_in}
-use Rattle.jn_grammar.specs.ReadWhole.{program_in, whole_in}
+use Rattle.jn_grammar.specs.ReadWhole.{program_in}
 use Rattle.jn_grammar.specs.Expected.{Tops}
 use Rattle.jn_grammar.specs.Places.{IsSpelled}
 use Rattle.jn_grammar.specs.TokenLimits.{token_limit, left_of, earlier, checked_in, rule_of, limit_shown, place_left, IsLast, the_end, no_word, AreClean, IsFirstFault}

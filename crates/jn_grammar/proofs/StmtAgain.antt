@@ -1,6 +1,6 @@
 -- What is in the grammar of statements and blocks is read, with its tree, whatever fits behind it.
-use Rattle.std.proofs.Common.{◌≡◌, ℕ, zero, suc, ◌+◌, ◌≤◌, Bool, true, false, List, [], ◌∷◌, ◌++◌, length, Option, Some, None, Ok, Err, refl, sym, ◌∙◌, ap, subst, append_assoc, length-append, arith, if◌then◌else◌}
-use Rattle.std.specs.Prelude.{IsSome, ◌&&◌, not}
+use Rattle.std.proofs.Common.{◌≡◌, ℕ, zero, suc, ◌+◌, ◌≤◌, true, false, List, [], ◌∷◌, ◌++◌, length, Option, Some, None, Ok, refl, sym, ◌∙◌, ap, subst, append_assoc, arith}
+use Rattle.std.specs.Prelude.{IsSome, not}
 use Rattle.jn_base.specs.declared.tree.Name.{Name}
 use Rattle.jn_base.specs.declared.tree.Place.{Place}
 use Rattle.jn_base.specs.declared.tree.Named.{Named}
@@ -10,18 +10,18 @@ use Rattle.jn_base.specs.declared.tree.Expr.{Expr}
 use Rattle.jn_base.specs.declared.tree.Suffix.{Suffix, out-Suffix}
 use Rattle.jn_base.specs.declared.tree.Stmt.{Stmt}
 use Rattle.jn_base.specs.declared.tree.Stmt.TheVariants as stmt
-use Rattle.jn_base.specs.declared.word.Keyword.TheVariants.{Class, Else, False, Final, If, New, Null, Print, Return, Super, This, True, While}
+use Rattle.jn_base.specs.declared.word.Keyword.TheVariants.{Else, False, If, New, Null, Super, This, True, While}
 use Rattle.jn_base.specs.declared.word.Mark.TheVariants.{Bang, CloseBrace, CloseParen, Dot, Equals, Minus, OpenBrace, OpenParen, Semicolon}
 use Rattle.jn_base.specs.declared.word.Word.{Word}
 use Rattle.jn_base.specs.declared.word.Word.TheVariants.{Name as Named_, Keyword as Key, Number, Text, Mark as Marked}
 use Rattle.jn_base.specs.declared.word.Lexeme.{Lexeme}
 use Rattle.jn_base.specs.Words.{lexeme}
-use Rattle.jn_base.specs.Parts.{Part, Local, key, mark, name, text, new_name, opening, atom, named, suffix, posted}
-use Rattle.jn_base.specs.GrammarTypes.{IsAtoms, IsType, int, boolean, class}
-use Rattle.jn_base.specs.GrammarExpr.{IsForm, new_object, super_call, IsPrim, constant, yes, no, null, this_object, variable, parens, form, IsSuffixes, no_suffix, then_suffix, field, call, IsPost, post, IsExpr, EndsInCall, IsCall, called, formed}
+use Rattle.jn_base.specs.Parts.{Part, key, mark, name, text, opening, atom, named, suffix, posted}
+use Rattle.jn_base.specs.GrammarTypes.{IsType, int, boolean, class}
+use Rattle.jn_base.specs.GrammarExpr.{IsForm, new_object, super_call, IsPrim, constant, yes, no, null, this_object, variable, parens, form, IsSuffixes, no_suffix, then_suffix, field, call, post, EndsInCall, IsCall, called, formed}
 use Rattle.jn_base.specs.GrammarStmt.{not_final, final, IsStmt, block, local, assign, set_field, act, choice, turns, leave, give, print, print_text, IsElse, no_else, otherwise, IsStmts, no_stmt, then_stmt}
-use Rattle.jn_grammar.specs.Begins.{begins, behind, place, lexemes, is_word}
-use Rattle.jn_grammar.specs.Answers.{Answer, ◌>>=◌, here, expect, row}
+use Rattle.jn_grammar.specs.Begins.{begins, behind, lexemes, is_word}
+use Rattle.jn_grammar.specs.Answers.{Answer, ◌>>=◌, expect, row}
 use Rattle.jn_grammar.specs.ReadExprs.{level, prim_in, suffix_in, expr_in}
 use Rattle.jn_grammar.specs.ReadTypes.{is_head}
 use Rattle.jn_grammar.specs.ReadStmts.{Shape, in_body, value_in, tested_in, test_in, return_in, printed_by, printed_in, print_open_in, print_in, grow_by, grown, shape_of, named_of, but_last, last_name, begins_class, assign_in, set_in, simple_by, simple_in, led_in, block_in, else_in, if_in, while_in, block_stmt_in, same_count, stmt_by, stmt_in, stmts_in, stmts_of}
@@ -30,10 +30,10 @@ use Rattle.jn_grammar.proofs.FirstWords.{never}
 use Rattle.jn_grammar.proofs.Tools.{Below}
 use Rattle.jn_grammar.proofs.Counting.{Counted, none, next, counted_again}
 use Rattle.jn_grammar.proofs.TermsSound.{IsAtom, one_atom}
-use Rattle.jn_grammar.proofs.Meets.{meets, words_append, Reads, then_reads, then_ok, if_true, if_false}
+use Rattle.jn_grammar.proofs.Meets.{meets, words_append, Reads, then_reads, if_true, if_false}
 use Rattle.jn_grammar.proofs.TermsAgain.{read_then}
 use Rattle.jn_grammar.proofs.TypesAgain.{TermHead, term_head, head_of, AtomsRow, atoms_row, row_atoms}
-use Rattle.jn_grammar.proofs.ChainAgain.{is_start, Starts, starts, place_is}
+use Rattle.jn_grammar.proofs.ChainAgain.{is_start, Starts, starts}
 use Rattle.jn_grammar.proofs.ExprAgain.{EndsPost, paren_ends, denied_again, allowed_again, deeper, prim_again, suffixes_again}
 use Rattle.jn_grammar.proofs.LevelsAgain.{prim_starts, expr_starts, expr_again, agains_below}
 use Rattle.jn_grammar.proofs.Shapes.{IsField, IsCalled, args_of_suffix, name_of_suffix}
@@ -395,4 +395,3 @@ stmt_agains (suc n) = record { stmts_again = λ is room c v. stmts_again (suc n)
 pub stmt_agains_below : (n : ℕ) → Below StmtAgains n
 stmt_agains_below zero = tt
 stmt_agains_below (suc n) = stmt_agains n
-

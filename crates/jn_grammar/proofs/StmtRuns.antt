@@ -1,8 +1,7 @@
 -- Reading statements and blocks is what the machine does with their symbols.
-use Rattle.std.proofs.Common.{◌≡◌, ℕ, zero, suc, ◌≤◌, ◌<◌, Bool, true, false, List, [], ◌∷◌, ◌++◌, length, Option, Some, None, Ok, Err, refl, sym, ◌∙◌, ap, subst, arith, if◌then◌else◌}
+use Rattle.std.proofs.Common.{◌≡◌, ℕ, zero, suc, ◌≤◌, ◌<◌, Bool, true, false, List, [], ◌∷◌, ◌++◌, length, Ok, refl, ap, arith, if◌then◌else◌}
 use Rattle.std.specs.Prelude.{not}
 use Rattle.jn_base.specs.declared.tree.Place.{Place}
-use Rattle.jn_base.specs.declared.tree.Expr.{Expr as ExprTree}
 use Rattle.jn_base.specs.declared.tree.Stmt.{Stmt}
 use Rattle.jn_base.specs.declared.tree.Stmt.TheVariants as stmt
 use Rattle.jn_base.specs.declared.tree.Level.TheVariants as level_
@@ -10,17 +9,17 @@ use Rattle.jn_base.specs.declared.refusal.Limit.TheVariants.{Nesting}
 use Rattle.jn_base.specs.declared.word.Keyword.TheVariants.{Boolean, Else, False, Final, If, Int, New, Null, Print, Return, Super, This, True, While}
 use Rattle.jn_base.specs.declared.word.Mark.TheVariants.{Bang, CloseBrace, CloseParen, Minus, OpenBrace, OpenParen, Semicolon}
 use Rattle.jn_base.specs.declared.word.Word.{Word}
-use Rattle.jn_base.specs.declared.word.Word.TheVariants.{Name as Named_, Keyword as Key, Number, Text, Mark as Marked}
+use Rattle.jn_base.specs.declared.word.Word.TheVariants.{Name as Named_, Keyword as Key, Text, Mark as Marked}
 use Rattle.jn_base.specs.declared.word.Lexeme.{Lexeme}
 use Rattle.jn_base.specs.Words.{lexeme}
 use Rattle.jn_base.specs.Parts.{Part}
 use Rattle.jn_base.specs.GrammarStmt.{IsStmt}
 use Rattle.jn_grammar.specs.declared.fault.Fault.TheVariants.{Syntax, Passed}
-use Rattle.jn_grammar.specs.Begins.{begins, behind, place, is_word}
-use Rattle.jn_grammar.specs.Answers.{Answer, ◌>>=◌, here, expect}
+use Rattle.jn_grammar.specs.Begins.{begins, behind, is_word}
+use Rattle.jn_grammar.specs.Answers.{Answer, ◌>>=◌, expect}
 use Rattle.jn_grammar.specs.ReadExprs.{level, expr_in}
-use Rattle.jn_grammar.specs.ReadStmts.{in_body, value_in, tested_in, test_in, return_in, printed_by, printed_in, print_open_in, print_in, block_in, else_in, if_in, while_in, block_stmt_in, same_count, stmt_by, stmt_in, stmts_in, stmts_of}
-use Rattle.jn_grammar.specs.Expected.{Symbol, Expects, Shuts, Unary, Expr, Body, Stmts, MayElse, Block, Test, Returned, Printed, TextOrExpr, behind_block, opened, Going, Fails, run}
+use Rattle.jn_grammar.specs.ReadStmts.{in_body, tested_in, test_in, return_in, printed_by, printed_in, print_open_in, print_in, block_in, else_in, if_in, while_in, block_stmt_in, same_count, stmt_by, stmt_in, stmts_in, stmts_of}
+use Rattle.jn_grammar.specs.Expected.{Symbol, Expects, Shuts, Expr, Body, Stmts, MayElse, Block, Test, Returned, Printed, TextOrExpr, behind_block, opened, Going, Fails, run}
 use Rattle.jn_grammar.proofs.FirstWords.{never, word_is}
 use Rattle.jn_grammar.proofs.Tools.{Below, strictly}
 use Rattle.jn_grammar.proofs.StmtSound.{stmt_sound, stmt_sounds_below}

@@ -13,12 +13,12 @@ use Rattle.jn_base.specs.Words.{lexeme}
 use Rattle.jn_base.specs.Parts.{Part, key, mark, text, opening}
 use Rattle.jn_base.specs.GrammarExpr.{IsExpr}
 use Rattle.jn_base.specs.GrammarStmt.{not_final, final, IsStmt, block, choice, turns, leave, give, print, print_text, IsElse, no_else, otherwise, IsStmts, no_stmt, then_stmt}
-use Rattle.jn_grammar.specs.Begins.{begins, behind, place, lexemes}
+use Rattle.jn_grammar.specs.Begins.{begins, behind, place}
 use Rattle.jn_grammar.specs.Answers.{Answer, ◌>>=◌, here, expect}
 use Rattle.jn_grammar.specs.ReadExprs.{level, expr_in}
-use Rattle.jn_grammar.specs.ReadStmts.{in_body, value_in, tested_in, test_in, return_in, printed_by, printed_in, print_open_in, print_in, local_in, simple_in, block_in, else_in, if_in, while_in, block_stmt_in, same_count, stmt_by, stmt_in, stmts_in, stmts_of}
+use Rattle.jn_grammar.specs.ReadStmts.{in_body, tested_in, test_in, return_in, printed_by, printed_in, print_open_in, print_in, block_in, else_in, if_in, while_in, block_stmt_in, same_count, stmt_by, stmt_in, stmts_in, stmts_of}
 use Rattle.jn_grammar.proofs.FirstWords.{begins_is}
-use Rattle.jn_grammar.proofs.Tools.{Below, Took, Sound, sound_bind, sound_if, sound_map, sound_expect, glue}
+use Rattle.jn_grammar.proofs.Tools.{Below, Sound, sound_bind, sound_if, sound_map, sound_expect, glue}
 use Rattle.jn_grammar.proofs.Counting.{Counted, none, next, counting_sound}
 use Rattle.jn_grammar.proofs.ChainSound.{expr_sound, sounds_below}
 use Rattle.jn_grammar.proofs.LocalSound.{StmtOf, IsValue, valued, value_sound, local_sound, simple_sound, led_sound}

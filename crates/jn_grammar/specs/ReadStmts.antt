@@ -18,7 +18,7 @@ use Rattle.jn_base.specs.declared.word.Lexeme.{Lexeme}
 use Rattle.jn_base.specs.Parts.{Role, Local, named, posted}
 pub use Rattle.jn_grammar.specs.declared.shape.Shape.{Shape}
 use Rattle.jn_grammar.specs.declared.shape.Shape.TheVariants as shape
-use Rattle.jn_grammar.specs.Begins.{is_word, begins, behind, place, nowhere}
+use Rattle.jn_grammar.specs.Begins.{is_word, begins, behind, nowhere}
 use Rattle.jn_grammar.specs.Answers.{Answer, ◌>>=◌, here, expect, name_in, within, row}
 use Rattle.jn_grammar.specs.ReadTypes.{masks_in, after_names_in, next_atom_in, type_in}
 use Rattle.jn_grammar.specs.ReadExprs.{denied, level, prim_in, suffix_in, expr_in}

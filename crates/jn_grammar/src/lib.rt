@@ -10,7 +10,10 @@ pub mod shape;
 
 #[cfg(test)]
 mod tests {
-    use super::laws::{checked_programs, checked_sources, whole_expressions, whole_programs, whole_types, whole_views};
+    use super::laws::{
+        checked_programs, checked_sources, whole_expressions, whole_programs, whole_types,
+        whole_views,
+    };
 
     #[test]
     fn the_laws_are_there() {
