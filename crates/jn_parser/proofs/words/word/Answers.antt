@@ -1,5 +1,4 @@
-use Rattle.std.proofs.Common.{◌≡◌, ◌<◌, ◌^◌, ◌∙◌, to_z, of_z, w64, arith}
-use Rattle.std.specs.Int.{mag}
+use Rattle.std.proofs.Common.{◌≡◌, ◌∙◌, to_z, of_z, w64, arith}
 use Rattle.std.proofs.lemmas.Int.{ints, to_z-of_z}
 use Rattle.jn_parser.proofs.Numbering.{mention_name, mention_keyword, mention_number, mention_text, mention_mark}
 use Rattle.jn_parser.proofs.words.word.Goals as goal
@@ -12,7 +11,6 @@ returns-in-Some-clause-mentioned c = mention_keyword c.in-Some.k c.in-Keyword.is
 
 pub returns-in-Number-clause-mentioned : goal.returns-in-Number-clause-mentioned
 returns-in-Number-clause-mentioned c =
-    let small : mag c.value.result < 2 ^ 63 = c.value.type_inv in
     let same : to_z w64 (of_z w64 c.value.result) ≡ c.value.result = grind (arith, ints, to_z-of_z) in
     mention_number c.in-Number.is (same ∙ c.value.ensures)
 

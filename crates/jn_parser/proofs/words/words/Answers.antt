@@ -9,7 +9,7 @@ mentioned-requires-clause-texts c = rw c.as_slice.ensures.value (have_texts c.ar
 
 pub returns : goal.returns
 returns c =
-    words_are (λ (k : Vec ℕ Global). k.items) c.args.bytes.now c.args.scanned.now.tokens.items c.as_slice.result.now c.args.scanned.now.fault c.in_ok-words.words.items c.push.new.self.items c.last_word.result
-    c.in_ok-words.names.keys c.in_ok-words.texts.keys c.in_ok-names.names c.in_ok-texts.texts c.requires.lexed c.as_slice.ensures.value c.in_ok-words.ensures c.last_word.ensures c.in_ok-push.ensures.items
+    words_are (λ (k : Vec ℕ Global). k.items) c.args.bytes.now c.args.scanned.now.tokens.items c.as_slice.result.now c.args.scanned.now.fault c.in_ok-words.field-0.words.items c.push.new.self.items c.last_word.result
+    c.in_ok-words.field-0.names.keys c.in_ok-words.field-0.texts.keys c.in_ok-names.names c.in_ok-texts.texts c.requires.lexed c.as_slice.ensures.value c.in_ok-words.ensures c.last_word.ensures c.in_ok-push.ensures.items
     (c.in_ok-names.ensures ∙ ap (λ (ks : List (Vec ℕ Global)). map (λ k. text k.items) ks) c.as_slice-2.ensures.keys)
     (c.in_ok-texts.ensures ∙ ap (λ (ks : List (Vec ℕ Global)). map (λ k. text k.items) ks) c.as_slice-3.ensures.keys)
