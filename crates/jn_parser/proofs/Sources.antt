@@ -1,10 +1,11 @@
 -- The verdict on a source's text: what is given, what is refused, and that both are one.
-use Rattle.std.proofs.Common.{◌≡◌, ℕ, zero, suc, ◌+◌, ◌<◌, ◌≤◌, List, [], ◌∷◌, ◌++◌, length, take, map, Option, Some, None, Result, Ok, Err, refl, sym, ◌∙◌, ap, subst, arith}
+use Rattle.std.proofs.Common.{◌≡◌, true, ℕ, zero, suc, ◌+◌, ◌<◌, ◌≤◌, List, [], ◌∷◌, ◌++◌, length, take, map, Option, Some, None, Result, Ok, Err, IfOk, refl, sym, ◌∙◌, ap, subst, arith}
 use Rattle.std.specs.Str.{IsUtf8, IsValidUpTo}
 use Rattle.std.proofs.lemmas.Str.{utf8_valid_len-IsValidUpTo}
 use Rattle.std.proofs.Math.Seq.{take-length}
 use Rattle.jn_base.specs.declared.token.LexFault.{LexFault}
 use Rattle.jn_base.specs.declared.tree.Decl.{Decl}
+use Rattle.jn_base.specs.declared.tree.Place.{Place}
 use Rattle.jn_base.specs.declared.tree.Text.{Text}
 use Rattle.jn_base.specs.declared.tree.Program.{Program}
 use Rattle.jn_base.specs.declared.refusal.Limit.{Limit}
@@ -24,11 +25,13 @@ use Rattle.jn_grammar.specs.TokenLimits.{left_of, rule_of, limit_shown, place_le
 use Rattle.jn_grammar.proofs.Meets.{met, meets}
 use Rattle.jn_grammar.proofs.Programs.{program_reader}
 use Rattle.jn_grammar.proofs.Refusals.{refused_there, refused_once, checked_reads, checked_not_refused}
-use Rattle.jn_parser.specs.Parsing.{refusal_of}
+use Rattle.jn_parser.specs.declared.fault.ParseFault.{ParseFault}
+use Rattle.jn_parser.specs.declared.fault.ParseFault.TheVariants.{Refused, Memory}
+use Rattle.jn_parser.specs.Parsing.{IfRefused, IsGiven, IsRefused, refusal_of}
 use Rattle.jn_parser.proofs.WordsOnce.{AreOne, words_are_one}
 
 utf8_of : {bytes : List ℕ} {names texts : List Text} {ws : List Lexeme} → AreWordsOf bytes names texts ws → IsUtf8 bytes
-utf8_of a = (a.lexed.characters, a.lexed.scalars, a.lexed.spelled)
+utf8_of a = (a.lexed.characters, (a.lexed.scalars, a.lexed.spelled))
 
 not_both : (bytes : List ℕ) (n : ℕ) → IsValidUpTo bytes n → IsUtf8 bytes → ⊥
 not_both bytes n v u = v.longest (length bytes) v.short (subst IsUtf8 (sym (take-length bytes)) u)
@@ -113,3 +116,19 @@ one_text bytes p q h t s = by_answer (checked_in ws) refl
         let here : p.decls ≡ x.0 = tree_of p bytes t.spelled x read in
         let there : q.decls ≡ x.0 = tree_of q bytes s x (ap program_in (sym same.words) ∙ read) in
         ap (λ (n : List Text). program n p.texts p.decls) same.names ∙ ap (λ (u : List Text). program q.names u p.decls) same.texts ∙ ap (λ (d : List Decl). program q.names q.texts d) (here ∙ sym there)
+
+-- ---- the answer of the parser
+
+pub given_only : (bytes : List ℕ) (r : Result Program ParseFault) → length bytes ≤ greatest_source → IfOk r (λ p. IsTextOf p bytes) → IfRefused r (λ s. IsTextRefused bytes s) → (p : Program) → IsTextOf p bytes → IsGiven r p
+given_only bytes (Ok q) h f g p t = one_text bytes q p h f t.spelled
+given_only bytes (Err (Refused s)) h f g p t = t.not_refused s g
+given_only bytes (Err Memory) h f g p t = tt
+
+pub refused_only : (bytes : List ℕ) (r : Result Program ParseFault) → IfOk r (λ p. IsTextOf p bytes) → IfRefused r (λ s. IsTextRefused bytes s) → (s : Refusal) → IsTextRefused bytes s → IsRefused r s
+refused_only bytes (Ok q) f g s t = f.not_refused s t
+refused_only bytes (Err (Refused q)) f g s t = one_text_refusal bytes q s g t
+refused_only bytes (Err Memory) f g s t = tt
+
+pub utf8_refused : (bytes : List ℕ) (n m : ℕ) (at : Place) (r : Refusal) → length bytes ≤ greatest_source → IsValidUpTo bytes n → m ≡ n → at ≡ place_of bytes m → r ≡ refusal E03 at None → IsTextRefused bytes r
+utf8_refused bytes n m at r h v e a q =
+    subst (λ s. IsTextRefused bytes s) (sym (q ∙ ap (λ p. refusal E03 p None) (a ∙ ap (λ i. place_of bytes i) e))) (not_utf8 h v)

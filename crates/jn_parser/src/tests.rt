@@ -1,6 +1,7 @@
 use crate::{ParseFault, parse};
 use jn_base::tree::{Decl, Member};
 use std::alloc::{AllocError, Global};
+use std::ops::Range;
 use std::process::Abort;
 
 /// The refusal, or `ok`.
@@ -53,6 +54,25 @@ fn repeated(
     text.push_str(front)?;
     for _ in 0..times {
         text.push_str(part)?;
+    }
+    text.push_str(back)?;
+    Ok(text)
+}
+
+/// A front, a part some times, each with the next number, and a back.
+fn numbered(
+    alloc: Global,
+    front: &str,
+    part: (&str, &str),
+    numbers: Range<usize>,
+    back: &str,
+) -> Result<String, AllocError> {
+    let (before, behind) = part;
+    let mut text = String::new(alloc);
+    text.push_str(front)?;
+    for i in numbers {
+        let one = format!(in alloc; "{before}{i}{behind}")?;
+        text.push_str(one.as_str())?;
     }
     text.push_str(back)?;
     Ok(text)
@@ -328,5 +348,49 @@ fn limits(rt: HostRuntime) {
         let source = repeated(rt.alloc(), front, part, times, back).expect(&rt, "memory");
         let got = verdict(&rt, rt.alloc(), source.as_str().as_bytes()).expect(&rt, "memory");
         assert_eq!(rt; got.as_str(), want, "at {front:?} {part:?} {times}");
+    }
+}
+
+/// Limits of what differs, at their edge and one past it.
+#[test]
+fn limits_of_names(rt: HostRuntime) {
+    let rows = [
+        ("class A{T", ("\\m", ""), 100, 356, " x;}", "ok"),
+        (
+            "class A{T",
+            ("\\m", ""),
+            100,
+            357,
+            " x;}",
+            "1:1291 E04 Masks",
+        ),
+        ("class A{", ("\nint a", ";"), 10_000, 75_534, "}", "ok"),
+        (
+            "class A{",
+            ("\nint a", ";"),
+            10_000,
+            75_535,
+            "}",
+            "65536:5 E04 Names",
+        ),
+    ];
+    for (front, part, first, end, back, want) in rows {
+        let source = numbered(rt.alloc(), front, part, first..end, back).expect(&rt, "memory");
+        let got = verdict(&rt, rt.alloc(), source.as_str().as_bytes()).expect(&rt, "memory");
+        assert_eq!(rt; got.as_str(), want, "at {front:?} {part:?} {end}");
+    }
+}
+
+/// A sequence that is no UTF-8 comes before what the words are.
+#[test]
+fn no_utf8(rt: HostRuntime) {
+    let rows = [
+        (b"\xff".as_slice(), "1:1 E03"),
+        (b"}\xff".as_slice(), "1:2 E03"),
+        (b"class\n\xc3\xa9 \xc3".as_slice(), "2:4 E03"),
+    ];
+    for (source, want) in rows {
+        let got = verdict(&rt, rt.alloc(), source).expect(&rt, "memory");
+        assert_eq!(rt; got.as_str(), want);
     }
 }
