@@ -5,7 +5,7 @@ use Rattle.std.specs.declared.option.Option.{Option}
 use Rattle.jn_base.specs.declared.tree.Program.{Program}
 use Rattle.jn_io.specs.Causes.{Rose}
 use Rattle.jn_io.specs.Told.{Lacks}
-use Rattle.jn_parser.specs.Spelling.{SourceSpells}
+use Rattle.jn_plain.specs.Spelling.{SourceSpells}
 use Rattle.jn_drive.specs.declared.status.Status.{Status}
 use Rattle.jn_drive.specs.declared.status.Status.TheVariants as statuses
 use Rattle.jn_drive.specs.Meaning.{output_of}

@@ -1,7 +1,7 @@
 -- The reply of a job: what is put on `out`, the line on `err`, and the status.
 use Rattle.std.specs.Prelude.{◌≡◌, ℕ, ◌<◌, ◌≤◌, List, [], length, codes}
 use Rattle.jn_base.specs.declared.tree.Program.{Program}
-use Rattle.jn_parser.specs.Spelling.{SourceSpells}
+use Rattle.jn_plain.specs.Spelling.{SourceSpells}
 use Rattle.jn_drive.specs.declared.status.Status.{Status}
 use Rattle.jn_drive.specs.declared.status.Status.TheVariants as statuses
 use Rattle.jn_drive.specs.Meaning.{output_of}

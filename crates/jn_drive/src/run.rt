@@ -11,7 +11,7 @@ use crate::read::read_source;
 use crate::status::Status;
 use jn_base::tree::Program;
 use jn_io::{Sink, Store};
-use jn_parser::{ParseFault, parse};
+use jn_plain::{ParseFault, parse};
 use sqlite_items::Items;
 use std::alloc::{AllocError, Global};
 

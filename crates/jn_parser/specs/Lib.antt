@@ -1,5 +1,6 @@
-pub mod Tokens
-pub mod Spelling
-pub mod Answer
-pub mod Plain
-pub mod Reading
+pub mod Giving
+pub mod Levels
+pub mod Moved
+pub mod Noted
+pub mod Parsing
+pub mod Wording

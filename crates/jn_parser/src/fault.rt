@@ -1,23 +1,26 @@
-ghost use Rattle.std.specs.Prelude.{◌≡◌};
-ghost use Rattle.jn_parser.specs.declared.fault.ParseFault.TheVariants.{Memory};
+//! Why there is no tree.
+
+ghost use Rattle.std.specs.Prelude.{◌≡◌, length};
+ghost use Rattle.jn_parser.specs.declared.fault.ParseFault.TheVariants as faults;
 ghost use Rattle.jn_parser.specs.declared.fault.Stop.TheVariants as stops;
 
 use jn_base::refusal::Refusal;
+use jn_grammar::fault::Fault;
 use std::alloc::{AllocError, AllocFailed};
 
 /// Why there is no tree.
 #[derive(Debug, Drop)]
 pub enum ParseFault {
-    /// The bytes spell no program.
+    /// The source is refused by E03, E01 or E04.
     Refused(Refusal),
-    /// Memory ran out.
+    /// There was no memory for the tree.
     Memory,
 }
 
 impl From<AllocError> for ParseFault {
-    ghost from_gives = { λ _ e. e ≡ Memory };
+    ghost from_gives = { λ _ e. e ≡ faults.Memory };
 
-    fn from(_e: AllocError) -> ParseFault {
+    fn from(_error: AllocError) -> ParseFault {
         ParseFault::Memory
     }
 }
@@ -25,16 +28,16 @@ impl From<AllocError> for ParseFault {
 /// Why reading stopped.
 #[derive(Clone, Copy, Debug, PartialEq, Eq)]
 pub enum Stop {
-    /// No program goes on so.
-    Syntax,
-    /// Memory ran out.
+    /// At a word with which no program goes on, or that passes a limit.
+    Refused(Fault),
+    /// There was no memory for the tree.
     Memory,
 }
 
 impl From<AllocError> for Stop {
     ghost from_gives = { λ _ e. e ≡ stops.Memory };
 
-    fn from(_e: AllocError) -> Stop {
+    fn from(_error: AllocError) -> Stop {
         Stop::Memory
     }
 }
@@ -42,7 +45,7 @@ impl From<AllocError> for Stop {
 impl<T: Drop> From<AllocFailed<T>> for Stop {
     ghost from_gives = { λ _ e. e ≡ stops.Memory };
 
-    fn from(_e: AllocFailed<T>) -> Stop {
+    fn from(_error: AllocFailed<T>) -> Stop {
         Stop::Memory
     }
 }

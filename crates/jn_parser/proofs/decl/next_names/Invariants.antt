@@ -1,0 +1,14 @@
+use Rattle.std.proofs.Common.{length}
+use Rattle.jn_base.specs.declared.word.Mark.TheVariants.{Ampersand}
+use Rattle.jn_base.specs.declared.word.Word.TheVariants.{Mark as Marked}
+use Rattle.jn_grammar.specs.Begins.{begins}
+use Rattle.jn_grammar.specs.Answers.{row}
+use Rattle.jn_grammar.specs.ReadDecls.{next_name_in}
+use Rattle.jn_parser.proofs.Loops.{Rowed}
+use Rattle.jn_parser.proofs.decl.next_names.Given as goal
+
+abbrev pub invariant-row : goal.invariant-row
+invariant-row l = Rowed (begins (Marked Ampersand)) next_name_in l.found l.rest (row (begins (Marked Ampersand)) next_name_in 1 l.ts)
+
+abbrev pub decreases-row : goal.decreases-row
+decreases-row l = length l.rest

@@ -1,0 +1,33 @@
+use Rattle.std.proofs.Common.{◌≡◌, true, sym, ◌∙◌, arith, add-one}
+use Rattle.std.proofs.lemmas.Result.{err_from_is_err_and}
+use Rattle.jn_base.specs.declared.word.Mark.TheVariants.{Comma}
+use Rattle.jn_base.specs.declared.word.Word.TheVariants.{Mark as Marked}
+use Rattle.jn_grammar.specs.Begins.{begins}
+use Rattle.jn_grammar.specs.ReadDecls.{next_param_in}
+use Rattle.jn_parser.proofs.Shorter.{some_there}
+use Rattle.jn_parser.proofs.ShorterBodies.{next_param_less}
+use Rattle.jn_parser.proofs.Loops.{row_starts, row_goes, row_ends, row_error}
+use Rattle.jn_parser.proofs.decl.next_params.Goals as goal
+
+pub row-init : goal.row-init
+row-init c = rw c.new-found.ensures (row_starts (begins (Marked Comma)) (next_param_in true c.args.left) 2 c.args.ts.now, omega arith)
+
+pub row-preserved : goal.row-preserved
+row-preserved c =
+    let m : begins (Marked Comma) c.row.rest.now ≡ true = sym c.starts.ensures ∙ c.row-test.true in
+    let less = next_param_less c.args.left c.row.k c.row.rest.now (c.in_ok-item.item, c.in_ok-item.after.now) m c.in_ok-item.ensures in
+    rw (c.in_ok-push.ensures.ok, add-one) (row_goes (begins (Marked Comma)) (next_param_in true c.args.left) c.row.k c.row.found c.row.rest.now _ c.in_ok-item.item c.in_ok-item.after.now m c.in_ok-item.ensures less c.row.invariant.0, omega arith)
+
+pub row-smaller : goal.row-smaller
+row-smaller c =
+    let m : begins (Marked Comma) c.row.rest.now ≡ true = sym c.starts.ensures ∙ c.row-test.true in
+    next_param_less c.args.left c.row.k c.row.rest.now (c.in_ok-item.item, c.in_ok-item.after.now) m c.in_ok-item.ensures
+
+pub returns : goal.returns
+returns c = row_ends (begins (Marked Comma)) (next_param_in true c.args.left) c.row.k c.row.found c.row.rest.now _ (sym c.starts.ensures ∙ c.row-test.false) c.row.invariant.0
+
+pub returns-in_err-item : goal.returns-in_err-item
+returns-in_err-item c =
+    let m : begins (Marked Comma) c.row.rest.now ≡ true = sym c.starts.ensures ∙ c.row-test.true in
+    let p = err_from_is_err_and c.from_residual.result c.from_residual.ensures.1 in
+    rw (p.1, p.2) (row_error (begins (Marked Comma)) (next_param_in true c.args.left) c.row.k c.row.found c.row.rest.now _ c.in_err-item.field-0.0 m c.in_err-item.ensures (some_there (Marked Comma) c.row.rest.now m) c.row.invariant.0)

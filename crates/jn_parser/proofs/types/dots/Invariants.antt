@@ -1,0 +1,14 @@
+use Rattle.std.proofs.Common.{length}
+use Rattle.jn_base.specs.declared.word.Mark.TheVariants.{Dot}
+use Rattle.jn_base.specs.declared.word.Word.TheVariants.{Mark as Marked}
+use Rattle.jn_grammar.specs.Begins.{begins}
+use Rattle.jn_grammar.specs.Answers.{row}
+use Rattle.jn_grammar.specs.ReadTypes.{dot_in}
+use Rattle.jn_parser.proofs.Loops.{Rowed}
+use Rattle.jn_parser.proofs.types.dots.Given as goal
+
+abbrev pub invariant-row : goal.invariant-row
+invariant-row l = Rowed (begins (Marked Dot)) dot_in l.found l.rest (row (begins (Marked Dot)) dot_in 1 l.ts)
+
+abbrev pub decreases-row : goal.decreases-row
+decreases-row l = length l.rest

@@ -1,0 +1,165 @@
+//! Words: the tokens as the grammar sees them. Names and texts are numbered by first mention.
+
+ghost use Rattle.std.specs.Prelude.{◌≡◌, ◌≤◌, ◌+◌, length, map, OnOk, IfOk};
+ghost use Rattle.jn_base.specs.Tokens.{TokensOf};
+ghost use Rattle.jn_base.specs.Words as spelled;
+ghost use Rattle.jn_base.specs.Words.{AreWordsOf, text};
+ghost use Rattle.jn_lexer.specs.Lexing.{AreInOrder};
+ghost use Rattle.jn_parser.specs.Wording.{Numbers, IsTextFor, HaveTexts, Mentions, AreSoFar};
+
+use crate::place::{moved, place_of};
+use crate::rows::split_first;
+use crate::spelling::{between_quotes, keyword, mark, unescaped, value};
+use indexmap::IndexSet;
+use jn_base::token::{LexFault, Token, TokenKind};
+use jn_base::tree::{Name, Place, Text};
+use jn_base::word::{Lexeme, Word};
+use jn_lexer::Scanned;
+use sqlite_items::Items;
+use std::alloc::{AllocError, Global};
+
+/// The words of a source, with its names and texts by their numbers.
+#[derive(Drop)]
+pub struct Wording {
+    pub words: Vec<Lexeme>,
+    pub names: Items<Text>,
+    pub texts: Items<Text>,
+}
+
+/// The words of some tokens, and the names and the texts that they mention, by their numbers.
+#[derive(Drop)]
+struct Seen {
+    words: Vec<Lexeme>,
+    names: IndexSet<Vec<u8>>,
+    texts: IndexSet<Vec<u8>>,
+}
+
+/// The number of these bytes in a table: the one that they have, or else the next one.
+fn number(table: &mut IndexSet<Vec<u8>>, word: Vec<u8>) -> Result<u32, AllocError>
+    requires { length table.old.keys ≤ 2_000_000 }
+    ensures numbered { IfOk result (λ n. Numbers (map (λ k. k.items) table.old.keys) word.items (map (λ k. k.items) table.new.keys) n) }
+    ensures grown { OnOk result (length table.new.keys ≤ 1 + length table.old.keys) }
+{
+    let (index, _) = table.insert_full(word)?;
+    Ok(index as u32)
+}
+
+/// The word that a token is.
+fn word(
+    alloc: Global,
+    names: &mut IndexSet<Vec<u8>>,
+    texts: &mut IndexSet<Vec<u8>>,
+    kind: TokenKind,
+    text: &[u8],
+) -> Result<Word, AllocError>
+    requires text { IsTextFor kind text.now }
+    requires few_names { length names.old.keys ≤ 2_000_000 }
+    requires few_texts { length texts.old.keys ≤ 2_000_000 }
+    ensures mentioned { IfOk result (λ x. Mentions (map (λ k. k.items) names.old.keys) (map (λ k. k.items) texts.old.keys) kind text.now x (map (λ k. k.items) names.new.keys) (map (λ k. k.items) texts.new.keys)) }
+    ensures names { OnOk result (length names.new.keys ≤ 1 + length names.old.keys) }
+    ensures texts { OnOk result (length texts.new.keys ≤ 1 + length texts.old.keys) }
+{
+    match kind {
+        TokenKind::Name => {
+            let n = number(names, Vec::from_slice(alloc, text)?)?;
+            Ok(Word::Name(Name(n)))
+        }
+        TokenKind::Keyword => match keyword(text) {
+            Some(k) => Ok(Word::Keyword(k)),
+            None => unreachable!(),
+        },
+        TokenKind::Number => Ok(Word::Number(value(text))),
+        TokenKind::Text => {
+            let text = unescaped(alloc, between_quotes(text))?;
+            Ok(Word::Text(number(texts, text)?))
+        }
+        TokenKind::Mark => match mark(text) {
+            Some(m) => Ok(Word::Mark(m)),
+            None => unreachable!(),
+        },
+    }
+}
+
+/// The words of the tokens.
+fn mentioned(alloc: Global, bytes: &[u8], tokens: &[Token]) -> Result<Seen, AllocError>
+    requires within { length bytes.now ≤ 1_048_576 }
+    requires in_order { AreInOrder 0 tokens.now (length bytes.now) }
+    requires texts { HaveTexts bytes.now tokens.now }
+    ensures { IfOk result (λ m. AreSoFar bytes.now tokens.now m.words.items (map (λ k. k.items) m.names.keys) (map (λ k. k.items) m.texts.keys)) }
+{
+    let mut words = Vec::new(alloc);
+    let mut names = IndexSet::new(alloc);
+    let mut texts = IndexSet::new(alloc);
+    let mut place = Place { line: 1, column: 1 };
+    let mut at = 0;
+    let mut rest = tokens;
+    'token: while let Some((token, after)) = split_first(rest) {
+        let start = token.start as usize;
+        place = moved(place, &bytes[at..start]);
+        let text = &bytes[start..token.end as usize];
+        let word = word(alloc, &mut names, &mut texts, token.kind, text)?;
+        words.push(Lexeme { word, at: place })?;
+        at = start;
+        rest = after;
+    }
+    Ok(Seen {
+        words,
+        names,
+        texts,
+    })
+}
+
+/// What stands behind the tokens: the end of the file, or the first fault.
+fn last_word(bytes: &[u8], fault: Option<LexFault>) -> Lexeme
+    requires { length bytes.now ≤ 1_048_576 }
+    ensures { result ≡ spelled.last_word bytes.now fault }
+{
+    let (word, at) = match fault {
+        None => (Word::End, bytes.len()),
+        Some(LexFault::BadChar(at)) => (Word::Fault, at as usize),
+        Some(LexFault::BadNumber(at)) => (Word::Fault, at as usize),
+        Some(LexFault::OpenComment(at)) => (Word::Fault, at as usize),
+        Some(LexFault::OpenText(at)) => (Word::Fault, at as usize),
+        Some(LexFault::Memory) => (Word::Fault, 0),
+    };
+    Lexeme {
+        word,
+        at: place_of(bytes, at),
+    }
+}
+
+/// The texts of a table, in order.
+fn table(alloc: Global, seen: &[Vec<u8>]) -> Result<Items<Text>, AllocError>
+    ensures { IfOk result (λ texts. texts ≡ map (λ k. text k.items) seen.now) }
+{
+    let mut texts = Items::new(alloc);
+    let mut rest = seen;
+    'text: while let [text, after @ ..] = rest {
+        let bytes = Items::from_slice(alloc, text.as_slice())?;
+        texts.push(Text { bytes })?;
+        rest = after;
+    }
+    Ok(texts)
+}
+
+/// The words of a source, of which these are the tokens.
+pub fn words(alloc: Global, bytes: &[u8], scanned: &Scanned) -> Result<Wording, AllocError>
+    requires within { length bytes.now ≤ 1_048_576 }
+    requires lexed { TokensOf bytes.now scanned.now.tokens.items scanned.now.fault }
+    requires in_order { AreInOrder 0 scanned.now.tokens.items (length bytes.now) }
+    ensures { IfOk result (λ w. AreWordsOf bytes.now w.names w.texts w.words.items) }
+{
+    let Seen {
+        mut words,
+        names,
+        texts,
+    } = mentioned(alloc, bytes, scanned.tokens.as_slice())?;
+    words.push(last_word(bytes, scanned.fault))?;
+    let names = table(alloc, names.as_slice())?;
+    let texts = table(alloc, texts.as_slice())?;
+    Ok(Wording {
+        words,
+        names,
+        texts,
+    })
+}

@@ -1,0 +1,5 @@
+pub mod Tokens
+pub mod Spelling
+pub mod Answer
+pub mod Plain
+pub mod Reading
