@@ -1,5 +1,6 @@
 pub mod Judging
 pub mod Linking
 pub mod Pieces
+pub mod Plainness
 pub mod Reading
 pub mod Running

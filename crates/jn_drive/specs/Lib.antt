@@ -3,6 +3,7 @@ pub mod Code
 pub mod Job
 pub mod Machine
 pub mod Meaning
+pub mod Plain
 pub mod Reply
 pub mod Seen
 pub mod Status
