@@ -23,3 +23,7 @@ pub mod ExampleWords
 pub mod ExampleProgram
 pub mod ExampleFaults
 pub mod ExampleSource
+pub mod FormEquations
+pub mod FormsFound
+pub mod ResolveOnce
+pub mod ResolveShown

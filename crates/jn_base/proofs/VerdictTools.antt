@@ -248,7 +248,7 @@ no_class_cycle p Cs As r q C A c a o = from_next (direct_lower p Cs As r q C A c
 
 -- ---- kinds
 
-kind_at : (p : Program) (A : Name) → tops is_package p ≡ true → HasKind p (A ∷ []) kind.Class → ⊥
+pub kind_at : (p : Program) (A : Name) → tops is_package p ≡ true → HasKind p (A ∷ []) kind.Class → ⊥
 kind_at p A e h =
     let b = top_sup p A h.at h.super in
     let s = subst (λ (Q : Path). StandsAt p Q h.decl) b.1 h.stands in

@@ -1,5 +1,6 @@
 ghost use Rattle.jn_base.specs.DuplicatesExample.{DuplicatesExample};
 ghost use Rattle.jn_base.specs.FamiliesExample.{FamiliesExample};
+ghost use Rattle.jn_base.specs.ResolveExamples.{ResolveExamples, MaskExamples};
 ghost use Rattle.jn_base.specs.SmallExamples.{ConflictExample, CycleExample, MixedExample, JoinedExample};
 ghost use Rattle.jn_base.specs.VerdictExamples.{VerdictExamples};
 
@@ -38,6 +39,16 @@ pub fn table_verdicts()
     ensures { VerdictExamples }
 {}
 
+/// Terms of each form in a class of a family, and what each is refused for.
+pub fn terms_resolved()
+    ensures { ResolveExamples }
+{}
+
+/// A type with masks, and masks that are refused.
+pub fn masks_resolved()
+    ensures { MaskExamples }
+{}
+
 #[cfg(test)]
 mod tests {
     use super::*;
@@ -51,5 +62,7 @@ mod tests {
         joined_members();
         names_twice();
         table_verdicts();
+        terms_resolved();
+        masks_resolved();
     }
 }

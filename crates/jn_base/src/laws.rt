@@ -1,3 +1,4 @@
+ghost use Rattle.jn_base.specs.ResolveLaws.{ResolvedOnce};
 ghost use Rattle.jn_base.specs.Twice.{DuplicatesAreTwice};
 ghost use Rattle.jn_base.specs.LawsOfTable.{NothingTwice, MembersAreOne, UniverseNamed, DeclarationsVerdictIsOne, HomesExist};
 ghost use Rattle.jn_base.specs.LawsOfSupers.{DirectSupers, TopLevel, Levels, Heirs, SupersChain, MembersInherited, SupersOfMembers, UniverseClosed, ReachClosed, StrictOrder};
@@ -82,6 +83,11 @@ pub fn duplicates_are_twice()
     ensures { DuplicatesAreTwice }
 {}
 
+/// A term, a type and a view resolve to one atom or type, or to one refusal.
+pub fn resolved_once()
+    ensures { ResolvedOnce }
+{}
+
 #[cfg(test)]
 mod tests {
     use super::*;
@@ -104,5 +110,6 @@ mod tests {
         declarations_verdict_is_one();
         homes_exist();
         duplicates_are_twice();
+        resolved_once();
     }
 }

@@ -10,9 +10,12 @@
 #![tactic(auto)]
 
 pub mod examples;
+pub mod forms;
 pub mod laws;
+pub mod names;
 pub mod path;
 pub mod refusal;
 pub mod token;
 pub mod tree;
+pub mod types;
 pub mod word;

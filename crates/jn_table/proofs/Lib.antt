@@ -11,3 +11,5 @@ pub mod Members
 pub mod Orders
 pub mod DepthSteps
 pub mod Universes
+pub mod Sorted
+pub mod Shown

@@ -1,6 +1,6 @@
 -- The declared names in order.
 use Rattle.std.proofs.Common.{◌≡◌, ◌<◌, ℕ, List, [], ◌∷◌, Contains, ◌↔◌, refl, ap, subst, sym, ◌∙◌, IsPermutation, length, slice_get, Some, map, arith, zero, suc, inl, inr, take, ◌≤◌}
-use Rattle.std.specs.List.{Any, AllByRecursion}
+use Rattle.std.specs.List.{AllByRecursion}
 use Rattle.std.specs.declared.cmp.Ordering.{Ordering}
 use Rattle.std.specs.declared.cmp.Ordering.TheVariants.{Less, Equal, Greater}
 use Rattle.std.specs.List.Sorted.{IsSorted, IsStrictlySortedBy}
@@ -23,7 +23,7 @@ use Rattle.jn_base.specs.declared.tree.Text.{Text}
 use Rattle.jn_base.specs.Paths.{Path}
 use Rattle.jn_table.specs.Gather.{DeclaresIn}
 use Rattle.jn_table.specs.Depths.{IsOrdered}
-use Rattle.jn_table.specs.Order.{spelled_cmp, spelled_total, spelled_name, spelling, SpelledOf, order_cmp, IsOrderOf}
+use Rattle.jn_table.specs.Order.{spelled_cmp, spelled_total, spelled_name, spelling, SpelledOf, order_cmp, IsOrderOf, entry_name}
 use Rattle.jn_table.specs.declared.entry.Entry.{Entry}
 use Rattle.jn_table.specs.declared.order.Spelled.{Spelled}
 
@@ -101,27 +101,27 @@ map_in (y ∷ ys) C (suc k, l, e) =
     let r = map_in ys C (k, omega (arith, l), e) in
     (r.0, later y ys r.0 r.1, r.2)
 
--- the entries and their spellings
-each_spelled : (texts : List Text) {es : List Entry} {xs : List Spelled} → Each (λ (e : Entry) (s : Spelled). SpelledOf texts e.name s) es xs
-    → (s : Spelled) → Contains xs s → (e : Entry) × Contains es e × (s ≡ spelling texts e.name)
+-- the names and their spellings
+each_spelled : (texts : List Text) {ns : List Name} {xs : List Spelled} → Each (λ (n : Name) (s : Spelled). SpelledOf texts n s) ns xs
+    → (s : Spelled) → Contains xs s → (n : Name) × Contains ns n × (s ≡ spelling texts n)
 each_spelled texts none s c = absurd (omega (arith, c.1))
 each_spelled texts (more {x = e} {y = t} {xs = es} {ys = xs} r rest) s (zero, l, h) = (e, first e es, sym h ∙ r)
 each_spelled texts (more {x = e} {y = t} {xs = es} {ys = xs} r rest) s (suc k, l, h) =
     let f = each_spelled texts rest s (k, omega (arith, l), h) in
     (f.0, later e es f.0 f.1, f.2)
 
-spelled_each : (texts : List Text) {es : List Entry} {xs : List Spelled} → Each (λ (e : Entry) (s : Spelled). SpelledOf texts e.name s) es xs
-    → (e : Entry) → Contains es e → Contains xs (spelling texts e.name)
+spelled_each : (texts : List Text) {ns : List Name} {xs : List Spelled} → Each (λ (n : Name) (s : Spelled). SpelledOf texts n s) ns xs
+    → (n : Name) → Contains ns n → Contains xs (spelling texts n)
 spelled_each texts none e c = absurd (omega (arith, c.1))
 spelled_each texts (more {x = d} {y = t} {xs = es} {ys = xs} r rest) e (zero, l, h) =
-    subst (λ (f : Entry). Contains (t ∷ xs) (spelling texts f.name)) h (subst (Contains (t ∷ xs)) r (first t xs))
+    subst (λ (f : Name). Contains (t ∷ xs) (spelling texts f)) h (subst (Contains (t ∷ xs)) r (first t xs))
 spelled_each texts (more {x = d} {y = t} {xs = es} {ys = xs} r rest) e (suc k, l, h) =
-    later t xs (spelling texts e.name) (spelled_each texts rest e (k, omega (arith, l), h))
+    later t xs (spelling texts e) (spelled_each texts rest e (k, omega (arith, l), h))
 
-pub order_is : (texts : List Text) (es : List Entry) (xs ys zs : List Spelled) (order : List Name)
-    → Each (λ (e : Entry) (s : Spelled). SpelledOf texts e.name s) es xs → IsPermutation xs ys → IsSorted spelled_cmp ys
-    → IsFiltered (DiffersFromLast (eq_by_cmp spelled_cmp)) [] ys zs → order ≡ map spelled_name zs → IsOrderOf texts es order
-order_is texts es xs ys zs order each p s f is = record {
+pub order_is : (texts : List Text) (names : List Name) (xs ys zs : List Spelled) (order : List Name)
+    → Each (λ (n : Name) (s : Spelled). SpelledOf texts n s) names xs → IsPermutation xs ys → IsSorted spelled_cmp ys
+    → IsFiltered (DiffersFromLast (eq_by_cmp spelled_cmp)) [] ys zs → order ≡ map spelled_name zs → IsOrderOf texts names order
+order_is texts names xs ys zs order each p s f is = record {
   exact = λ C. (to C, from C);
   in_order = subst (IsStrictlySortedBy (order_cmp texts)) (sym is) (names_sorted texts zs are (deduped_sorted ys zs s f));
 } where
@@ -130,16 +130,16 @@ order_is texts es xs ys zs order each p s f is = record {
       let e = each_spelled texts each t ((deduped_same xs ys zs p f t).0 c) in
       e.2 ∙ ap (λ (n : Name). spelling texts n) (sym (ap spelled_name e.2))
 
-  to : (C : Name) → Contains order C → Any (λ (e : Entry). e.name ≡ C) es
+  to : (C : Name) → Contains order C → Contains names C
   to C c =
       let m = map_in zs C (subst (λ (ns : List Name). Contains ns C) is c) in
       let e = each_spelled texts each m.0 ((deduped_same xs ys zs p f m.0).0 m.1) in
-      (e.1.0, e.0, e.1.1, e.1.2, sym (ap spelled_name e.2) ∙ m.2)
+      subst (Contains names) (sym (ap spelled_name e.2) ∙ m.2) e.1
 
-  from : (C : Name) → Any (λ (e : Entry). e.name ≡ C) es → Contains order C
-  from C a =
-      let c = spelled_each texts each a.1 (a.0, a.2, a.3) in
-      subst (λ (ns : List Name). Contains ns C) (sym is) (in_map zs (spelling texts (a.1).name) C ((deduped_same xs ys zs p f (spelling texts (a.1).name)).1 c) a.4)
+  from : (C : Name) → Contains names C → Contains order C
+  from C c =
+      let s = spelled_each texts each C c in
+      subst (λ (ns : List Name). Contains ns C) (sym is) (in_map zs (spelling texts C) C ((deduped_same xs ys zs p f (spelling texts C)).1 s) refl)
 
 -- none comes before itself, so that none is there twice
 no_less : (texts : List Text) (C : Name) → order_cmp texts C C ≡ Less → ⊥
@@ -151,12 +151,31 @@ no_less texts C e =
 pub each_all : {A B : Type 0} (R : A → B → Type 0) (xs : List A) (ys : List B) (i : ℕ) → length xs ≤ i → Each R (take i xs) ys → Each R xs ys
 each_all R xs ys i past e = subst (λ zs. Each R zs ys) (take_whole i xs past) e
 
-pub ordered : (texts : List Text) (es : List Entry) (order : List Name) → IsOrderOf texts es order → IsOrdered es order
+-- the names of entries
+pub name_in : (es : List Entry) (e : Entry) → Contains es e → Contains (map entry_name es) e.name
+name_in [] e c = absurd (omega (arith, c.1))
+name_in (d ∷ es) e (zero, l, h) = (0, omega arith, ap (λ (f : Entry). f.name) h)
+name_in (d ∷ es) e (suc k, l, h) =
+    let c = name_in es e (k, omega (arith, l), h) in
+    (suc c.0, omega (arith, c.1), c.2)
+
+pub in_names : (es : List Entry) (C : Name) → Contains (map entry_name es) C → (e : Entry) × Contains es e × (e.name ≡ C)
+in_names [] C c = absurd (omega (arith, c.1))
+in_names (d ∷ es) C (zero, l, h) = (d, (0, omega arith, refl), h)
+in_names (d ∷ es) C (suc k, l, h) =
+    let c = in_names es C (k, omega (arith, l), h) in
+    (c.0, (suc c.1.0, omega (arith, c.1.1), c.1.2), c.2)
+
+pub sorted_apart : (texts : List Text) (order : List Name) → IsStrictlySortedBy (order_cmp texts) order
+    → (i j : ℕ) (C D : Name) → i < j → slice_get order i ≡ Some C → slice_get order j ≡ Some D → order_cmp texts C D ≡ Less
+sorted_apart texts order s i j C D l a b =
+    let less = Less-from_sorted (order_cmp texts) order i j C s l (slice_get_within order j D b) in
+    rw (get_or_from_slice_get order i C C a, get_or_from_slice_get order j D C b) at less
+
+pub ordered : (texts : List Text) (es : List Entry) (order : List Name) → IsOrderOf texts (map entry_name es) order → IsOrdered es order
 ordered texts es order o = record { distinct = distinct; declared = declared } where
   apart : (i j : ℕ) (C : Name) → slice_get order i ≡ Some C → slice_get order j ≡ Some C → i < j → ⊥
-  apart i j C a b l =
-      let less = Less-from_sorted (order_cmp texts) order i j C o.in_order l (slice_get_within order j C b) in
-      no_less texts C (rw (get_or_from_slice_get order i C C a, get_or_from_slice_get order j C C b) at less)
+  apart i j C a b l = no_less texts C (sorted_apart texts order o.in_order i j C C l a b)
 
   distinct : (i j : ℕ) (C : Name) → slice_get order i ≡ Some C → slice_get order j ≡ Some C → i ≡ j
   distinct i j C a b = elim (cases_lt i j) [
@@ -169,5 +188,6 @@ ordered texts es order o = record { distinct = distinct; declared = declared } w
 
   declared : (P : Path) (C : Name) → DeclaresIn es P C → (j : ℕ) × (slice_get order j ≡ Some C)
   declared P C a =
-      let c = (o.exact C).1 (a.0, a.1, a.2, a.3, a.4.0) in
+      let n = subst (Contains (map entry_name es)) a.4.0 (name_in es a.1 (a.0, a.2, a.3)) in
+      let c = (o.exact C).1 n in
       (c.0, slice_get_read order (length order) c.0 C refl c.1 (sym c.2))

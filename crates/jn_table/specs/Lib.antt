@@ -5,3 +5,5 @@ pub mod Exact
 pub mod Children
 pub mod Order
 pub mod Depths
+pub mod Rows
+pub mod Tables

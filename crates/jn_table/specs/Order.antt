@@ -1,5 +1,5 @@
 -- The declared names in the order of their bytes.
-use Rattle.std.specs.Prelude.{◌≡◌, ◌↔◌, ℕ, List, slice_get, Contains, Any}
+use Rattle.std.specs.Prelude.{◌≡◌, ◌↔◌, ℕ, List, slice_get, Contains}
 use Rattle.std.specs.declared.cmp.Ordering.{Ordering}
 use Rattle.std.specs.Ordering.{nat_cmp, on, then_cmp}
 use Rattle.std.specs.Cmp.{IsTotalOrder, then_total, on_total, nat_cmp_total}
@@ -38,7 +38,10 @@ SpelledOf texts n s = s ≡ spelling texts n
 abbrev pub order_cmp : List Text → Name → Name → Ordering
 order_cmp texts = on (spelling texts) spelled_cmp
 
--- the names of the entries in order, each once
-pub record IsOrderOf (texts : List Text) (es : List Entry) (order : List Name) : Type 0 where
-  pub exact : (C : Name) → Contains order C ↔ Any (λ e. e.name ≡ C) es
+abbrev pub entry_name : Entry → Name
+entry_name e = e.name
+
+-- the names in order, each once
+pub record IsOrderOf (texts : List Text) (names order : List Name) : Type 0 where
+  pub exact : (C : Name) → Contains order C ↔ Contains names C
   pub in_order : IsStrictlySortedBy (order_cmp texts) order

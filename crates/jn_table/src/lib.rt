@@ -9,17 +9,24 @@
 #![tactic(auto)]
 
 mod children;
+mod class;
 mod depths;
 mod entry;
+mod fault;
 mod gather;
 mod level;
+mod lookup;
 mod order;
 mod spot;
+mod table;
 mod universe;
 
+pub use class::{ClassId, Row, RowMember};
 pub use depths::Found;
+pub use fault::TableFault;
 pub use level::Level;
 pub use spot::Spot;
+pub use table::Table;
 pub use universe::universe_of;
 
 #[cfg(test)]

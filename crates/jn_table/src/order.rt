@@ -5,7 +5,7 @@ ghost use Rattle.std.specs.Cmp.Rules.{comparing};
 ghost use Rattle.std.specs.Ordering.{as_partial_cmp, eq_by_cmp};
 ghost use Rattle.jn_base.specs.ClassOrder.{bytes_of};
 ghost use Rattle.jn_reach.specs.Each.{Each};
-ghost use Rattle.jn_table.specs.Order.{spelled_cmp, spelled_total, IsOrderOf, SpelledOf, spelled_name};
+ghost use Rattle.jn_table.specs.Order.{spelled_cmp, spelled_total, IsOrderOf, SpelledOf, spelled_name, entry_name};
 
 use crate::entry::Entry;
 use jn_base::tree::{Name, Text};
@@ -83,13 +83,13 @@ fn spell(alloc: Global, names: &[Text], name: Name) -> Result<Spelled, AllocErro
     })
 }
 
-/// The names of the entries with their bytes.
-fn all_spelled(alloc: Global, names: &[Text], entries: &[Entry]) -> Result<Vec<Spelled>, AllocError>
-    ensures { IfOk result (λ all. Each (λ entry s. SpelledOf names.now entry.name s) entries.now all.items) }
+/// The names with their bytes.
+fn all_spelled(alloc: Global, texts: &[Text], names: &[Name]) -> Result<Vec<Spelled>, AllocError>
+    ensures { IfOk result (λ all. Each (λ name s. SpelledOf texts.now name s) names.now all.items) }
 {
     let mut all = Vec::new(alloc);
-    for entry in entries {
-        let one = spell(alloc, names, entry.name)?;
+    for name in names {
+        let one = spell(alloc, texts, *name)?;
         all.push(one)?;
     }
     Ok(all)
@@ -106,13 +106,45 @@ fn names_of(alloc: Global, all: &[Spelled]) -> Result<Vec<Name>, AllocError>
     Ok(order)
 }
 
-/// The declared names in the order of their bytes, each once.
-pub fn name_order(alloc: Global, names: &[Text], entries: &[Entry]) -> Result<Vec<Name>, AllocError>
-    ensures { IfOk result (λ order. IsOrderOf names.now entries.now order.items) }
+/// The names in the order of their bytes, each once.
+pub fn in_byte_order(alloc: Global, texts: &[Text], names: &[Name]) -> Result<Vec<Name>, AllocError>
+    ensures { IfOk result (λ order. IsOrderOf texts.now names.now order.items) }
 {
-    let mut all = all_spelled(alloc, names, entries)?;
+    let mut all = all_spelled(alloc, texts, names)?;
     all.sort()?;
     all.dedup();
     let order = names_of(alloc, &all)?;
     Ok(order)
+}
+
+/// The names of the entries.
+fn entry_names(alloc: Global, entries: &[Entry]) -> Result<Vec<Name>, AllocError>
+    ensures { IfOk result (λ all. all.items ≡ map entry_name entries.now) }
+{
+    let mut all = Vec::new(alloc);
+    for entry in entries {
+        all.push(entry.name)?;
+    }
+    Ok(all)
+}
+
+/// The declared names in the order of their bytes, each once.
+pub fn name_order(alloc: Global, texts: &[Text], entries: &[Entry]) -> Result<Vec<Name>, AllocError>
+    ensures { IfOk result (λ order. IsOrderOf texts.now (map entry_name entries.now) order.items) }
+{
+    let names = entry_names(alloc, entries)?;
+    let order = in_byte_order(alloc, texts, &names)?;
+    Ok(order)
+}
+
+/// The same texts.
+pub fn copied(alloc: Global, texts: &[Text]) -> Result<Items<Text>, AllocError>
+    ensures { IfOk result (λ all. all ≡ texts.now) }
+{
+    let mut all = Items::new(alloc);
+    for text in texts {
+        let bytes = Items::from_slice(alloc, text.bytes.as_slice())?;
+        all.push(Text { bytes })?;
+    }
+    Ok(all)
 }

@@ -29,7 +29,7 @@ pub fn is_name(a: Name, b: Name) -> bool
 }
 
 /// Whether two lists have the same names.
-fn same(names: &[Name], others: &[Name]) -> bool
+pub fn same(names: &[Name], others: &[Name]) -> bool
     ensures { IsTrue result ↔ (names.now ≡ others.now) }
 {
     if names.len() != others.len() {

@@ -1,0 +1,11 @@
+pub mod Sets
+pub mod Values
+pub mod Widening
+pub mod Below
+pub mod RootClosure
+pub mod Normal
+pub mod Search
+pub mod LawsOfTypes
+pub mod BelowExample
+pub mod NormalFunction
+pub mod TypesExample

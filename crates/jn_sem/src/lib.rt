@@ -1,0 +1,7 @@
+//! What types, sharing and programs mean, as definitions, and their laws.
+//!
+//! Nothing here computes: `specs/` has the definitions, and `laws` carries what is proved of them.
+#![tactic(auto)]
+
+pub mod laws;
+pub mod type_examples;

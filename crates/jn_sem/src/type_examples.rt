@@ -1,0 +1,23 @@
+ghost use Rattle.jn_sem.specs.BelowExample.{BelowExample};
+ghost use Rattle.jn_sem.specs.TypesExample.{TypesExample};
+
+/// Questions of "below" between types of a family, exact types, types of a path, and types with masks.
+pub fn questions_of_below()
+    ensures { BelowExample }
+{}
+
+/// Bounds, sets, normal forms, a step of widening of each kind, and a root closure from which an atom is left out.
+pub fn rows_of_types()
+    ensures { TypesExample }
+{}
+
+#[cfg(test)]
+mod tests {
+    use super::*;
+
+    #[test]
+    fn each_example_holds() {
+        questions_of_below();
+        rows_of_types();
+    }
+}

@@ -1,0 +1,91 @@
+ghost use Rattle.std.specs.Prelude.{◌≡◌, ◌≤◌, [], length, IfOk, IfSome, IfNone};
+
+use crate::class::{ClassId, Row};
+use crate::entry::{Entry, entries};
+use crate::lookup::{has_class, place_of};
+use crate::order::{copied, name_order};
+use jn_base::path::Path;
+use jn_base::tree::{Name, Program, Text};
+use sqlite_items::Items;
+use std::alloc::{AllocError, Global};
+
+/// The class table of a program: the paths whose rows are filled, each with its row.
+///
+/// `IsTableOf` says in a contract of which program it is, and `IsFilled` that the whole universe is filled.
+#[derive(Drop)]
+pub struct Table {
+    alloc: Global,
+    texts: Items<Text>,
+    entries: Vec<Entry>,
+    order: Vec<Name>,
+    known: Vec<Path>,
+    rows: Vec<Row>,
+    ghost few: { length known.items ≤ 4096 },
+    ghost paired: { length rows.items ≡ length known.items },
+}
+
+impl Table {
+    ghost use Rattle.jn_table.specs.Rows.{IsNamed};
+    ghost use Rattle.jn_table.specs.Tables.{IsTableOf, IsFilledAt, IsPathOf, HasNoNumber, SaysRow, SaysSup, SaysBefore};
+
+    /// The table of a program, which knows no path yet. It holds the program's declarations.
+    pub fn new(alloc: Global, p: &Program) -> Result<Table, AllocError>
+        requires { IsNamed p.now }
+        ensures table { IfOk result (λ table. IsTableOf p.now table) }
+        ensures unknown { IfOk result (λ table. table.known.items ≡ []) }
+    {
+        let entries = entries(alloc, p)?;
+        let order = name_order(alloc, p.names.as_slice(), &entries)?;
+        let texts = copied(alloc, p.names.as_slice())?;
+        Ok(Table {
+            alloc,
+            texts,
+            entries,
+            order,
+            known: Vec::new(alloc),
+            rows: Vec::new(alloc),
+        })
+    }
+
+    /// The row of a filled number.
+    pub fn row(&self, id: ClassId) -> &Row
+        requires { IsFilledAt self.now id }
+        ensures { SaysRow self.now id result.now }
+    {
+        &self.rows[id.0 as usize]
+    }
+
+    /// Whether the second of two filled numbers is a super of the first.
+    pub fn sup(&self, a: ClassId, b: ClassId) -> bool
+        requires a { IsFilledAt self.now a }
+        requires b { IsFilledAt self.now b }
+        ensures { SaysSup self.now a b result }
+    {
+        has_class(&self.rows[a.0 as usize].sups, b)
+    }
+
+    /// The number of a path, none exactly where its row isn't filled.
+    pub fn find(&self, q: &Path) -> Option<ClassId>
+        ensures some { IfSome result (λ id. IsFilledAt self.now id) }
+        ensures path { IfSome result (λ id. IsPathOf self.now id q.now) }
+        ensures none { IfNone result (HasNoNumber self.now q.now) }
+    {
+        place_of(&self.known, q)
+    }
+
+    /// Whether the path of the first of two filled numbers comes before that of the second in the class order.
+    pub fn before(&self, a: ClassId, b: ClassId) -> bool
+        requires a { IsFilledAt self.now a }
+        requires b { IsFilledAt self.now b }
+        ensures { SaysBefore self.now a b result }
+    {
+        a.0 < b.0
+    }
+
+    /// The paths whose rows are filled, each once.
+    pub fn known(&self) -> &[Path]
+        ensures { result.now ≡ self.now.known.items }
+    {
+        &self.known
+    }
+}
