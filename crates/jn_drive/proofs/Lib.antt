@@ -4,3 +4,5 @@ pub mod Pieces
 pub mod Plainness
 pub mod Reading
 pub mod Running
+pub mod TwiceEquations
+pub mod TwiceSteps

@@ -1,5 +1,6 @@
 pub mod Answer
 pub mod Code
+pub mod First
 pub mod Job
 pub mod Machine
 pub mod Meaning

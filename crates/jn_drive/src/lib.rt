@@ -11,6 +11,7 @@ mod read;
 mod status;
 #[cfg(test)]
 mod tests;
+mod twice;
 mod words;
 
 ghost use Rattle.std.specs.Prelude.{◌≡◌, map, string_bytes, None};
