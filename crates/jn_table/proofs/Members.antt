@@ -1,5 +1,5 @@
 -- What is picked are the members of the paths, each once.
-use Rattle.std.proofs.Common.{◌≡◌, ◌<◌, ◌+◌, ℕ, List, [], ◌∷◌, ◌++◌, length, slice_get, Some, arith, sym, ◌∙◌, ap, subst, refl, zero, suc, inl, inr}
+use Rattle.std.proofs.Common.{◌≡◌, ◌<◌, ◌+◌, ℕ, List, ◌∷◌, length, slice_get, Some, arith, sym, ◌∙◌, ap, subst, refl, zero, suc, inl, inr, ◌⊎◌}
 use Rattle.std.proofs.lemmas.Bool.{cases_lt}
 use Rattle.std.proofs.lemmas.Option.{slice_get_within, slice_get_cases}
 use Rattle.jn_reach.specs.Graph.{HasEdge}
@@ -16,29 +16,7 @@ use Rattle.jn_table.specs.Children.{Picks, nobody, takes, skips, MemberOf, AllPi
 use Rattle.jn_table.specs.declared.entry.Entry.{Entry}
 use Rattle.jn_table.specs.declared.level.Child.{Child}
 use Rattle.jn_table.specs.declared.level.Level.{Level}
-
--- a place of two lists is one of the first, or one of the second
-data Side {X : Type 0} (xs ys : List X) (k : ℕ) (x : X) : Type 0 where
-  front : slice_get xs k ≡ Some x → Side xs ys k x
-  back : (j : ℕ) → k ≡ length xs + j → slice_get ys j ≡ Some x → Side xs ys k x
-
-side : {X : Type 0} (xs ys : List X) (k : ℕ) (x : X) → slice_get (xs ++ ys) k ≡ Some x → Side xs ys k x
-side [] ys k x at = back k (omega arith) at
-side (z ∷ zs) ys zero x at = front at
-side (z ∷ zs) ys (suc k) x at = further (side zs ys k x at) where
-  further : Side zs ys k x → Side (z ∷ zs) ys (suc k) x
-  further (front a) = front a
-  further (back j e a) = back j (omega (arith, e)) a
-
-left : {X : Type 0} (xs ys : List X) (k : ℕ) (x : X) → slice_get xs k ≡ Some x → slice_get (xs ++ ys) k ≡ Some x
-left [] ys k x at = absurd (cc at)
-left (z ∷ zs) ys zero x at = at
-left (z ∷ zs) ys (suc k) x at = left zs ys k x at
-
-right : {X : Type 0} (xs ys : List X) (k : ℕ) (x : X) → slice_get ys k ≡ Some x → slice_get (xs ++ ys) (length xs + k) ≡ Some x
-right [] ys k x at = subst (λ (j : ℕ). slice_get ys j ≡ Some x) (let e : k ≡ 0 + k = omega arith in e) at
-right (z ∷ zs) ys k x at =
-    subst (λ (j : ℕ). slice_get (z ∷ (zs ++ ys)) j ≡ Some x) (let e : suc (length zs + k) ≡ suc (length zs) + k = omega arith in e) (right zs ys k x at)
+use Rattle.jn_table.proofs.Sides.{Side, front, back, side, left, right}
 
 -- what is picked is a member, by a name of the list
 record IsPick (S : Name → Type 0) (up : ℕ) (ns : List Name) (c : Child) : Type 0 where
@@ -97,6 +75,28 @@ picks_distinct {S} {up} (takes {C = C} {ns = ns} s ps) u (suc k) zero a b at_k a
 picks_distinct (takes {C = C} {ns = ns} s ps) u (suc k) (suc l) a b at_k at_l e = ap suc (picks_distinct ps (distinct_tail C ns u) k l a b at_k at_l e)
 picks_distinct (skips {C = C} {ns = ns} n ps) u k l a b at_k at_l e = picks_distinct ps (distinct_tail C ns u) k l a b at_k at_l e
 
+-- two names of the list, one before the other
+pub record InNames (ns : List Name) (C D : Name) : Type 0 where
+  pub first : ℕ
+  pub second : ℕ
+  pub below : first < second
+  pub first_at : slice_get ns first ≡ Some C
+  pub second_at : slice_get ns second ≡ Some D
+
+names_later : (ns : List Name) (B C D : Name) → InNames ns C D → InNames (B ∷ ns) C D
+names_later ns B C D r = record { first = suc r.first; second = suc r.second; below = omega (arith, r.below); first_at = r.first_at; second_at = r.second_at }
+
+picks_order : {S : Name → Type 0} {up : ℕ} {ns : List Name} {cs : List Child} → Picks S up ns cs
+    → (k l : ℕ) (a b : Child) → k < l → slice_get cs k ≡ Some a → slice_get cs l ≡ Some b → InNames ns a.name b.name
+picks_order nobody k l a b h at_k at_l = absurd (cc at_k)
+picks_order (takes s ps) k zero a b h at_k at_l = absurd (omega (arith, h))
+picks_order {S} {up} (takes {C = C} {ns = ns} s ps) zero (suc l) a b h at_k at_l =
+    let p = picks_sound ps l b at_l in
+    let e : record { up = up; name = C } ≡ a = cc at_k in
+    record { first = 0; second = suc p.place; below = omega arith; first_at = ap (λ (c : Child). Some c.name) e; second_at = p.place_at }
+picks_order (takes {C = C} {ns = ns} s ps) (suc k) (suc l) a b h at_k at_l = names_later ns C a.name b.name (picks_order ps k l a b (omega (arith, h)) at_k at_l)
+picks_order (skips {C = C} {ns = ns} n ps) k l a b h at_k at_l = names_later ns C a.name b.name (picks_order ps k l a b h at_k at_l)
+
 pub record IsMember (es : List Entry) (level : Level) (n : ℕ) (c : Child) : Type 0 where
   pub within : c.up < n
   pub member : MemberOf es level c.up c.name
@@ -135,6 +135,21 @@ all_distinct {es} {order} {level} (one_path {n = n} {cs = cs} {ds = ds} ps q) u 
       sides below within (front x) (back j h y) = absurd (omega (arith, within k a x, (picks_sound q j b y).up_is, e))
       sides below within (back i g x) (front y) = absurd (omega (arith, within l b y, (picks_sound q i a x).up_is, e))
       sides below within (back i g x) (back j h y) = let r = picks_distinct q u i j a b x y f in omega (arith, g, h, r)
+
+-- the members of an earlier path come first, and those of one path in the order of their names
+pub all_order : {es : List Entry} {order : List Name} {level : Level} {n : ℕ} {cs : List Child} → AllPicks es order level n cs
+    → (k l : ℕ) (a b : Child) → k < l → slice_get cs k ≡ Some a → slice_get cs l ≡ Some b
+    → (a.up < b.up) ⊎ ((a.up ≡ b.up) × InNames order a.name b.name)
+all_order no_path k l a b h at_k at_l = absurd (cc at_k)
+all_order {es} {order} {level} (one_path {n = n} {cs = cs} {ds = ds} ps q) k l a b h at_k at_l =
+    sides (λ x y. all_order ps k l a b h x y) (side cs ds k a at_k) (side cs ds l b at_l) where
+      sides : (slice_get cs k ≡ Some a → slice_get cs l ≡ Some b → (a.up < b.up) ⊎ ((a.up ≡ b.up) × InNames order a.name b.name))
+          → Side cs ds k a → Side cs ds l b → (a.up < b.up) ⊎ ((a.up ≡ b.up) × InNames order a.name b.name)
+      sides below (front x) (front y) = below x y
+      sides below (front x) (back j g y) = inl (let w = (all_sound ps k a x).within in let u = (picks_sound q j b y).up_is in omega (arith, w, u))
+      sides below (back i g x) (front y) = absurd (let w = slice_get_within cs l b y in omega (arith, g, w, h))
+      sides below (back i g x) (back j f y) =
+          inr ((picks_sound q i a x).up_is ∙ sym (picks_sound q j b y).up_is, picks_order q i j a b (omega (arith, g, f, h)) x y)
 
 -- the order has each declared name
 abbrev pub HasDeclared : List Entry → List Name → Type 0

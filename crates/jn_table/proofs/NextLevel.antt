@@ -1,5 +1,6 @@
 -- The next level is exact.
 use Rattle.std.proofs.Common.{◌≡◌, ◌<◌, ◌+◌, ℕ, List, [], ◌∷◌, length, slice_get, Some, arith, sym, ◌∙◌, ap, get_or, subst, All, suc}
+use Rattle.std.specs.List.Sorted.{IsStrictlyIncreasing}
 use Rattle.std.specs.declared.vec.Vec.{Vec}
 use Rattle.std.specs.declared.alloc.Global.{Global}
 use Rattle.std.proofs.lemmas.Option.{slice_get-get_or, slice_get_within}
@@ -23,23 +24,23 @@ use Rattle.jn_table.specs.declared.level.Level.{Level}
 use Rattle.jn_table.proofs.DirectNext.{next_direct}
 
 -- supers are chains of direct supers
-sup_chain : (p : Program) (R S : Path) → Chain (Direct p) R S → Sup p R S
+pub sup_chain : (p : Program) (R S : Path) → Chain (Direct p) R S → Sup p R S
 sup_chain p R S here = itself
 sup_chain p R S (step {b = T} d c) = above d (sup_chain p T S c)
 
-chain_sup : (p : Program) (R S : Path) → Sup p R S → Chain (Direct p) R S
+pub chain_sup : (p : Program) (R S : Path) → Sup p R S → Chain (Direct p) R S
 chain_sup p R S itself = here
 chain_sup p R S (above {S = T} d s) = step d (chain_sup p T S s)
 
-cons_head : (C D : Name) (P Q : Path) → ◌≡◌ {A = Path} (C ∷ P) (D ∷ Q) → C ≡ D
+pub cons_head : (C D : Name) (P Q : Path) → ◌≡◌ {A = Path} (C ∷ P) (D ∷ Q) → C ≡ D
 cons_head C D P Q e = cc
 
-cons_tail : (C D : Name) (P Q : Path) → ◌≡◌ {A = Path} (C ∷ P) (D ∷ Q) → P ≡ Q
+pub cons_tail : (C D : Name) (P Q : Path) → ◌≡◌ {A = Path} (C ∷ P) (D ∷ Q) → P ≡ Q
 cons_tail C D P Q e = cc
 
 module _ (p : Program) (n : ℕ) (level : Level) (children : List Child) (is : IsLevel p n level) (are : AreChildren p level children)
     (paths : List Path) (cp : ChildPaths level.paths.items children paths) where
-  next_paths_sound : (k : ℕ) (P : Path) → slice_get paths k ≡ Some P → IsNamespace p P × (length P ≡ n + 1)
+  pub next_paths_sound : (k : ℕ) (P : Path) → slice_get paths k ≡ Some P → IsNamespace p P × (length P ≡ n + 1)
   next_paths_sound k P at =
       let h = Each-back (ChildPath level.paths.items) cp k P at in
       let up = is.paths_sound (h.0).up h.2.up h.2.up_at in
@@ -49,7 +50,7 @@ module _ (p : Program) (n : ℕ) (level : Level) (children : List Child) (is : I
       subst (λ (Q : Path). IsNamespace p Q × (length Q ≡ n + 1)) (sym h.2.is)
       ((up.0, member), (let e : suc (length h.2.up) ≡ n + 1 = omega (arith, up.1) in e))
 
-  next_paths_complete : (P : Path) → IsNamespace p P → length P ≡ n + 1 → (k : ℕ) × (slice_get paths k ≡ Some P)
+  pub next_paths_complete : (P : Path) → IsNamespace p P → length P ≡ n + 1 → (k : ℕ) × (slice_get paths k ≡ Some P)
   next_paths_complete [] s e = absurd (omega (arith, e))
   next_paths_complete (C ∷ Q) s e =
       let i = is.paths_complete Q s.0 (omega (arith, e)) in
@@ -97,12 +98,21 @@ rows_in_range es level children rows dr i row l k d m =
     let s = ((r.2.lists).exact (get_or (get_or rows i row).items k d)).0 (Contains-get_or (get_or rows i row).items k d m) in
     omega (arith, long, slice_get_within children (get_or (get_or rows i row).items k d) s.super s.at)
 
+rows_ascending : (es : List Entry) (level : Level) (children : List Child) (rows : Graph)
+    → DirectRows es level children children rows → All (λ (row : Vec ℕ Global). IsStrictlyIncreasing row.items) rows
+rows_ascending es level children rows dr i row l =
+    let r = Each-back (λ (heir : Child) (row : Vec ℕ Global). DirectRow es level children heir row.items) dr i (get_or rows i row) (slice_get-get_or rows i row l) in
+    (r.2.lists).ascending
+
 pub next_shaped : (es : List Entry) (level : Level) (children : List Child) (below : Level)
     → ChildPaths level.paths.items children below.paths.items → DirectRows es level children children below.direct.items
     → IsClosure below.direct.items below.sups.items → IsShaped below
 next_shaped es level children below cp dr closed = record {
   direct = long;
   sups = closed.long ∙ long;
+  direct_in = subst (λ k. All (λ (row : Vec ℕ Global). All (λ (j : ℕ). j < k) row.items) below.direct.items) long
+      (rows_in_range es level children below.direct.items dr);
+  ascending = rows_ascending es level children below.direct.items dr;
   sups_in = subst (λ k. All (λ (row : Vec ℕ Global). All (λ (j : ℕ). j < k) row.items) below.sups.items) long
       (closure_in_range below.direct.items below.sups.items (rows_in_range es level children below.direct.items dr) closed);
 } where

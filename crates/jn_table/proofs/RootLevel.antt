@@ -1,13 +1,16 @@
 -- The level of the program itself.
-use Rattle.std.proofs.Common.{◌≡◌, ℕ, List, [], ◌∷◌, length, slice_get, Some, arith, sym, subst, refl, Contains, zero, suc}
+use Rattle.std.proofs.Common.{◌≡◌, ℕ, List, [], ◌∷◌, length, slice_get, Some, arith, sym, subst, refl, Contains, zero, suc, All, ◌<◌, ap, ◌∙◌}
+use Rattle.std.specs.List.Sorted.{IsStrictlyIncreasing}
 use Rattle.std.specs.declared.vec.Vec.{Vec}
 use Rattle.std.specs.declared.alloc.Global.{Global}
+use Rattle.std.proofs.lemmas.List.Elements.{All-nil, All-cons}
 use Rattle.jn_reach.specs.Graph.{HasEdge, Graph}
 use Rattle.jn_reach.specs.Numbers.{Numbers}
 use Rattle.jn_base.specs.declared.tree.Program.{Program}
 use Rattle.jn_base.specs.Paths.{Path}
 use Rattle.jn_base.specs.Supers.{Direct, Sup, itself, above}
 use Rattle.jn_base.specs.Universe.{IsNamespace}
+use Rattle.jn_table.specs.Level.{IsShaped}
 use Rattle.jn_table.specs.Exact.{IsLevel}
 use Rattle.jn_table.specs.declared.level.Level.{Level}
 
@@ -60,7 +63,7 @@ module _ (p : Program) (d s : Vec ℕ Global) (none : d.items ≡ []) (own : s.i
         );
   }
 
-empty_length : {P : Path} → length P ≡ 0 → P ≡ []
+pub empty_length : {P : Path} → length P ≡ 0 → P ≡ []
 empty_length {P} e = go P e where
   go : (Q : Path) → length Q ≡ 0 → Q ≡ []
   go [] z = refl
@@ -82,4 +85,17 @@ root_level p level d s none own ep ed es = record {
       (subst (λ (g : Graph). Numbers (Direct p) ([] ∷ []) (HasEdge g)) (sym ed) (root_direct p d s none own));
   sups = subst (λ (l : List Path). Numbers (Sup p) l (HasEdge level.sups.items)) (sym ep)
       (subst (λ (g : Graph). Numbers (Sup p) ([] ∷ []) (HasEdge g)) (sym es) (root_sups p d s none own));
+}
+
+pub root_shaped : (level : Level) (d s : Vec ℕ Global) → d.items ≡ [] → s.items ≡ 0 ∷ []
+    → level.paths.items ≡ [] ∷ [] → level.direct.items ≡ d ∷ [] → level.sups.items ≡ s ∷ [] → IsShaped level
+root_shaped level d s none own ep ed es = record {
+  direct = ap length ed ∙ sym (ap length ep);
+  sups = ap length es ∙ sym (ap length ep);
+  direct_in = rw ed (All-cons (λ (row : Vec ℕ Global). All (λ (j : ℕ). j < length level.paths.items) row.items) d []
+      (rw none (All-nil _)) (All-nil _));
+  ascending = rw ed (All-cons (λ (row : Vec ℕ Global). IsStrictlyIncreasing row.items) d []
+      (rw none (λ k l. absurd (omega (arith, l)))) (All-nil _));
+  sups_in = rw es (All-cons (λ (row : Vec ℕ Global). All (λ (j : ℕ). j < length level.paths.items) row.items) s []
+      (rw own (All-cons (λ (j : ℕ). j < length level.paths.items) 0 [] (let l = ap length ep in omega (arith, l)) (All-nil _))) (All-nil _));
 }

@@ -1,9 +1,8 @@
 -- Paths as the code has them, and their numbers.
-use Rattle.std.proofs.Common.{◌≡◌, ◌<◌, ℕ, List, [], ◌∷◌, length, slice_get, Some, None, Option, arith, sym, ◌∙◌, ap, subst, refl, zero, suc, map, reverse, Contains, ◌↔◌, IsTrue, Bool}
-use Rattle.std.specs.declared.cmp.Ordering.TheVariants.{Less}
+use Rattle.std.proofs.Common.{◌≡◌, ◌<◌, ℕ, List, [], ◌∷◌, length, slice_get, Some, arith, sym, ◌∙◌, ap, subst, refl, zero, suc, map, reverse, Contains, ◌↔◌, IsTrue, Bool}
 use Rattle.std.proofs.lemmas.List.{reverse-reverse}
 use Rattle.std.proofs.lemmas.Option.{slice_get_read}
-use Rattle.jn_reach.specs.Each.{Each, none}
+use Rattle.jn_reach.specs.Each.{none}
 use Rattle.jn_reach.proofs.Eachs.{Each-at, Each-back}
 use Rattle.jn_reach.proofs.Searches.{same_some}
 use Rattle.jn_base.specs.declared.tree.Program.{Program}
@@ -13,7 +12,8 @@ use Rattle.jn_base.specs.Supers.{Sup}
 use Rattle.jn_base.specs.ClassOrder.{class_cmp, Before}
 use Rattle.jn_base.proofs.ClassOrders.{before_irreflexive, before_chain}
 use Rattle.jn_table.specs.Rows.{IsNumber, AreClasses, IsRow}
-use Rattle.jn_table.specs.Tables.{AreRows, IsTableOf, SaysRow, SaysSup, SaysBefore}
+use Rattle.jn_table.specs.Answers.{AreRows}
+use Rattle.jn_table.specs.Tables.{SaysRow, SaysSup, SaysBefore}
 use Rattle.jn_table.specs.declared.class.ClassId.{ClassId}
 use Rattle.jn_table.specs.declared.class.Row.{Row}
 use Rattle.jn_table.specs.declared.table.Table.{Table}

@@ -4,19 +4,37 @@ use Rattle.jn_reach.specs.Graph.{HasEdge}
 use Rattle.jn_reach.specs.Numbers.{Numbers, AreDistinct}
 use Rattle.jn_base.specs.declared.tree.Name.{Name}
 use Rattle.jn_base.specs.declared.tree.Program.{Program}
-use Rattle.jn_base.specs.Paths.{Path, Declared, Extends}
+use Rattle.jn_base.specs.declared.tree.Kind.{Kind}
+use Rattle.jn_base.specs.declared.tree.Decl.{Decl}
+use Rattle.jn_base.specs.declared.tree.Method.{Method}
+use Rattle.jn_base.specs.declared.tree.Field.{Field}
+use Rattle.jn_base.specs.Paths.{Path, StandsAt, Declared, Extends}
+use Rattle.jn_base.specs.Members.{MethodAt, FieldAt}
 use Rattle.jn_base.specs.Supers.{Direct, Sup, Member}
 use Rattle.jn_base.specs.Universe.{IsNamespace}
-use Rattle.jn_table.specs.Gather.{DeclaresIn, IsPart}
+use Rattle.jn_table.specs.Gather.{DeclaresIn, IsPart, OwnIn, KindIn}
 use Rattle.jn_table.specs.declared.entry.Entry.{Entry}
 use Rattle.jn_table.specs.declared.gather.Part.TheVariants as part
 use Rattle.jn_table.specs.declared.level.Child.{Child}
 use Rattle.jn_table.specs.declared.level.Level.{Level}
 
+-- a declaration at R is of that kind, has a method, a field, of that name
+abbrev pub KindAt : Program → Path → Kind → Type 0
+KindAt p R kind = (d : Decl) × StandsAt p R d × (d.kind ≡ kind)
+
+abbrev pub MethodNamed : Program → Path → Name → Type 0
+MethodNamed p R m = (x : Method) × MethodAt p R m x
+
+abbrev pub FieldNamed : Program → Path → Name → Type 0
+FieldNamed p R f = (x : Field) × FieldAt p R f x
+
 -- the entries are the program's declarations
 pub record IsFlat (p : Program) (es : List Entry) : Type 0 where
   pub declared : (P : Path) (C : Name) → DeclaresIn es P C ↔ Declared p (C ∷ P)
   pub extends : (P : Path) (C D : Name) → IsPart es P C part.Extends D ↔ Extends p (C ∷ P) D
+  pub kinds : (R : Path) (kind : Kind) → KindIn es R kind ↔ KindAt p R kind
+  pub methods : (R : Path) (m : Name) → OwnIn es R part.Methods m ↔ MethodNamed p R m
+  pub fields : (R : Path) (f : Name) → OwnIn es R part.Fields f ↔ FieldNamed p R f
 
 -- the paths of depth n, with the direct supers and the supers of each
 pub record IsLevel (p : Program) (n : ℕ) (level : Level) : Type 0 where

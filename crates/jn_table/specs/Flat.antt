@@ -27,6 +27,7 @@ pub data Under : List Decl → Path → Path → Decl → Type 0 where
 pub record EntryIs (entry : Entry) (P : Path) (d : Decl) : Type 0 where
   pub namespace : entry.namespace ≡ P
   pub name : entry.name ≡ d.name.name
+  pub path_is : entry.path ≡ d.name.name ∷ P
   pub kind : entry.kind ≡ d.kind
   pub extends : entry.extends ≡ map named_name d.extends
   pub methods_are : entry.methods ≡ map method_name (methods d.members)

@@ -1,6 +1,7 @@
 -- The names that declarations have.
 use Rattle.std.specs.Prelude.{◌≡◌, ◌↔◌, ◌⊎◌, ℕ, List, Contains, slice_get, Some, Any}
 use Rattle.jn_base.specs.declared.tree.Name.{Name}
+use Rattle.jn_base.specs.declared.tree.Kind.{Kind}
 use Rattle.jn_base.specs.Paths.{Path}
 use Rattle.jn_table.specs.declared.entry.Entry.{Entry}
 use Rattle.jn_table.specs.declared.gather.Part.{Part}
@@ -44,3 +45,10 @@ PartsAt es paths C part numbers D = Any (PartAt es paths C part D) numbers
 
 abbrev pub MembersAt : List Entry → List Path → List ℕ → Name → Type 0
 MembersAt es paths numbers D = Any (MemberAt es paths D) numbers
+
+-- a declaration at the path R has the name D in that part, is of that kind
+abbrev pub OwnIn : List Entry → Path → Part → Name → Type 0
+OwnIn es R part D = Any (λ e. (e.path ≡ R) × Contains (part_of part e) D) es
+
+abbrev pub KindIn : List Entry → Path → Kind → Type 0
+KindIn es R kind = Any (λ e. (e.path ≡ R) × (e.kind ≡ kind)) es

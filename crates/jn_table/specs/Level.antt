@@ -1,5 +1,6 @@
 -- One depth of the table, as lists.
 use Rattle.std.specs.Prelude.{◌≡◌, ◌<◌, ℕ, List, ◌∷◌, Contains, length, slice_get, Some, All, Any}
+use Rattle.std.specs.List.Sorted.{IsStrictlyIncreasing}
 use Rattle.std.specs.declared.vec.Vec.{Vec}
 use Rattle.std.specs.declared.alloc.Global.{Global}
 use Rattle.jn_reach.specs.Each.{Each}
@@ -46,6 +47,8 @@ pub record DirectRow (es : List Entry) (level : Level) (children : List Child) (
 pub record IsShaped (level : Level) : Type 0 where
   pub direct : length level.direct.items ≡ length level.paths.items
   pub sups : length level.sups.items ≡ length level.paths.items
+  pub direct_in : All (λ row. All (λ j. j < length level.paths.items) row.items) level.direct.items
+  pub ascending : All (λ row. IsStrictlyIncreasing row.items) level.direct.items
   pub sups_in : All (λ row. All (λ j. j < length level.paths.items) row.items) level.sups.items
 
 abbrev pub DirectRows : List Entry → Level → List Child → List Child → List (Vec ℕ Global) → Type 0

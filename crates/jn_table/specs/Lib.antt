@@ -1,9 +1,15 @@
+pub mod Ups
 pub mod Flat
 pub mod Gather
 pub mod Level
 pub mod Exact
 pub mod Children
 pub mod Order
-pub mod Depths
+pub mod Own
 pub mod Rows
+pub mod Nodes
+pub mod Depths
+pub mod Universes
+pub mod Answers
+pub mod Fills
 pub mod Tables

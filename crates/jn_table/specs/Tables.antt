@@ -1,30 +1,18 @@
--- Of which program a table is, and what its calls answer.
-use Rattle.std.specs.Prelude.{◌≡◌, ◌<◌, ◌↔◌, ℕ, List, Contains, map, length, slice_get, Some, Bool, IsTrue}
-use Rattle.std.specs.List.Sorted.{IsStrictlySortedBy}
-use Rattle.jn_reach.specs.Each.{Each}
+-- Of which program a table is, and what its calls say.
+use Rattle.std.specs.Prelude.{◌≡◌, ◌<◌, ◌↔◌, map, length, slice_get, Some, Bool, IsTrue}
 use Rattle.jn_base.specs.declared.tree.Program.{Program}
 use Rattle.jn_base.specs.declared.path.Path.{Path as ShownPath}
-use Rattle.jn_base.specs.Paths.{Path, shown}
+use Rattle.jn_base.specs.Paths.{Path}
 use Rattle.jn_base.specs.Supers.{Sup}
-use Rattle.jn_base.specs.Universe.{InUniverse}
-use Rattle.jn_base.specs.ClassOrder.{class_cmp, Before, IsFirst}
-use Rattle.jn_base.specs.TableRules.{IsOver, IsCycle, IsMixed, NoneIs}
+use Rattle.jn_base.specs.ClassOrder.{Before}
 use Rattle.jn_table.specs.Flat.{IsFlattened}
 use Rattle.jn_table.specs.Order.{IsOrderOf, entry_name}
 use Rattle.jn_table.specs.Rows.{IsNamed, IsNumber, IsRow}
+use Rattle.jn_table.specs.Answers.{AreRows, HasUniverse, UniversePasses, UniverseRefused}
 use Rattle.jn_table.specs.declared.class.ClassId.{ClassId}
 use Rattle.jn_table.specs.declared.class.Row.{Row}
 use Rattle.jn_table.specs.declared.fault.TableFault.{TableFault}
-use Rattle.jn_table.specs.declared.fault.TableFault.TheVariants as fault
 use Rattle.jn_table.specs.declared.table.Table.{Table}
-
--- paths of the universe with the row of each, each once, in class order
-pub record AreRows (p : Program) (known : List ShownPath) (rows : List Row) : Type 0 where
-  pub paths : List Path
-  pub shown_are : known ≡ map shown paths
-  pub universe : (R : Path) → Contains paths R → InUniverse p R
-  pub in_order : IsStrictlySortedBy (class_cmp p) paths
-  pub each : Each (IsRow p known) paths rows
 
 -- the table is one of the program p: it holds p's declarations, and each row that is filled is right
 pub record IsTableOf (p : Program) (t : Table) : Type 0 where
@@ -38,27 +26,10 @@ pub record IsTableOf (p : Program) (t : Table) : Type 0 where
 abbrev pub IsFilledAt : Table → ClassId → Type 0
 IsFilledAt t id = id.0 < length t.rows.items
 
--- each path of the universe has its number and its row
-pub record HasUniverse (p : Program) (known : List ShownPath) : Type 0 where
-  pub whole : (R : Path) → InUniverse p R → (id : ClassId) × IsNumber known id R
-
 -- a table of p in which the whole universe is filled
 pub record IsFilled (p : Program) (t : Table) : Type 0 where
   pub table : IsTableOf p t
   pub whole : HasUniverse p t.known.items
-
--- nothing of the universe is refused
-pub record UniversePasses (p : Program) : Type 0 where
-  pub within : NoneIs (IsOver p)
-  pub no_cycle : NoneIs (IsCycle p)
-  pub one_kind : NoneIs (IsMixed p)
-
--- why a universe is refused, in the order of the rules; want of memory is no refusal
-pub data UniverseRefused (p : Program) : TableFault → Type 0 where
-  too_many : {R : Path} → IsOver p R → UniverseRefused p (fault.TooMany (shown R))
-  cycle : {R : Path} → NoneIs (IsOver p) → IsFirst p (IsCycle p) R → UniverseRefused p (fault.Cycle (shown R))
-  two_kinds : {R : Path} → NoneIs (IsOver p) → NoneIs (IsCycle p) → IsFirst p (IsMixed p) R → UniverseRefused p (fault.Kind (shown R))
-  memory : UniverseRefused p fault.Memory
 
 -- the number stands for the path, which is given with the outermost name first
 abbrev pub IsPathOf : Table → ClassId → ShownPath → Type 0
@@ -78,3 +49,19 @@ SaysSup t a b told = (p : Program) (A B : Path) → IsTableOf p t → IsNumber t
 -- whether A comes before B in the class order
 abbrev pub SaysBefore : Table → ClassId → ClassId → Bool → Type 0
 SaysBefore t a b told = (p : Program) (A B : Path) → IsTableOf p t → IsNumber t.known.items a A → IsNumber t.known.items b B → IsTrue told ↔ Before p A B
+
+-- of whatever program it was, it still is
+abbrev pub StaysTable : Table → Table → Type 0
+StaysTable t u = (p : Program) → IsTableOf p t → IsTableOf p u
+
+-- the whole universe is filled, and nothing of it is refused
+pub record FillsUniverse (p : Program) (t : Table) : Type 0 where
+  pub filled : IsFilled p t
+  pub passes : UniversePasses p
+
+abbrev pub SaysFilled : Table → Table → Type 0
+SaysFilled t u = (p : Program) → IsTableOf p t → FillsUniverse p u
+
+-- why it isn't
+abbrev pub SaysRefused : Table → TableFault → Type 0
+SaysRefused t f = (p : Program) → IsTableOf p t → UniverseRefused p f

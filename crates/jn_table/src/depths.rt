@@ -1,29 +1,33 @@
 ghost use Rattle.std.specs.Prelude.{◌≡◌, ◌<◌, length, IfOk};
-ghost use Rattle.jn_table.specs.Depths.{IsOrdered, AreDepths, Answers};
+ghost use Rattle.jn_table.specs.Depths.{Answers, Fits};
 
 use crate::children::children;
 use crate::entry::Entry;
-use crate::level::{Level, next, root};
+use crate::level::{next, root};
+use crate::nodes::{Nodes, add_level};
 use crate::spot::Spot;
 use jn_base::tree::Name;
 use std::alloc::{AllocError, Global};
 
-/// The greatest number of paths, with the program itself as one more.
+/// The greatest number of paths, with one more that is too many.
 const ROOM: usize = 4_097;
 
-/// The depths of a universe, or one path more than there may be.
+/// The paths of a universe, or the first path, in class order, that is one too many.
 #[derive(Drop)]
 pub enum Found {
-    Whole(Vec<Level>),
+    Whole(Nodes),
     Over(Spot),
 }
 
-/// The depths of a program, from the program itself down to the last that has a path.
+/// The paths of a universe, depth by depth: each depth has the members of the one above it, up to the last that has any.
 pub fn depths(alloc: Global, entries: &[Entry], order: &[Name]) -> Result<Found, AllocError>
-    requires { IsOrdered entries.now order.now }
-    ensures { IfOk result (λ found. Answers entries.now found) }
+    ensures exact { IfOk result (λ found. Answers entries.now order.now found) }
+    ensures fits { IfOk result (λ found. Fits found) }
 {
-    let mut levels = Vec::new(alloc);
+    let mut nodes = Nodes {
+        paths: Vec::new(alloc),
+        direct: Vec::new(alloc),
+    };
     let mut level = root(alloc)?;
     let mut room = ROOM;
     loop {
@@ -34,11 +38,10 @@ pub fn depths(alloc: Global, entries: &[Entry], order: &[Name]) -> Result<Found,
             return Ok(Found::Over(over));
         }
         if members.is_empty() {
-            levels.push(level)?;
-            return Ok(Found::Whole(levels));
+            return Ok(Found::Whole(nodes));
         }
         let below = next(alloc, entries, &level, &members)?;
-        levels.push(level)?;
+        add_level(alloc, &mut nodes, &below)?;
         room -= members.len();
         level = below;
     }

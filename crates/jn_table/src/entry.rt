@@ -7,11 +7,12 @@ use jn_base::tree::{Decl, Kind, Member, Name, Named, Program};
 use sqlite_items::Items;
 use std::alloc::{AllocError, Global};
 
-/// A declaration without its body: the namespace that it stands in, and the names that it has.
+/// A declaration without its body: the namespace that it stands in, its path, and the names that it has.
 #[derive(Drop)]
 pub struct Entry {
     pub namespace: Spot,
     pub name: Name,
+    pub path: Spot,
     pub kind: Kind,
     pub extends: Items<Name>,
     pub methods: Items<Name>,
@@ -62,6 +63,7 @@ fn entry_of(alloc: Global, namespace: &Spot, decl: &Decl) -> Result<Entry, Alloc
     Ok(Entry {
         namespace: namespace.copy(alloc)?,
         name: decl.name.name,
+        path: namespace.down(alloc, decl.name.name)?,
         kind: decl.kind,
         extends: extended(alloc, decl.extends.as_slice())?,
         methods: method_names(alloc, decl.members.as_slice())?,

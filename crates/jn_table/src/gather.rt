@@ -28,7 +28,7 @@ pub fn has_name(names: &[Name], name: Name) -> bool
 }
 
 /// Those names of the declaration.
-fn names_of(entry: &Entry, part: Part) -> &[Name]
+pub fn names_of(entry: &Entry, part: Part) -> &[Name]
     ensures { result.now ≡ part_of part entry.now }
 {
     match part {
@@ -39,7 +39,7 @@ fn names_of(entry: &Entry, part: Part) -> &[Name]
 }
 
 /// Adds the names.
-fn add_names(all: &mut Vec<Name>, names: &[Name]) -> Result<(), AllocError>
+pub fn add_names(all: &mut Vec<Name>, names: &[Name]) -> Result<(), AllocError>
     ensures { OnOk result (Gains (Contains names.now) all.old.items all.new.items) }
 {
     for name in names {

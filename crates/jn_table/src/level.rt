@@ -116,6 +116,7 @@ pub fn next(
     requires shaped { IsShaped level.now }
     requires children { All (λ child. child.up < length level.now.paths.items) children.now }
     ensures shaped { IfOk result (λ below. IsShaped below) }
+    ensures paths { IfOk result (λ below. ChildPaths level.now.paths.items children.now below.paths.items) }
     ensures exact { IfOk result (λ below. IsNextOf entries.now level.now children.now below) }
 {
     let paths = child_paths(alloc, level, children)?;

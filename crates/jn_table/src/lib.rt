@@ -13,21 +13,22 @@ mod class;
 mod depths;
 mod entry;
 mod fault;
+mod fill;
 mod gather;
+mod judge;
 mod level;
 mod lookup;
+mod nodes;
 mod order;
+mod own;
+mod row;
 mod spot;
 mod table;
 mod universe;
 
 pub use class::{ClassId, Row, RowMember};
-pub use depths::Found;
 pub use fault::TableFault;
-pub use level::Level;
-pub use spot::Spot;
 pub use table::Table;
-pub use universe::universe_of;
 
 #[cfg(test)]
 mod tests;

@@ -1,4 +1,6 @@
-ghost use Rattle.std.specs.Prelude.{◌≡◌, ◌↔◌, [], ◌∷◌, reverse, IsTrue, IfOk, length};
+ghost use Rattle.std.specs.Prelude.{◌≡◌, ◌↔◌, [], ◌∷◌, ◌++◌, reverse, IsTrue, IfOk, IfSome, IfNone, length};
+ghost use Rattle.jn_base.specs.declared.tree.Name.{Name as AName};
+ghost use Rattle.jn_table.specs.Ups.{IsUnder};
 
 use jn_base::path::Path;
 use jn_base::tree::Name;
@@ -43,6 +45,21 @@ pub fn same(names: &[Name], others: &[Name]) -> bool
     true
 }
 
+/// The one name that the names have behind those of `up`, where they are these and one more.
+fn one_more(names: &[Name], up: &[Name]) -> Option<Name>
+    ensures some { IfSome result (λ C. names.now ≡ up.now ++ C ∷ []) }
+    ensures none { IfNone result ((C : AName) → names.now ≡ up.now ++ C ∷ [] → ⊥) }
+{
+    if names.is_empty() {
+        return None;
+    }
+    let last = names.len() - 1;
+    if same(&names[..last], up) {
+        return Some(names[last]);
+    }
+    None
+}
+
 impl Spot {
     /// The program itself, the namespace of the top-level names.
     pub fn root(alloc: Global) -> Spot
@@ -75,6 +92,24 @@ impl Spot {
         let mut names = Items::from_slice(alloc, self.names.as_slice())?;
         names.push(name)?;
         Ok(Spot { names })
+    }
+
+    /// The last name of the path, where `up` is the path without it.
+    pub fn under(&self, up: &Spot) -> Option<Name>
+        ensures some { IfSome result (λ C. self.now ≡ C ∷ up.now) }
+        ensures none { IfNone result ((C : AName) → self.now ≡ C ∷ up.now → ⊥) }
+    {
+        one_more(self.names.as_slice(), up.names.as_slice())
+    }
+
+    /// Whether `up` is the path without its last name.
+    pub fn is_under(&self, up: &Spot) -> bool
+        ensures { IsTrue result ↔ IsUnder self.now up.now }
+    {
+        match self.under(up) {
+            Some(_) => true,
+            None => false,
+        }
     }
 
     /// The path with the outermost name first.

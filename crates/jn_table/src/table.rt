@@ -1,7 +1,9 @@
-ghost use Rattle.std.specs.Prelude.{◌≡◌, ◌≤◌, [], length, IfOk, IfSome, IfNone};
+ghost use Rattle.std.specs.Prelude.{◌≡◌, ◌≤◌, [], length, IfOk, IfErr, IfSome, IfNone, OnOk, OnErr};
 
 use crate::class::{ClassId, Row};
 use crate::entry::{Entry, entries};
+use crate::fault::TableFault;
+use crate::fill::fill_all;
 use crate::lookup::{has_class, place_of};
 use crate::order::{copied, name_order};
 use jn_base::path::Path;
@@ -26,7 +28,7 @@ pub struct Table {
 
 impl Table {
     ghost use Rattle.jn_table.specs.Rows.{IsNamed};
-    ghost use Rattle.jn_table.specs.Tables.{IsTableOf, IsFilledAt, IsPathOf, HasNoNumber, SaysRow, SaysSup, SaysBefore};
+    ghost use Rattle.jn_table.specs.Tables.{IsTableOf, IsFilledAt, IsPathOf, HasNoNumber, StaysTable, SaysFilled, SaysRefused, SaysRow, SaysSup, SaysBefore};
 
     /// The table of a program, which knows no path yet. It holds the program's declarations.
     pub fn new(alloc: Global, p: &Program) -> Result<Table, AllocError>
@@ -45,6 +47,28 @@ impl Table {
             known: Vec::new(alloc),
             rows: Vec::new(alloc),
         })
+    }
+
+    /// Fills the rows of the whole universe.
+    ///
+    /// It is refused exactly where the universe has more than 4,096 paths, with the 4,097th in class order; then where a path is its own
+    /// strict super, and then where the supers of a path have both kinds, each with the first such path in class order.
+    /// After a refusal the table has what it had.
+    pub fn ask_all(&mut self) -> Result<(), TableFault>
+        ensures stays { StaysTable self.old self.new }
+        ensures ok { OnOk result (SaysFilled self.old self.new) }
+        ensures err { IfErr result (λ fault. SaysRefused self.old fault) }
+        ensures kept { OnErr result (self.new ≡ self.old) }
+    {
+        let all = fill_all(
+            self.alloc,
+            self.texts.as_slice(),
+            &self.entries,
+            &self.order,
+        )?;
+        self.known = all.known;
+        self.rows = all.rows;
+        Ok(())
     }
 
     /// The row of a filled number.

@@ -1,10 +1,8 @@
-use Rattle.jn_table.proofs.Orders.{ordered}
-use Rattle.jn_table.proofs.Universes.{universe_is}
+use Rattle.jn_table.proofs.Mixed.{universe_fits}
 use Rattle.jn_table.proofs.universe.universe_of.Goals as goal
 
-pub depths-requires : goal.depths-requires
-depths-requires c =
-    rw (c.deref-2.ensures.value, c.deref-3.ensures.value) (ordered _ _ _ (rw c.deref.ensures.value at c.in_ok-order.ensures))
-
-pub returns : goal.returns
-returns c = universe_is _ _ _ c.in_ok-entries.ensures (rw c.deref-2.ensures.value at c.in_ok-found.ensures)
+pub returns-clause-fits : goal.returns-clause-fits
+returns-clause-fits c =
+    universe_fits c.args.entries.now (record { nodes = c.args.nodes; sups = c.in_ok-sups.sups; own = c.in_ok-own.own }) c.requires
+    (rw c.deref.ensures.value at c.in_ok-sups.ensures.exact) (rw c.deref.ensures.value at c.in_ok-sups.ensures.within)
+    (rw c.deref-2.ensures.value at c.in_ok-own.ensures)

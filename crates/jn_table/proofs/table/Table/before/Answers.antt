@@ -1,4 +1,4 @@
-use Rattle.std.proofs.Common.{◌<◌, arith}
+use Rattle.std.proofs.Common.{arith}
 use Rattle.jn_table.proofs.Shown.{says_before}
 use Rattle.jn_table.proofs.table.Table.before.Goals as goal
 

@@ -1,0 +1,72 @@
+ghost use Rattle.std.specs.Prelude.{◌≡◌, ◌≤◌, IfOk, IfErr, length, map};
+ghost use Rattle.jn_base.specs.Paths.{shown};
+ghost use Rattle.jn_table.specs.Fills.{FillsAll, NodesAll, RefusesAll};
+ghost use Rattle.jn_table.specs.Nodes.{FitNodes};
+
+use crate::class::Row;
+use crate::depths::{Found, depths};
+use crate::entry::Entry;
+use crate::fault::TableFault;
+use crate::judge::judged;
+use crate::nodes::Nodes;
+use crate::row::rows_of;
+use crate::spot::Spot;
+use crate::universe::universe_of;
+use jn_base::path::Path;
+use jn_base::tree::{Name, Text};
+use std::alloc::{AllocError, Global};
+
+/// The paths of a universe, in class order, with their rows.
+#[derive(Drop)]
+pub struct Rows {
+    pub known: Vec<Path>,
+    pub rows: Vec<Row>,
+}
+
+/// The paths with the outermost name first.
+fn known_of(alloc: Global, paths: &[Spot]) -> Result<Vec<Path>, AllocError>
+    ensures { IfOk result (λ known. known.items ≡ map shown paths.now) }
+{
+    let mut known = Vec::new(alloc);
+    for path in paths {
+        let one = path.shown(alloc)?;
+        known.push(one)?;
+    }
+    Ok(known)
+}
+
+/// The paths of a universe, where they are not too many.
+fn nodes_of(alloc: Global, entries: &[Entry], order: &[Name]) -> Result<Nodes, TableFault>
+    ensures fits { IfOk result (λ nodes. FitNodes nodes) }
+    ensures ok { IfOk result (λ nodes. NodesAll entries.now order.now nodes) }
+    ensures err { IfErr result (λ fault. RefusesAll entries.now order.now fault) }
+{
+    let found = depths(alloc, entries, order)?;
+    match found {
+        Found::Whole(nodes) => Ok(nodes),
+        Found::Over(over) => {
+            let path = over.shown(alloc)?;
+            Err(TableFault::TooMany(path))
+        }
+    }
+}
+
+/// All paths of a universe with their rows, or why the universe is refused.
+pub fn fill_all(
+    alloc: Global,
+    texts: &[Text],
+    entries: &[Entry],
+    order: &[Name],
+) -> Result<Rows, TableFault>
+    ensures few { IfOk result (λ all. length all.known.items ≤ 4096) }
+    ensures paired { IfOk result (λ all. length all.rows.items ≡ length all.known.items) }
+    ensures ok { IfOk result (λ all. FillsAll texts.now entries.now order.now all.known.items all.rows.items) }
+    ensures err { IfErr result (λ fault. RefusesAll entries.now order.now fault) }
+{
+    let nodes = nodes_of(alloc, entries, order)?;
+    let universe = universe_of(alloc, entries, nodes)?;
+    judged(alloc, &universe)?;
+    let known = known_of(alloc, &universe.nodes.paths)?;
+    let rows = rows_of(alloc, texts, &universe)?;
+    Ok(Rows { known, rows })
+}

@@ -1,0 +1,107 @@
+ghost use Rattle.std.specs.Prelude.{◌≡◌, ◌<◌, ◌≤◌, All, IfOk, length, map};
+ghost use Rattle.jn_table.specs.Universes.{FitUniverse, KindBy, UpBy, MembersUpTo, class_id, RowOf, RowsOf};
+
+use crate::class::{ClassId, Row, RowMember};
+use crate::order::in_byte_order;
+use crate::own::{Own, gathered, some_flag};
+use crate::spot::Spot;
+use crate::universe::Universe;
+use jn_base::tree::{Kind, Text};
+use std::alloc::{AllocError, Global};
+
+/// The kind of the declarations at the paths of those numbers.
+fn kind_of(own: &Own, sups: &[usize]) -> Kind
+    requires { All (λ n. n < length own.now.classes.items) sups.now }
+    ensures { KindBy own.now sups.now result }
+{
+    if some_flag(&own.classes, sups) {
+        return Kind::Class;
+    }
+    Kind::Package
+}
+
+/// The number of the path without its last name.
+fn up_of(paths: &[Spot], path: &Spot) -> Option<ClassId>
+    requires { length paths.now ≤ 4096 }
+    ensures { UpBy paths.now path.now result }
+{
+    for (number, up) in paths.iter().enumerate() {
+        if path.is_under(up) {
+            return Some(ClassId(number as u16));
+        }
+    }
+    None
+}
+
+/// The numbers as those of a table.
+fn ids_of(alloc: Global, row: &[usize]) -> Result<Vec<ClassId>, AllocError>
+    requires { All (λ n. n < 4096) row.now }
+    ensures { IfOk result (λ ids. ids.items ≡ map class_id row.now) }
+{
+    let mut ids = Vec::new(alloc);
+    for number in row {
+        ids.push(ClassId(*number as u16))?;
+    }
+    Ok(ids)
+}
+
+/// The members of a path.
+fn members_of(alloc: Global, paths: &[Spot], up: &Spot) -> Result<Vec<RowMember>, AllocError>
+    requires { length paths.now ≤ 4096 }
+    ensures { IfOk result (λ all. MembersUpTo paths.now up.now (length paths.now) all.items) }
+{
+    let mut all = Vec::new(alloc);
+    for (number, path) in paths.iter().enumerate() {
+        if let Some(name) = path.under(up) {
+            let id = ClassId(number as u16);
+            all.push(RowMember { name, id })?;
+        }
+    }
+    Ok(all)
+}
+
+/// The row of the path of that number.
+fn row_of(
+    alloc: Global,
+    texts: &[Text],
+    universe: &Universe,
+    number: usize,
+) -> Result<Row, AllocError>
+    requires fits { FitUniverse universe.now }
+    requires number { number < length universe.now.nodes.paths.items }
+    ensures { IfOk result (λ row. RowOf texts.now universe.now number row) }
+{
+    let path = &universe.nodes.paths[number];
+    let above = &universe.sups[number];
+    let method_names = gathered(alloc, &universe.own.methods, above)?;
+    let field_names = gathered(alloc, &universe.own.fields, above)?;
+    let shown = path.shown(alloc)?;
+    let direct = ids_of(alloc, &universe.nodes.direct[number])?;
+    let sups = ids_of(alloc, above)?;
+    let members = members_of(alloc, &universe.nodes.paths, path)?;
+    let methods = in_byte_order(alloc, texts, &method_names)?;
+    let fields = in_byte_order(alloc, texts, &field_names)?;
+    Ok(Row {
+        path: shown,
+        kind: kind_of(&universe.own, above),
+        up: up_of(&universe.nodes.paths, path),
+        direct,
+        sups,
+        members,
+        methods,
+        fields,
+    })
+}
+
+/// The rows of all paths.
+pub fn rows_of(alloc: Global, texts: &[Text], universe: &Universe) -> Result<Vec<Row>, AllocError>
+    requires fits { FitUniverse universe.now }
+    ensures { IfOk result (λ rows. RowsOf texts.now universe.now (length universe.now.nodes.paths.items) rows.items) }
+{
+    let mut rows = Vec::new(alloc);
+    for number in 0..universe.nodes.paths.len() {
+        let row = row_of(alloc, texts, universe, number)?;
+        rows.push(row)?;
+    }
+    Ok(rows)
+}
