@@ -6,3 +6,4 @@ pub mod Reading
 pub mod Running
 pub mod TwiceEquations
 pub mod TwiceSteps
+pub mod Spelled
