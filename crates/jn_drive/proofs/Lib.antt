@@ -7,3 +7,4 @@ pub mod Running
 pub mod TwiceEquations
 pub mod TwiceSteps
 pub mod Spelled
+pub mod Housing

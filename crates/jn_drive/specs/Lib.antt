@@ -1,6 +1,7 @@
 pub mod Answer
 pub mod Code
 pub mod First
+pub mod Homes
 pub mod Job
 pub mod Machine
 pub mod Meaning

@@ -3,6 +3,7 @@
 
 mod code;
 mod halt;
+mod homes;
 mod job;
 mod machine;
 mod plain;
