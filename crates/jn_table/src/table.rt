@@ -31,9 +31,11 @@ impl Table {
     ghost use Rattle.jn_table.specs.Tables.{IsTableOf, IsFilledAt, IsPathOf, HasNoNumber, StaysTable, SaysFilled, SaysRefused, SaysRow, SaysSup, SaysBefore};
 
     /// The table of a program, which knows no path yet. It holds the program's declarations.
+    ///
+    /// `IsNamed` says that equal names of the program have one number and that it has each name of a declaration, as each
+    /// program has that a source spells.
     pub fn new(alloc: Global, p: &Program) -> Result<Table, AllocError>
-        requires { IsNamed p.now }
-        ensures table { IfOk result (λ table. IsTableOf p.now table) }
+        ensures table { IfOk result (λ table. IsNamed p.now → IsTableOf p.now table) }
         ensures unknown { IfOk result (λ table. table.known.items ≡ []) }
     {
         let entries = entries(alloc, p)?;

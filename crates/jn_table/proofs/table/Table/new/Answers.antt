@@ -3,8 +3,8 @@ use Rattle.jn_table.proofs.Shown.{no_rows}
 use Rattle.jn_table.proofs.table.Table.new.Goals as goal
 
 pub returns-clause-table : goal.returns-clause-table
-returns-clause-table c = record {
-  named = c.requires;
+returns-clause-table c named = record {
+  named = named;
   texts = c.in_ok-texts.ensures ∙ c.as_slice-2.ensures;
   entries = c.in_ok-entries.ensures;
   order = rw (← c.as_slice.ensures, ← c.deref.ensures.value) c.in_ok-order.ensures;
