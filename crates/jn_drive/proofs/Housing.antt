@@ -119,6 +119,32 @@ nowhere_at p ds names [] d of same h none at home = omega (arith, h)
 nowhere_at p ds names (x ∷ xs) d of same h none at home =
     nowhere_here p x xs (λ e c is. none e (subst (λ (l : List Decl). Contains l e) (sym of) c) is) at (subst (λ (l : List Name). IsHome p (reverse l) at) (sym same) home)
 
+-- ---- declarations
+
+pub undeclared_here : (p : Program) → duplicates p ≡ [] → (R : Path) (d : Decl) (x : Name) (left : List Name) → OnWay p R d (x ∷ left)
+    → ((e : Decl) → Contains (nested d.members) e → e.name.name ≡ x → ⊥) → Declared p R → ⊥
+undeclared_here p once R d x left w none declared =
+    none_longer p (reverse left) x w.passed (not_nested p once w.passed d w.stands x none) 0 (omega arith)
+    (subst (λ (Q : Path). Declared p Q) (w.whole ∙ reverse_first x left w.passed) declared)
+
+pub declared_here : (p : Program) (R : Path) (d : Decl) (left : List Name) → left ≡ [] → OnWay p R d left → StandsAt p R d
+declared_here p R d left e w = subst (λ (Q : Path). StandsAt p Q d) (sym (w.whole ∙ ap (λ (l : List Name). reverse l ++ w.passed) e)) w.stands
+
+undeclared_top : (p : Program) (x : Name) (inner : List Name) → ((e : Decl) → Contains p.decls e → e.name.name ≡ x → ⊥) → Declared p (reverse (x ∷ inner)) → ⊥
+undeclared_top p x inner none declared =
+    none_longer p (reverse inner) x [] (not_top p x none) 0 (omega arith)
+    (subst (λ (Q : Path). Declared p Q) (sym (append-nil (reverse (x ∷ inner))) ∙ reverse_first x inner []) declared)
+
+pub undeclared_at : (p : Program) (ds : List Decl) (names ns : List Name) (d : Name) → ds ≡ p.decls → ns ≡ names → 1 ≤ length ns
+    → ((e : Decl) → Contains ds e → e.name.name ≡ get_or ns 0 d → ⊥) → Declared p (reverse names) → ⊥
+undeclared_at p ds names [] d of same h none declared = omega (arith, h)
+undeclared_at p ds names (x ∷ xs) d of same h none declared =
+    undeclared_top p x xs (λ e c is. none e (subst (λ (l : List Decl). Contains l e) (sym of) c) is) (subst (λ (l : List Name). Declared p (reverse l)) (sym same) declared)
+
+pub program_undeclared : (p : Program) (names : List Name) → length names ≡ 0 → Declared p (reverse names) → ⊥
+program_undeclared p [] e declared = declared.stands
+program_undeclared p (x ∷ xs) e declared = omega (arith, e)
+
 -- ---- the searches
 
 pub other_number : (x y : Name) → (x.0 ≡ y.0 → ⊥) → x ≡ y → ⊥

@@ -1,10 +1,13 @@
 -- The bytes of a file have one reply by each job, and the front of a file that was read is answered as the file is.
-use Rattle.std.proofs.Common.{◌≡◌, ◌∙◌, ℕ, ◌≤◌, ◌<◌, ◌+◌, ◌⊎◌, inl, inr, List, ◌++◌, length, sym, ap, subst, refl, append-nil, length-append, Ok, Err, None, arith, Bool, nat_lt, true, false}
+use Rattle.std.proofs.Common.{◌≡◌, ◌∙◌, ℕ, ◌≤◌, ◌<◌, ◌+◌, ◌⊎◌, inl, inr, List, [], ◌++◌, length, sym, ap, subst, refl, append-nil, length-append, Ok, Err, None, Some, arith, Bool, nat_lt, true, false}
 use Rattle.std.proofs.lemmas.Bool.{ltb-true, ltb-false}
 use Rattle.std.specs.declared.option.Option.{Option}
 use Rattle.jn_base.specs.declared.tree.Program.{Program}
 use Rattle.jn_base.specs.declared.refusal.Refusal.{Refusal}
 use Rattle.jn_base.specs.Spelling.{IsTextOf, IsTextRefused, greatest_source}
+use Rattle.jn_base.specs.TableRules.{DeclarationsRefuse, DeclarationsPass}
+use Rattle.jn_base.proofs.TableLaws.{declarations_refused_or_passed, one_declarations_refusal}
+use Rattle.jn_table.specs.Rows.{IsNamed}
 use Rattle.jn_io.specs.Told.{Files}
 use Rattle.jn_words.specs.Line.{line_of}
 use Rattle.jn_parser.specs.declared.fault.ParseFault.{ParseFault}
@@ -19,20 +22,26 @@ use Rattle.jn_drive.specs.Meaning.{output_of}
 use Rattle.jn_drive.specs.Plain.{IsPlain}
 use Rattle.jn_drive.specs.Reply.{Reply, TreeReply, JobReply, refused_reply, output_reply}
 use Rattle.jn_drive.specs.Seen.{IsSource}
+use Rattle.jn_drive.proofs.Spelled.{spelled_is_named}
 use Rattle.jn_drive.specs.Answer.{Answer, IsFrontOf, Judges, Answers, AnswersTree, IsOnlyReply, IsRefusedBy, IsOfFault, IsNotTaken, too_long_refusal, reply_of}
 
 -- A tree has one reply.
-tree_once : (p : Program) (kind : JobKind) (a b : Reply) → TreeReply p kind a → TreeReply p kind b → a ≡ b
-tree_once p kind a b TreeReply.shown TreeReply.shown = refl
-tree_once p kind a b (TreeReply.ran is) (TreeReply.ran is') = refl
-tree_once p kind a b (TreeReply.ran is) (TreeReply.not_taken not) = absurd (not is)
-tree_once p kind a b (TreeReply.not_taken not) (TreeReply.ran is) = absurd (not is)
-tree_once p kind a b (TreeReply.not_taken not) (TreeReply.not_taken not') = refl
+tree_once : (p : Program) → IsNamed p → (kind : JobKind) (a b : Reply) → TreeReply p kind a → TreeReply p kind b → a ≡ b
+tree_once p named kind a b TreeReply.shown TreeReply.shown = refl
+tree_once p named kind a b (TreeReply.ran is) (TreeReply.ran is') = refl
+tree_once p named kind a b (TreeReply.ran is) (TreeReply.not_taken not) = absurd (not is)
+tree_once p named kind a b (TreeReply.not_taken not) (TreeReply.ran is) = absurd (not is)
+tree_once p named kind a b (TreeReply.not_taken not) (TreeReply.not_taken not') = refl
+tree_once p named kind a b (TreeReply.passed is) (TreeReply.passed is') = refl
+tree_once p named kind a b (TreeReply.passed is) (TreeReply.not_passed r by) = absurd (declarations_refused_or_passed p r by is)
+tree_once p named kind a b (TreeReply.not_passed r by) (TreeReply.passed is) = absurd (declarations_refused_or_passed p r by is)
+tree_once p named kind a b (TreeReply.not_passed r by) (TreeReply.not_passed s by') =
+    ap (λ (x : Refusal). refused_reply (line_of (Some p) x)) (one_declarations_refusal p named.distinct named.paths r s by by')
 
 by_kind : (p : Program) (known kind : JobKind) (r : Reply) → kind ≡ known → TreeReply p known r → TreeReply p kind r
 by_kind p known kind r is tree = subst (λ (k : JobKind). TreeReply p k r) (sym is) tree
 
--- The three replies to a tree.
+-- The replies to a tree.
 pub tree_shown : (p : Program) (kind : JobKind) (output : List ℕ) → kind ≡ kinds.Show → output ≡ program_text p → TreeReply p kind (output_reply output)
 tree_shown p kind output k o = by_kind p kinds.Show kind (output_reply output) k (subst (λ (o' : List ℕ). TreeReply p kinds.Show (output_reply o')) (sym o) TreeReply.shown)
 
@@ -44,10 +53,22 @@ tree_not_taken p kind (halt.Refused line) k not is = by_kind p kinds.Run kind (r
 tree_not_taken p kind halt.Unread k not is = absurd is
 tree_not_taken p kind halt.Memory k not is = is
 
+pub tree_checked : (p : Program) (kind : JobKind) (a : Answer) → kind ≡ kinds.Check → AnswersTree p kinds.Check a → AnswersTree p kind a
+tree_checked p kind a k is = subst (λ (j : JobKind). AnswersTree p j a) (sym k) is
+
+pub tree_passed : (p : Program) (output : List ℕ) → output ≡ [] → DeclarationsPass p → TreeReply p kinds.Check (output_reply output)
+tree_passed p output e is = subst (λ (o : List ℕ). TreeReply p kinds.Check (output_reply o)) (sym e) (TreeReply.passed is)
+
+pub tree_not_passed : (p : Program) (r : Refusal) (h : Halt) → DeclarationsRefuse p r → IsRefusedBy (Some p) r h → AnswersTree p kinds.Check (Err h)
+tree_not_passed p r (halt.Refused line) by is = subst (λ (l : List ℕ). TreeReply p kinds.Check (refused_reply l)) (sym is) (TreeReply.not_passed r by)
+tree_not_passed p r halt.Unread by is = absurd is
+tree_not_passed p r halt.Memory by is = is
+
 -- The reply to the bytes that spell a program is that to it.
 spelled_once : (kind : JobKind) (bytes : List ℕ) (p : Program) → IsTextOf p bytes → ((q : Program) → IsTextOf q bytes → p ≡ q) → (a b : Reply) → TreeReply p kind a → JobReply kind bytes b → a ≡ b
 spelled_once kind bytes p is only a b tree (JobReply.refused r by e) = absurd (is.not_refused r by)
-spelled_once kind bytes p is only a b tree (JobReply.to_tree q is' tree') = tree_once p kind a b tree (subst (λ (t : Program). TreeReply t kind b) (sym (only q is')) tree')
+spelled_once kind bytes p is only a b tree (JobReply.to_tree q is' tree') =
+    tree_once p (spelled_is_named p bytes is.spelled) kind a b tree (subst (λ (t : Program). TreeReply t kind b) (sym (only q is')) tree')
 
 pub spelled : (kind : JobKind) (bytes : List ℕ) (p : Program) → IsTextOf p bytes → ((q : Program) → IsTextOf q bytes → p ≡ q) → (a : Answer) → AnswersTree p kind a → Judges kind bytes a
 spelled kind bytes p is only (Ok output) tree = record { is = JobReply.to_tree p is tree; only = λ other by. spelled_once kind bytes p is only _ other tree by }
@@ -60,7 +81,7 @@ refused_once : (kind : JobKind) (bytes : List ℕ) (r : Refusal) → IsTextRefus
 refused_once kind bytes r by only b (JobReply.refused s by' e) = ap (λ (x : Refusal). refused_reply (line_of None x)) (only s by') ∙ sym e
 refused_once kind bytes r by only b (JobReply.to_tree p is tree) = absurd (is.not_refused r by)
 
-pub refused_only : (kind : JobKind) (bytes : List ℕ) (r : Refusal) (h : Halt) → IsRefusedBy r h → IsTextRefused bytes r → ((s : Refusal) → IsTextRefused bytes s → r ≡ s) → Judges kind bytes (Err h)
+pub refused_only : (kind : JobKind) (bytes : List ℕ) (r : Refusal) (h : Halt) → IsRefusedBy None r h → IsTextRefused bytes r → ((s : Refusal) → IsTextRefused bytes s → r ≡ s) → Judges kind bytes (Err h)
 refused_only kind bytes r (halt.Refused line) is by only = subst (λ (l : List ℕ). Judges kind bytes (Err (halt.Refused l))) (sym is)
     (record { is = JobReply.refused r by refl; only = refused_once kind bytes r by only })
 refused_only kind bytes r halt.Unread is by only = absurd is
@@ -76,7 +97,7 @@ long_only bytes long s (IsTextRefused.too_long is) = refl
 long_only bytes long s (IsTextRefused.not_utf8 short is) = absurd (omega arith)
 long_only bytes long s (IsTextRefused.word_refused names texts short are first) = absurd (omega arith)
 
-pub long_judged : (kind : JobKind) (bytes : List ℕ) → greatest_source < length bytes → (h : Halt) → IsRefusedBy too_long_refusal h → Judges kind bytes (Err h)
+pub long_judged : (kind : JobKind) (bytes : List ℕ) → greatest_source < length bytes → (h : Halt) → IsRefusedBy None too_long_refusal h → Judges kind bytes (Err h)
 long_judged kind bytes long h is = refused_only kind bytes too_long_refusal h is (IsTextRefused.too_long long) (long_only bytes long)
 
 -- ---- the front of a file

@@ -8,3 +8,5 @@ pub mod TwiceEquations
 pub mod TwiceSteps
 pub mod Spelled
 pub mod Housing
+pub mod Unknowns
+pub mod Checking

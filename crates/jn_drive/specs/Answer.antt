@@ -51,15 +51,15 @@ AnswersTree p kind (Err halt.Memory) = ⊤
 abbrev pub too_long_refusal : Refusal
 too_long_refusal = refusal E02 (record { line = 1; column = 1 }) None
 
--- The source is refused with the line of this refusal, or memory ran out.
-abbrev pub IsRefusedBy : Refusal → Halt → Type 0
-IsRefusedBy r (halt.Refused line) = line ≡ line_of None r
-IsRefusedBy r halt.Unread = ⊥
-IsRefusedBy r halt.Memory = ⊤
+-- The source is refused with the line of this refusal, or memory ran out. Of a program the line tells names.
+abbrev pub IsRefusedBy : Option Program → Refusal → Halt → Type 0
+IsRefusedBy p r (halt.Refused line) = line ≡ line_of p r
+IsRefusedBy p r halt.Unread = ⊥
+IsRefusedBy p r halt.Memory = ⊤
 
 -- What the parser's fault comes to.
 abbrev pub IsOfFault : ParseFault → Halt → Type 0
-IsOfFault (parse_fault.Refused r) h = IsRefusedBy r h
+IsOfFault (parse_fault.Refused r) h = IsRefusedBy None r h
 IsOfFault parse_fault.Memory h = h ≡ halt.Memory
 
 -- It is refused as a tree that isn't taken yet, or memory ran out.

@@ -4,7 +4,7 @@ use Rattle.jn_base.specs.declared.tree.Name.{Name}
 use Rattle.jn_base.specs.declared.tree.Place.{Place}
 use Rattle.jn_base.specs.declared.tree.Program.{Program}
 use Rattle.jn_base.specs.declared.tree.Decl.{Decl}
-use Rattle.jn_base.specs.Paths.{Path, StandsAt}
+use Rattle.jn_base.specs.Paths.{Path, StandsAt, Declared}
 use Rattle.jn_base.specs.Members.{IsHome}
 
 -- a declaration of this name, or none where the list has none
@@ -23,3 +23,8 @@ pub record OnWay (p : Program) (R : Path) (d : Decl) (left : List Name) : Type 0
 abbrev pub HomeIs : Program → Path → Option Place → Type 0
 HomeIs p R (Some at) = IsHome p R at
 HomeIs p R None = (at : Place) → IsHome p R at → ⊥
+
+-- the declaration at a path, or none where it isn't declared
+abbrev pub DeclIs : Program → Path → Option Decl → Type 0
+DeclIs p R (Some d) = StandsAt p R d
+DeclIs p R None = Declared p R → ⊥

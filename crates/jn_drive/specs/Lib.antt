@@ -1,4 +1,5 @@
 pub mod Answer
+pub mod Check
 pub mod Code
 pub mod First
 pub mod Homes
@@ -9,4 +10,5 @@ pub mod Plain
 pub mod Reply
 pub mod Seen
 pub mod Status
+pub mod Unknown
 pub mod Words

@@ -3,6 +3,7 @@ use Rattle.std.specs.Prelude.{◌≡◌, ℕ, List, [], codes, Option, Some, Non
 use Rattle.jn_base.specs.declared.tree.Program.{Program}
 use Rattle.jn_base.specs.declared.refusal.Refusal.{Refusal}
 use Rattle.jn_base.specs.Spelling.{IsTextOf, IsTextRefused}
+use Rattle.jn_base.specs.TableRules.{DeclarationsRefuse, DeclarationsPass}
 use Rattle.jn_printer.specs.DeclText.{program_text}
 use Rattle.jn_words.specs.Line.{line_of}
 use Rattle.jn_drive.specs.declared.words.JobKind.{JobKind}
@@ -43,11 +44,14 @@ abbrev pub output_reply : List ℕ → Reply
 output_reply output = record { output = output; line = []; status = statuses.Done }
 
 -- The reply of a job to the program that the bytes of its file spell: `show` puts its canonical text; `run` runs a program
--- of the plain form, and puts what it prints.
+-- of the plain form, and puts what it prints; `check` puts nothing where the declarations pass, and else tells the line of
+-- their refusal, which names classes and members of the program.
 pub data TreeReply (p : Program) : JobKind → Reply → Type 0 where
   shown : TreeReply p kinds.Show (output_reply (program_text p))
   ran : IsPlain p → TreeReply p kinds.Run (output_reply (output_of p))
   not_taken : (IsPlain p → ⊥) → TreeReply p kinds.Run not_taken_reply
+  passed : DeclarationsPass p → TreeReply p kinds.Check (output_reply [])
+  not_passed : (r : Refusal) → DeclarationsRefuse p r → TreeReply p kinds.Check (refused_reply (line_of (Some p) r))
 
 -- The reply of a job to the bytes of its file. What the first three steps of the verdict refuse is refused, by each job
 -- with the same line.

@@ -12,7 +12,8 @@ names_file word = not (starts_with nat_eq word (codes "-")) || bytes_eq word (co
 -- The word of a job.
 abbrev pub kind_of : List ℕ → Option JobKind
 kind_of word = if bytes_eq word (codes "run") then Some kinds.Run
-    else (if bytes_eq word (codes "show") then Some kinds.Show else None)
+    else (if bytes_eq word (codes "show") then Some kinds.Show
+    else (if bytes_eq word (codes "check") then Some kinds.Check else None))
 
 -- A job, and the file that it is done on.
 abbrev pub Job : Type 0

@@ -1,10 +1,10 @@
-//! Homes: where a path of the universe stands in the text.
+//! Homes: where a path of the universe stands in the text, and the declaration at a declared path.
 
 ghost use Rattle.std.specs.Prelude.{◌≡◌, [], ◌∷◌, reverse, option_copied};
 ghost use Rattle.jn_base.specs.Paths.{nested};
 ghost use Rattle.jn_base.specs.Duplicates.{duplicates};
 ghost use Rattle.jn_base.specs.Members.{IsHome};
-ghost use Rattle.jn_drive.specs.Homes.{Finds, HomeIs, OnWay};
+ghost use Rattle.jn_drive.specs.Homes.{Finds, HomeIs, DeclIs, OnWay};
 
 use jn_base::path::Path;
 use jn_base::tree::{Decl, Member, Name, Place, Program};
@@ -40,6 +40,43 @@ fn go_down(p: &Program, path: &Path, top: &Decl, left: &[Name]) -> Place
         }
     }
     decl.name.at
+}
+
+/// The declaration at a path. A path that isn't declared has none.
+///
+/// No name stands twice in the program, so that a path has one declaration at most.
+pub fn decl_at<'a>(p: &'a Program, path: &Path) -> Option<&'a Decl>
+    requires { duplicates p.now ≡ [] }
+    ensures { DeclIs p.now (reverse path.now.names) (option_copied result) }
+{
+    match path.names.as_slice() {
+        [] => None,
+        [top, inner @ ..] => match find_decl(p.decls.as_slice(), *top) {
+            Some(decl) => inner_at(p, path, decl, inner),
+            None => None,
+        },
+    }
+}
+
+/// From the declaration of a front of the path by all the names that are left.
+fn inner_at<'a>(
+    p: &'a Program,
+    path: &Path,
+    top: &'a Decl,
+    left: &[Name],
+) -> Option<&'a Decl>
+    requires once { duplicates p.now ≡ [] }
+    requires way { OnWay p.now (reverse path.now.names) top.now left.now }
+    ensures { DeclIs p.now (reverse path.now.names) (option_copied result) }
+{
+    let mut decl = top;
+    for name in left {
+        match find_inner(decl.members.as_slice(), *name) {
+            Some(next) => decl = next,
+            None => return None,
+        }
+    }
+    Some(decl)
 }
 
 /// The first declaration of this name.

@@ -1,8 +1,11 @@
-ghost use Rattle.std.specs.Prelude.{◌≡◌, ◌≤◌, IfOk};
+ghost use Rattle.std.specs.Prelude.{◌≡◌, ◌≤◌, IfOk, None, option_copied};
+ghost use Rattle.jn_table.specs.Rows.{IsNamed};
+ghost use Rattle.jn_drive.specs.declared.words.JobKind.TheVariants.{Check};
 ghost use Rattle.jn_drive.specs.Meaning.{output_of};
 ghost use Rattle.jn_drive.specs.Answer.{AnswersTree, IsRefusedBy, IsOfFault, IsNotTaken, Judges, Answers, too_long_refusal};
 ghost use Rattle.jn_drive.specs.Job.{Does};
 
+use crate::check::{CheckFault, check_declarations};
 use crate::code::code_of;
 use crate::halt::Halt;
 use crate::machine::run_code;
@@ -47,7 +50,7 @@ fn judge(alloc: Global, kind: JobKind, source: &[u8]) -> Result<Items<u8>, Halt>
     ensures { Judges kind source.now result }
 {
     if source.len() > LIMIT {
-        return Err(refused(alloc, &too_long()));
+        return Err(refused(alloc, None, &too_long()));
     }
     match parse(alloc, source) {
         Ok(program) => answer_tree(alloc, kind, &program),
@@ -60,7 +63,7 @@ fn unparsed(alloc: Global, fault: &ParseFault) -> Halt
     ensures { IsOfFault fault.now result }
 {
     match fault {
-        ParseFault::Refused(refusal) => refused(alloc, refusal),
+        ParseFault::Refused(refusal) => refused(alloc, None, refusal),
         ParseFault::Memory => Halt::Memory,
     }
 }
@@ -78,11 +81,11 @@ fn too_long() -> Refusal
     }
 }
 
-/// A refusal of the text, with its line.
-fn refused(alloc: Global, refusal: &Refusal) -> Halt
-    ensures { IsRefusedBy refusal.now result }
+/// A refusal of a source, with its line. Where there is a tree, the line tells its names.
+fn refused(alloc: Global, program: Option<&Program>, refusal: &Refusal) -> Halt
+    ensures { IsRefusedBy (option_copied program.entry) refusal.now result }
 {
-    match refusal_line(alloc, None, refusal) {
+    match refusal_line(alloc, program, refusal) {
         Ok(line) => Halt::Refused(Items::from_vec(line)),
         Err(_) => Halt::Memory,
     }
@@ -90,12 +93,26 @@ fn refused(alloc: Global, refusal: &Refusal) -> Halt
 
 /// What a tree comes to.
 fn answer_tree(alloc: Global, kind: JobKind, program: &Program) -> Result<Items<u8>, Halt>
+    requires { IsNamed program.now }
     ensures { AnswersTree program.now kind result }
 {
     match kind {
         JobKind::Show => Ok(Items::from_vec(print_program(alloc, program)?)),
         JobKind::Run if is_plain(program) => Ok(output(alloc, program)?),
         JobKind::Run => Err(not_taken(alloc)),
+        JobKind::Check => checked(alloc, program),
+    }
+}
+
+/// What the declarations of a tree come to: nothing is put where they pass.
+fn checked(alloc: Global, program: &Program) -> Result<Items<u8>, Halt>
+    requires { IsNamed program.now }
+    ensures { AnswersTree program.now Check result }
+{
+    match check_declarations(alloc, program) {
+        Ok(()) => Ok(Items::new(alloc)),
+        Err(CheckFault::Refused(refusal)) => Err(refused(alloc, Some(program), &refusal)),
+        Err(CheckFault::Memory) => Err(Halt::Memory),
     }
 }
 

@@ -1,6 +1,7 @@
 //! The top call: what `jandc` does with its words, its files and its outputs.
 #![tactic(auto)]
 
+mod check;
 mod code;
 mod halt;
 mod homes;
@@ -13,6 +14,7 @@ mod status;
 #[cfg(test)]
 mod tests;
 mod twice;
+mod unknown;
 mod words;
 
 ghost use Rattle.std.specs.Prelude.{◌≡◌, map, string_bytes, None};
@@ -27,8 +29,9 @@ pub use status::Status;
 use std::alloc::Global;
 
 /// Does the job that the words are: `show FILE` puts the canonical text of the program that the file
-/// spells on `out`, `run FILE` runs it and puts what it prints. A source that spells none is refused by
-/// a line on `err`. All other words are answered by the usage line.
+/// spells on `out`, `run FILE` runs it and puts what it prints, and `check FILE` puts nothing. A source that
+/// spells none is refused by a line on `err`, and by `check` one whose declarations break a rule. All other
+/// words are answered by the usage line.
 ///
 /// `DoesJob` in specs/Job.antt says for each status when it comes, and what the files and the outputs
 /// then are.

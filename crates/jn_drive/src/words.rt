@@ -8,6 +8,8 @@ pub enum JobKind {
     Show,
     /// Runs a program.
     Run,
+    /// Tells what is refused of a program.
+    Check,
 }
 
 /// The job that the words are, if they are one.
@@ -45,6 +47,8 @@ fn kind_of(word: &str) -> Option<JobKind>
         Some(JobKind::Run)
     } else if word == "show" {
         Some(JobKind::Show)
+    } else if word == "check" {
+        Some(JobKind::Check)
     } else {
         None
     }

@@ -1,5 +1,5 @@
 use Rattle.std.proofs.Common.{◌≡◌, ◌∙◌, rules}
-use Rattle.jn_drive.proofs.Judging.{tree_shown, tree_ran, tree_not_taken}
+use Rattle.jn_drive.proofs.Judging.{tree_shown, tree_ran, tree_not_taken, tree_checked}
 use Rattle.jn_drive.proofs.job.answer_tree.Goals as goal
 
 pub returns-in_ok-print_program-in-Show : goal.returns-in_ok-print_program-in-Show
@@ -10,3 +10,6 @@ returns-in_ok-output-in-Run c = tree_ran _ _ _ c.in-Run.is (search rules) c.in_o
 
 pub returns-in-Run-2 : goal.returns-in-Run-2
 returns-in-Run-2 c = tree_not_taken _ _ _ c.in-Run-2.is (search rules) c.not_taken.ensures
+
+pub returns-in-Check : goal.returns-in-Check
+returns-in-Check c = tree_checked _ _ _ c.in-Check.is c.checked.ensures
