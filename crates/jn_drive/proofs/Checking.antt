@@ -125,3 +125,10 @@ pub passed_by_all : {T : Type 0} (p : Program) → (a : Result T CheckFault) →
 passed_by_all p (Ok x) refused is = tt
 passed_by_all p (Err (Refused s)) refused is = declarations_refused_or_passed p s refused is
 passed_by_all p (Err Memory) refused is = tt
+
+pub cause_is : {T : Type 0} (p : Program) (a : Result T CheckFault) (f : CheckFault) (r : Refusal) → IfErr a (λ f. IsCauseOf p f) → a ≡ Err f → f ≡ Refused r → DeclarationsRefuse p r
+cause_is {T = T} p a f r is e same =
+    subst (λ (g : CheckFault). IsCauseOf p g) same (by_error a f e is) where
+  by_error : (b : Result T CheckFault) (g : CheckFault) → b ≡ Err g → IfErr b (λ h. IsCauseOf p h) → IsCauseOf p g
+  by_error (Ok x) g e is = absurd (cc e)
+  by_error (Err h) g e is = let k : h ≡ g = cc e in subst (λ (x : CheckFault). IsCauseOf p x) k is
