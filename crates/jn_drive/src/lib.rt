@@ -13,6 +13,8 @@ mod read;
 mod status;
 #[cfg(test)]
 mod tests;
+#[cfg(test)]
+mod tests_check;
 mod twice;
 mod unknown;
 mod words;
