@@ -1,26 +1,135 @@
--- The front of a file that was read is answered as the file is.
-use Rattle.std.proofs.Common.{◌≡◌, ◌∙◌, ℕ, ◌≤◌, ◌+◌, inl, inr, List, ◌++◌, length, sym, ap, subst, append-nil, length-append, Ok, Err, arith}
+-- The bytes of a file have one reply by each job, and the front of a file that was read is answered as the file is.
+use Rattle.std.proofs.Common.{◌≡◌, ◌∙◌, ℕ, ◌≤◌, ◌<◌, ◌+◌, ◌⊎◌, inl, inr, List, [], ◌++◌, length, sym, ap, subst, refl, append-nil, length-append, Ok, Err, None, Some, arith, Bool, nat_lt, true, false}
+use Rattle.std.proofs.lemmas.Bool.{ltb-true, ltb-false}
 use Rattle.std.specs.declared.option.Option.{Option}
+use Rattle.jn_base.specs.declared.tree.Program.{Program}
+use Rattle.jn_base.specs.declared.refusal.Refusal.{Refusal}
+use Rattle.jn_base.specs.Spelling.{IsTextOf, IsTextRefused, greatest_source}
+use Rattle.jn_base.specs.TableRules.{DeclarationsRefuse, DeclarationsPass}
+use Rattle.jn_base.proofs.TableLaws.{declarations_refused_or_passed, one_declarations_refusal}
+use Rattle.jn_table.specs.Rows.{IsNamed}
 use Rattle.jn_io.specs.Told.{Files}
+use Rattle.jn_words.specs.Line.{line_of}
+use Rattle.jn_parser.specs.declared.fault.ParseFault.{ParseFault}
+use Rattle.jn_parser.specs.declared.fault.ParseFault.TheVariants as parse_fault
+use Rattle.jn_parser.specs.Answer.{IfRefused, IsRefusedUnlessMemory}
+use Rattle.jn_drive.specs.declared.halt.Halt.{Halt}
 use Rattle.jn_drive.specs.declared.halt.Halt.TheVariants as halt
-use Rattle.jn_drive.specs.Reply.{source_limit}
+use Rattle.jn_drive.specs.declared.words.JobKind.{JobKind}
+use Rattle.jn_drive.specs.declared.words.JobKind.TheVariants as kinds
+use Rattle.jn_printer.specs.DeclText.{program_text}
+use Rattle.jn_drive.specs.Meaning.{output_of}
+use Rattle.jn_drive.specs.Plain.{IsPlain}
+use Rattle.jn_drive.specs.Reply.{Reply, TreeReply, JobReply, refused_reply, output_reply}
 use Rattle.jn_drive.specs.Seen.{IsSource}
-use Rattle.jn_drive.specs.Answer.{Answer, IsFrontOf, Judges, Answers}
+use Rattle.jn_drive.proofs.Spelled.{spelled_is_named}
+use Rattle.jn_drive.specs.Answer.{Answer, IsFrontOf, Judges, Answers, AnswersTree, IsOnlyReply, IsRefusedBy, IsOfFault, IsNotTaken, too_long_refusal, reply_of}
+
+-- A tree has one reply.
+tree_once : (p : Program) → IsNamed p → (kind : JobKind) (a b : Reply) → TreeReply p kind a → TreeReply p kind b → a ≡ b
+tree_once p named kind a b TreeReply.shown TreeReply.shown = refl
+tree_once p named kind a b (TreeReply.ran is) (TreeReply.ran is') = refl
+tree_once p named kind a b (TreeReply.ran is) (TreeReply.not_taken not) = absurd (not is)
+tree_once p named kind a b (TreeReply.not_taken not) (TreeReply.ran is) = absurd (not is)
+tree_once p named kind a b (TreeReply.not_taken not) (TreeReply.not_taken not') = refl
+tree_once p named kind a b (TreeReply.passed is) (TreeReply.passed is') = refl
+tree_once p named kind a b (TreeReply.passed is) (TreeReply.not_passed r by) = absurd (declarations_refused_or_passed p r by is)
+tree_once p named kind a b (TreeReply.not_passed r by) (TreeReply.passed is) = absurd (declarations_refused_or_passed p r by is)
+tree_once p named kind a b (TreeReply.not_passed r by) (TreeReply.not_passed s by') =
+    ap (λ (x : Refusal). refused_reply (line_of (Some p) x)) (one_declarations_refusal p named.distinct named.paths r s by by')
+
+by_kind : (p : Program) (known kind : JobKind) (r : Reply) → kind ≡ known → TreeReply p known r → TreeReply p kind r
+by_kind p known kind r is tree = subst (λ (k : JobKind). TreeReply p k r) (sym is) tree
+
+-- The replies to a tree.
+pub tree_shown : (p : Program) (kind : JobKind) (output : List ℕ) → kind ≡ kinds.Show → output ≡ program_text p → TreeReply p kind (output_reply output)
+tree_shown p kind output k o = by_kind p kinds.Show kind (output_reply output) k (subst (λ (o' : List ℕ). TreeReply p kinds.Show (output_reply o')) (sym o) TreeReply.shown)
+
+pub tree_ran : (p : Program) (kind : JobKind) (output : List ℕ) → kind ≡ kinds.Run → IsPlain p → output ≡ output_of p → TreeReply p kind (output_reply output)
+tree_ran p kind output k plain o = by_kind p kinds.Run kind (output_reply output) k (subst (λ (o' : List ℕ). TreeReply p kinds.Run (output_reply o')) (sym o) (TreeReply.ran plain))
+
+pub tree_not_taken : (p : Program) (kind : JobKind) (h : Halt) → kind ≡ kinds.Run → (IsPlain p → ⊥) → IsNotTaken h → AnswersTree p kind (Err h)
+tree_not_taken p kind (halt.Refused line) k not is = by_kind p kinds.Run kind (refused_reply line) k (subst (λ (r : Reply). TreeReply p kinds.Run r) (sym is) (TreeReply.not_taken not))
+tree_not_taken p kind halt.Unread k not is = absurd is
+tree_not_taken p kind halt.Memory k not is = is
+
+pub tree_checked : (p : Program) (kind : JobKind) (a : Answer) → kind ≡ kinds.Check → AnswersTree p kinds.Check a → AnswersTree p kind a
+tree_checked p kind a k is = subst (λ (j : JobKind). AnswersTree p j a) (sym k) is
+
+pub tree_passed : (p : Program) (output : List ℕ) → output ≡ [] → DeclarationsPass p → TreeReply p kinds.Check (output_reply output)
+tree_passed p output e is = subst (λ (o : List ℕ). TreeReply p kinds.Check (output_reply o)) (sym e) (TreeReply.passed is)
+
+pub tree_not_passed : (p : Program) (r : Refusal) (h : Halt) → DeclarationsRefuse p r → IsRefusedBy (Some p) r h → AnswersTree p kinds.Check (Err h)
+tree_not_passed p r (halt.Refused line) by is = subst (λ (l : List ℕ). TreeReply p kinds.Check (refused_reply l)) (sym is) (TreeReply.not_passed r by)
+tree_not_passed p r halt.Unread by is = absurd is
+tree_not_passed p r halt.Memory by is = is
+
+-- The reply to the bytes that spell a program is that to it.
+spelled_once : (kind : JobKind) (bytes : List ℕ) (p : Program) → IsTextOf p bytes → ((q : Program) → IsTextOf q bytes → p ≡ q) → (a b : Reply) → TreeReply p kind a → JobReply kind bytes b → a ≡ b
+spelled_once kind bytes p is only a b tree (JobReply.refused r by e) = absurd (is.not_refused r by)
+spelled_once kind bytes p is only a b tree (JobReply.to_tree q is' tree') =
+    tree_once p (spelled_is_named p bytes is.spelled) kind a b tree (subst (λ (t : Program). TreeReply t kind b) (sym (only q is')) tree')
+
+pub spelled : (kind : JobKind) (bytes : List ℕ) (p : Program) → IsTextOf p bytes → ((q : Program) → IsTextOf q bytes → p ≡ q) → (a : Answer) → AnswersTree p kind a → Judges kind bytes a
+spelled kind bytes p is only (Ok output) tree = record { is = JobReply.to_tree p is tree; only = λ other by. spelled_once kind bytes p is only _ other tree by }
+spelled kind bytes p is only (Err (halt.Refused line)) tree = record { is = JobReply.to_tree p is tree; only = λ other by. spelled_once kind bytes p is only _ other tree by }
+spelled kind bytes p is only (Err halt.Unread) tree = absurd tree
+spelled kind bytes p is only (Err halt.Memory) tree = tree
+
+-- The reply to bytes that the first steps refuse is the line of the refusal.
+refused_once : (kind : JobKind) (bytes : List ℕ) (r : Refusal) → IsTextRefused bytes r → ((s : Refusal) → IsTextRefused bytes s → r ≡ s) → (b : Reply) → JobReply kind bytes b → refused_reply (line_of None r) ≡ b
+refused_once kind bytes r by only b (JobReply.refused s by' e) = ap (λ (x : Refusal). refused_reply (line_of None x)) (only s by') ∙ sym e
+refused_once kind bytes r by only b (JobReply.to_tree p is tree) = absurd (is.not_refused r by)
+
+pub refused_only : (kind : JobKind) (bytes : List ℕ) (r : Refusal) (h : Halt) → IsRefusedBy None r h → IsTextRefused bytes r → ((s : Refusal) → IsTextRefused bytes s → r ≡ s) → Judges kind bytes (Err h)
+refused_only kind bytes r (halt.Refused line) is by only = subst (λ (l : List ℕ). Judges kind bytes (Err (halt.Refused l))) (sym is)
+    (record { is = JobReply.refused r by refl; only = refused_once kind bytes r by only })
+refused_only kind bytes r halt.Unread is by only = absurd is
+refused_only kind bytes r halt.Memory is by only = is
+
+pub fault_judged : (kind : JobKind) (bytes : List ℕ) (f : ParseFault) (h : Halt) → IsOfFault f h → IfRefused {T = Program} (Err f) (IsTextRefused bytes) → ((s : Refusal) → IsTextRefused bytes s → IsRefusedUnlessMemory {T = Program} (Err f) s) → Judges kind bytes (Err h)
+fault_judged kind bytes (parse_fault.Refused r) h is by only = refused_only kind bytes r h is by only
+fault_judged kind bytes parse_fault.Memory h is by only = subst (λ (x : Halt). Judges kind bytes (Err x)) (sym is) tt
+
+-- Too many bytes are refused for that alone.
+long_only : (bytes : List ℕ) → greatest_source < length bytes → (s : Refusal) → IsTextRefused bytes s → too_long_refusal ≡ s
+long_only bytes long s (IsTextRefused.too_long is) = refl
+long_only bytes long s (IsTextRefused.not_utf8 short is) = absurd (omega arith)
+long_only bytes long s (IsTextRefused.word_refused names texts short are first) = absurd (omega arith)
+
+pub long_judged : (kind : JobKind) (bytes : List ℕ) → greatest_source < length bytes → (h : Halt) → IsRefusedBy None too_long_refusal h → Judges kind bytes (Err h)
+long_judged kind bytes long h is = refused_only kind bytes too_long_refusal h is (IsTextRefused.too_long long) (long_only bytes long)
+
+-- ---- the front of a file
 
 -- A front within the limit is all.
-all_read : (bytes front : List ℕ) → IsFrontOf bytes front → length front ≤ source_limit → front ≡ bytes
+all_read : (bytes front : List ℕ) → IsFrontOf bytes front → length front ≤ greatest_source → front ≡ bytes
 all_read bytes front is short = elim is.all_or_most [ inl none ↦ sym (is.parts ∙ ap (λ (left : List ℕ). front ++ left) none ∙ append-nil front) | inr most ↦ absurd (omega arith) ]
 
-pub front_judged : (bytes front : List ℕ) → IsFrontOf bytes front → (a : Answer) → Judges front a → Judges bytes a
-front_judged bytes front is (Ok output) j = subst (λ (bs : List ℕ). Judges bs (Ok output)) (all_read bytes front is j.0) j
-front_judged bytes front is (Err halt.TooLong) j = let parts : length bytes ≡ length front + length is.left = ap length is.parts ∙ length-append front is.left in omega arith
-front_judged bytes front is (Err halt.Syntax) j = subst (λ (bs : List ℕ). Judges bs (Err halt.Syntax)) (all_read bytes front is j.0) j
-front_judged bytes front is (Err halt.Unread) j = absurd j
-front_judged bytes front is (Err halt.Memory) j = j
+longer : (bytes front : List ℕ) → IsFrontOf bytes front → greatest_source < length front → greatest_source < length bytes
+longer bytes front is long = let parts : length bytes ≡ length front + length is.left = ap length is.parts ∙ length-append front is.left in omega arith
 
-pub bytes_answered : (files : Option Files) (file bytes front : List ℕ) (f f' : ℕ) → IsSource files file bytes → IsFrontOf bytes front → f' ≡ f → (a : Answer) → Judges front a → Answers files file f f' a
-bytes_answered files file bytes front f f' source is same (Ok output) j = (same, (bytes, source, front_judged bytes front is (Ok output) j))
-bytes_answered files file bytes front f f' source is same (Err halt.TooLong) j = (same, (bytes, source, front_judged bytes front is (Err halt.TooLong) j))
-bytes_answered files file bytes front f f' source is same (Err halt.Syntax) j = (same, (bytes, source, front_judged bytes front is (Err halt.Syntax) j))
-bytes_answered files file bytes front f f' source is same (Err halt.Unread) j = absurd j
-bytes_answered files file bytes front f f' source is same (Err halt.Memory) j = same
+-- What is the reply to a source that is too long is the reply to each other one.
+other_long : (kind : JobKind) (bytes front : List ℕ) (r : Reply) → greatest_source < length bytes → greatest_source < length front → IsOnlyReply kind front r → IsOnlyReply kind bytes r
+other_long kind bytes front r long long' is =
+    let same : r ≡ refused_reply (line_of None too_long_refusal) = is.only _ (JobReply.refused too_long_refusal (IsTextRefused.too_long long') refl) in
+    subst (λ (x : Reply). IsOnlyReply kind bytes x) (sym same) (record {
+      is = JobReply.refused too_long_refusal (IsTextRefused.too_long long) refl;
+      only = refused_once kind bytes too_long_refusal (IsTextRefused.too_long long) (long_only bytes long);
+    })
+
+short_or_long : (n : ℕ) → (b : Bool) → nat_lt greatest_source n ≡ b → (n ≤ greatest_source) ⊎ (greatest_source < n)
+short_or_long n true is = inr (ltb-true greatest_source n is)
+short_or_long n false is = inl (ltb-false greatest_source n is)
+
+front_only : (kind : JobKind) (bytes front : List ℕ) → IsFrontOf bytes front → (r : Reply) → IsOnlyReply kind front r → IsOnlyReply kind bytes r
+front_only kind bytes front is r only = elim (short_or_long (length front) (nat_lt greatest_source (length front)) refl) [
+  inl short ↦ subst (λ (bs : List ℕ). IsOnlyReply kind bs r) (all_read bytes front is short) only
+  | inr long ↦ other_long kind bytes front r (longer bytes front is long) long only
+]
+
+pub bytes_answered : (kind : JobKind) (files : Option Files) (file bytes front : List ℕ) (f f' : ℕ) → IsSource files file bytes → IsFrontOf bytes front → f' ≡ f → (a : Answer) → Judges kind front a → Answers kind files file f f' a
+bytes_answered kind files file bytes front f f' source is same (Ok output) j = (same, (bytes, source, front_only kind bytes front is (output_reply output) j))
+bytes_answered kind files file bytes front f f' source is same (Err (halt.Refused line)) j = (same, (bytes, source, front_only kind bytes front is (refused_reply line) j))
+bytes_answered kind files file bytes front f f' source is same (Err halt.Unread) j = absurd j
+bytes_answered kind files file bytes front f f' source is same (Err halt.Memory) j = same

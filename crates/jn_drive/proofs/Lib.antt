@@ -1,5 +1,12 @@
 pub mod Judging
 pub mod Linking
 pub mod Pieces
+pub mod Plainness
 pub mod Reading
 pub mod Running
+pub mod TwiceEquations
+pub mod TwiceSteps
+pub mod Spelled
+pub mod Housing
+pub mod Unknowns
+pub mod Checking

@@ -33,7 +33,6 @@ file_read None file rest f f' f'' (Ok front) begun same (kept, front_is) =
     (kept ∙ same, ((whole rest front front_is).0, tt, (whole rest front front_is).1))
 file_read (Some files) file None f f' f'' (Ok front) begun same (kept, front_is) = absurd (let there = begun.0 in cc)
 file_read (Some files) file (Some bytes) f f' f'' (Ok front) begun same (kept, front_is) = (kept ∙ same, (bytes, sym begun.1, front_is))
-file_read files file rest f f' f'' (Err halt.TooLong) begun same r = absurd r
-file_read files file rest f f' f'' (Err halt.Syntax) begun same r = absurd r
+file_read files file rest f f' f'' (Err (halt.Refused line)) begun same r = absurd r
 file_read files file rest f f' f'' (Err halt.Unread) begun same r = inl (subst (λ (n : ℕ). Rose n f'') same r)
 file_read files file rest f f' f'' (Err halt.Memory) begun same r = r ∙ same

@@ -1,4 +1,4 @@
--- What `run` does, from what its file's bytes come to and how that is delivered.
+-- What a job does, from what its file's bytes come to and how that is delivered.
 use Rattle.std.proofs.Common.{◌≡◌, ◌∙◌, ℕ, ◌≤◌, ◌⊎◌, inl, inr, List, sym, ap, subst, refl, Ok, Err, Some, None, arith}
 use Rattle.std.specs.declared.option.Option.{Option}
 use Rattle.std.proofs.lemmas.Option.{same_Some}
@@ -7,11 +7,15 @@ use Rattle.jn_io.specs.Told.{Files, Lacks}
 use Rattle.jn_drive.specs.declared.status.Status.{Status}
 use Rattle.jn_drive.specs.declared.status.Status.TheVariants as statuses
 use Rattle.jn_drive.specs.declared.halt.Halt.TheVariants as halt
+use Rattle.jn_drive.specs.declared.words.JobKind.{JobKind}
 use Rattle.jn_drive.specs.Meaning.{output_of}
-use Rattle.jn_drive.specs.Reply.{Reply, RunReply, syntax_reply, too_long_reply, unread_reply, memory_reply, output_reply}
+use Rattle.jn_drive.specs.Reply.{Reply, JobReply, TreeReply, refused_reply, unread_reply, memory_reply, output_reply}
 use Rattle.jn_drive.specs.Seen.{Seen, SinkSeen, IsSource, IsToldSource, IsQuiet, IsCut, IsDelivered}
-use Rattle.jn_drive.specs.Answer.{Answer, Answers, Judges, reply_of}
-use Rattle.jn_drive.specs.Job.{Runs, Replies, MayReply, IsUnread, Gives, Cuts, GivesUnlessMemory, IsOfRun}
+use Rattle.jn_drive.specs.Answer.{Answer, Answers, IsOnlyReply, reply_of}
+use Rattle.jn_drive.specs.Job.{Does, Replies, MayReply, IsUnread, Gives, Cuts, GivesUnlessMemory, IsOfJobs}
+
+abbrev Ans : JobKind → List ℕ → Seen → Seen → Answer → Type 0
+Ans kind file before after a = Answers kind before.store.files file before.store.read_faults after.store.read_faults a
 
 -- The bytes that are told are those that were read.
 told_same : (files : Option Files) (file bytes told : List ℕ) → IsSource files file bytes → IsToldSource files file told → bytes ≡ told
@@ -27,40 +31,24 @@ told_there : (files : Option Files) (file bytes : List ℕ) → IsToldSource fil
 told_there None file bytes there = absurd there
 told_there (Some files) file bytes there = there
 
--- Bytes have one reply.
-once : (bytes : List ℕ) (a : Answer) (r : Reply) → Judges bytes a → RunReply bytes r → (reply_of a ≡ r) ⊎ (reply_of a ≡ memory_reply)
-once bytes (Ok output) r j (RunReply.too_long long is) = let short = j.0 in absurd (omega arith)
-once bytes (Ok output) r j (RunReply.no_program short none is) = absurd (none j.1.0 j.1.1.spells)
-once bytes (Ok output) r j (RunReply.program q short spells is) = inl (ap output_reply (j.1.2 ∙ ap output_of (j.1.1.only q spells)) ∙ sym is)
-once bytes (Err halt.TooLong) r j (RunReply.too_long long is) = inl (sym is)
-once bytes (Err halt.TooLong) r j (RunReply.no_program short none is) = absurd (omega arith)
-once bytes (Err halt.TooLong) r j (RunReply.program q short spells is) = absurd (omega arith)
-once bytes (Err halt.Syntax) r j (RunReply.too_long long is) = let short = j.0 in absurd (omega arith)
-once bytes (Err halt.Syntax) r j (RunReply.no_program short none is) = inl (sym is)
-once bytes (Err halt.Syntax) r j (RunReply.program q short spells is) = absurd (j.1 q spells)
-once bytes (Err halt.Unread) r j is = absurd j
-once bytes (Err halt.Memory) r j is = inr refl
-
-once_told : (files : Option Files) (file bytes told : List ℕ) (a : Answer) (r : Reply) → IsSource files file bytes → Judges bytes a → IsToldSource files file told → RunReply told r → (reply_of a ≡ r) ⊎ (reply_of a ≡ memory_reply)
-once_told files file bytes told a r source j there is = once bytes a r j (subst (λ (bs : List ℕ). RunReply bs r) (sym (told_same files file bytes told source there)) is)
+once_told : (kind : JobKind) (files : Option Files) (file bytes told : List ℕ) (a r : Reply) → IsSource files file bytes → IsOnlyReply kind bytes a → IsToldSource files file told → JobReply kind told r → (a ≡ r) ⊎ (a ≡ memory_reply)
+once_told kind files file bytes told a r source only there is = inl (only.only r (subst (λ (bs : List ℕ). JobReply kind bs r) (sym (told_same files file bytes told source there)) is))
 
 -- What the answer is where the bytes are told and no read fails.
-settled : (file : List ℕ) (before after : Seen) (a : Answer) → Answers before.store.files file before.store.read_faults after.store.read_faults a → (told : List ℕ) (r : Reply) → IsToldSource before.store.files file told → RunReply told r → IsQuiet before after
+settled : (kind : JobKind) (file : List ℕ) (before after : Seen) (a : Answer) → Ans kind file before after a → (told : List ℕ) (r : Reply) → IsToldSource before.store.files file told → JobReply kind told r → IsQuiet before after
     → (reply_of a ≡ r) ⊎ (reply_of a ≡ memory_reply)
-settled file before after (Ok output) ans told r there is quiet = once_told _ _ ans.1.0 told (Ok output) r ans.1.1 ans.1.2 there is
-settled file before after (Err halt.TooLong) ans told r there is quiet = once_told _ _ ans.1.0 told (Err halt.TooLong) r ans.1.1 ans.1.2 there is
-settled file before after (Err halt.Syntax) ans told r there is quiet = once_told _ _ ans.1.0 told (Err halt.Syntax) r ans.1.1 ans.1.2 there is
-settled file before after (Err halt.Unread) ans told r there is quiet =
+settled kind file before after (Ok output) ans told r there is quiet = once_told kind _ _ ans.1.0 told (output_reply output) r ans.1.1 ans.1.2 there is
+settled kind file before after (Err (halt.Refused line)) ans told r there is quiet = once_told kind _ _ ans.1.0 told (refused_reply line) r ans.1.1 ans.1.2 there is
+settled kind file before after (Err halt.Unread) ans told r there is quiet =
     elim ans [ inl rose ↦ absurd (quiet.reads rose) | inr lacks ↦ not_there before.store.files file told (told_there before.store.files file told there) lacks ]
-settled file before after (Err halt.Memory) ans told r there is quiet = inr refl
+settled kind file before after (Err halt.Memory) ans told r there is quiet = inr refl
 
 -- What it is where the file isn't there.
-lacking : (file : List ℕ) (before after : Seen) (a : Answer) → Answers before.store.files file before.store.read_faults after.store.read_faults a → Lacks before.store.files file → (reply_of a ≡ unread_reply) ⊎ (reply_of a ≡ memory_reply)
-lacking file before after (Ok output) ans lacks = not_there before.store.files file ans.1.0 ans.1.1 lacks
-lacking file before after (Err halt.TooLong) ans lacks = not_there before.store.files file ans.1.0 ans.1.1 lacks
-lacking file before after (Err halt.Syntax) ans lacks = not_there before.store.files file ans.1.0 ans.1.1 lacks
-lacking file before after (Err halt.Unread) ans lacks = inl refl
-lacking file before after (Err halt.Memory) ans lacks = inr refl
+lacking : (kind : JobKind) (file : List ℕ) (before after : Seen) (a : Answer) → Ans kind file before after a → Lacks before.store.files file → (reply_of a ≡ unread_reply) ⊎ (reply_of a ≡ memory_reply)
+lacking kind file before after (Ok output) ans lacks = not_there before.store.files file ans.1.0 ans.1.1 lacks
+lacking kind file before after (Err (halt.Refused line)) ans lacks = not_there before.store.files file ans.1.0 ans.1.1 lacks
+lacking kind file before after (Err halt.Unread) ans lacks = inl refl
+lacking kind file before after (Err halt.Memory) ans lacks = inr refl
 
 -- A reply that was given whole, by an equal one.
 given_as : (before after : Seen) (a b : Reply) (s : Status) → a ≡ b → Gives a before after s → Gives b before after s
@@ -83,76 +71,65 @@ quietly : (before after : Seen) (a b : Reply) (s : Status) → IsDelivered a bef
 quietly before after a b s (inl g) quiet e = one_of before after a b s e g
 quietly before after a b s (inr cut) quiet e = not_cut before after a s cut quiet
 
--- The answer is one that `run` may reply.
-may : (file : List ℕ) (before after : Seen) (a : Answer) → Answers before.store.files file before.store.read_faults after.store.read_faults a → MayReply file before after (reply_of a)
-may file before after (Ok output) ans =
-    MayReply.to_bytes (record { bytes = ans.1.0; source = ans.1.1; reads = ans.0; is = RunReply.program ans.1.2.1.0 ans.1.2.0 ans.1.2.1.1.spells (ap output_reply ans.1.2.1.2) })
-may file before after (Err halt.TooLong) ans = MayReply.to_bytes (record { bytes = ans.1.0; source = ans.1.1; reads = ans.0; is = RunReply.too_long ans.1.2 refl })
-may file before after (Err halt.Syntax) ans = MayReply.to_bytes (record { bytes = ans.1.0; source = ans.1.1; reads = ans.0; is = RunReply.no_program ans.1.2.0 ans.1.2.1 refl })
-may file before after (Err halt.Unread) ans = MayReply.unread ans refl
-may file before after (Err halt.Memory) ans = MayReply.no_memory refl
+-- The reply to the bytes that were read.
+replied : (kind : JobKind) (file bytes : List ℕ) (before after : Seen) (r : Reply) → IsSource before.store.files file bytes → after.store.read_faults ≡ before.store.read_faults → IsOnlyReply kind bytes r → Replies kind file before after r
+replied kind file bytes before after r source reads only = record { bytes = bytes; source = source; reads = reads; is = only.is }
+
+-- The answer is one that the job may reply.
+may : (kind : JobKind) (file : List ℕ) (before after : Seen) (a : Answer) → Ans kind file before after a → MayReply kind file before after (reply_of a)
+may kind file before after (Ok output) ans = MayReply.to_bytes (replied kind file ans.1.0 before after (output_reply output) ans.1.1 ans.0 ans.1.2)
+may kind file before after (Err (halt.Refused line)) ans = MayReply.to_bytes (replied kind file ans.1.0 before after (refused_reply line) ans.1.1 ans.0 ans.1.2)
+may kind file before after (Err halt.Unread) ans = MayReply.unread ans refl
+may kind file before after (Err halt.Memory) ans = MayReply.no_memory refl
 
 abbrev Del : Answer → Seen → Seen → Status → Type 0
 Del a before after s = IsDelivered (reply_of a) before.out after.out before.err after.err s
 
-abbrev Ans : List ℕ → Seen → Seen → Answer → Type 0
-Ans file before after a = Answers before.store.files file before.store.read_faults after.store.read_faults a
-
 -- Each status, with what it says.
-ended_done : (file : List ℕ) (before after : Seen) (a : Answer) (s : Status) → Ans file before after a → Del a before after s → s ≡ statuses.Done
-    → (p : Program) × Replies file before after (output_reply (output_of p)) × Gives (output_reply (output_of p)) before after s
-ended_done file before after a s ans (inr cut) e = let is = cut_is before after (reply_of a) s cut in absurd (cc)
-ended_done file before after (Ok output) s ans (inl g) e = (
-  ans.1.2.1.0,
-  record { bytes = ans.1.0; source = ans.1.1; reads = ans.0; is = RunReply.program ans.1.2.1.0 ans.1.2.0 ans.1.2.1.1.spells refl },
-  given_as before after (output_reply output) (output_reply (output_of ans.1.2.1.0)) s (ap output_reply ans.1.2.1.2) g,
-)
-ended_done file before after (Err halt.TooLong) s ans (inl g) e = let is = g.status in absurd (cc)
-ended_done file before after (Err halt.Syntax) s ans (inl g) e = let is = g.status in absurd (cc)
-ended_done file before after (Err halt.Unread) s ans (inl g) e = let is = g.status in absurd (cc)
-ended_done file before after (Err halt.Memory) s ans (inl g) e = let is = g.status in absurd (cc)
+ended_done : (kind : JobKind) (file : List ℕ) (before after : Seen) (a : Answer) (s : Status) → Ans kind file before after a → Del a before after s → s ≡ statuses.Done
+    → (output : List ℕ) × Replies kind file before after (output_reply output) × Gives (output_reply output) before after s
+ended_done kind file before after a s ans (inr cut) e = let is = cut_is before after (reply_of a) s cut in absurd (cc)
+ended_done kind file before after (Ok output) s ans (inl g) e = (output, replied kind file ans.1.0 before after (output_reply output) ans.1.1 ans.0 ans.1.2, g)
+ended_done kind file before after (Err (halt.Refused line)) s ans (inl g) e = let is = g.status in absurd (cc)
+ended_done kind file before after (Err halt.Unread) s ans (inl g) e = let is = g.status in absurd (cc)
+ended_done kind file before after (Err halt.Memory) s ans (inl g) e = let is = g.status in absurd (cc)
 
-ended_refused : (file : List ℕ) (before after : Seen) (a : Answer) (s : Status) → Ans file before after a → Del a before after s → s ≡ statuses.Refused
-    → (reply : Reply) × (reply.status ≡ statuses.Refused) × Replies file before after reply × Gives reply before after s
-ended_refused file before after a s ans (inr cut) e = let is = cut_is before after (reply_of a) s cut in absurd (cc)
-ended_refused file before after (Ok output) s ans (inl g) e = let is = g.status in absurd (cc)
-ended_refused file before after (Err halt.TooLong) s ans (inl g) e = (too_long_reply, refl, record { bytes = ans.1.0; source = ans.1.1; reads = ans.0; is = RunReply.too_long ans.1.2 refl }, g)
-ended_refused file before after (Err halt.Syntax) s ans (inl g) e = (syntax_reply, refl, record { bytes = ans.1.0; source = ans.1.1; reads = ans.0; is = RunReply.no_program ans.1.2.0 ans.1.2.1 refl }, g)
-ended_refused file before after (Err halt.Unread) s ans (inl g) e = let is = g.status in absurd (cc)
-ended_refused file before after (Err halt.Memory) s ans (inl g) e = let is = g.status in absurd (cc)
+ended_refused : (kind : JobKind) (file : List ℕ) (before after : Seen) (a : Answer) (s : Status) → Ans kind file before after a → Del a before after s → s ≡ statuses.Refused
+    → (line : List ℕ) × Replies kind file before after (refused_reply line) × Gives (refused_reply line) before after s
+ended_refused kind file before after a s ans (inr cut) e = let is = cut_is before after (reply_of a) s cut in absurd (cc)
+ended_refused kind file before after (Ok output) s ans (inl g) e = let is = g.status in absurd (cc)
+ended_refused kind file before after (Err (halt.Refused line)) s ans (inl g) e = (line, replied kind file ans.1.0 before after (refused_reply line) ans.1.1 ans.0 ans.1.2, g)
+ended_refused kind file before after (Err halt.Unread) s ans (inl g) e = let is = g.status in absurd (cc)
+ended_refused kind file before after (Err halt.Memory) s ans (inl g) e = let is = g.status in absurd (cc)
 
-ended_unread : (file : List ℕ) (before after : Seen) (a : Answer) (s : Status) → Ans file before after a → Del a before after s → s ≡ statuses.ReadFault → IsUnread file before after × Gives unread_reply before after s
-ended_unread file before after a s ans (inr cut) e = let is = cut_is before after (reply_of a) s cut in absurd (cc)
-ended_unread file before after (Ok output) s ans (inl g) e = let is = g.status in absurd (cc)
-ended_unread file before after (Err halt.TooLong) s ans (inl g) e = let is = g.status in absurd (cc)
-ended_unread file before after (Err halt.Syntax) s ans (inl g) e = let is = g.status in absurd (cc)
-ended_unread file before after (Err halt.Unread) s ans (inl g) e = (ans, g)
-ended_unread file before after (Err halt.Memory) s ans (inl g) e = let is = g.status in absurd (cc)
+ended_unread : (kind : JobKind) (file : List ℕ) (before after : Seen) (a : Answer) (s : Status) → Ans kind file before after a → Del a before after s → s ≡ statuses.ReadFault → IsUnread file before after × Gives unread_reply before after s
+ended_unread kind file before after a s ans (inr cut) e = let is = cut_is before after (reply_of a) s cut in absurd (cc)
+ended_unread kind file before after (Ok output) s ans (inl g) e = let is = g.status in absurd (cc)
+ended_unread kind file before after (Err (halt.Refused line)) s ans (inl g) e = let is = g.status in absurd (cc)
+ended_unread kind file before after (Err halt.Unread) s ans (inl g) e = (ans, g)
+ended_unread kind file before after (Err halt.Memory) s ans (inl g) e = let is = g.status in absurd (cc)
 
-ended_cut : (file : List ℕ) (before after : Seen) (a : Answer) (s : Status) → Ans file before after a → Del a before after s → s ≡ statuses.WriteFault → (reply : Reply) × MayReply file before after reply × Cuts reply before after s
-ended_cut file before after a s ans (inr cut) e = (reply_of a, may file before after a ans, cut)
-ended_cut file before after (Ok output) s ans (inl g) e = let is = g.status in absurd (cc)
-ended_cut file before after (Err halt.TooLong) s ans (inl g) e = let is = g.status in absurd (cc)
-ended_cut file before after (Err halt.Syntax) s ans (inl g) e = let is = g.status in absurd (cc)
-ended_cut file before after (Err halt.Unread) s ans (inl g) e = let is = g.status in absurd (cc)
-ended_cut file before after (Err halt.Memory) s ans (inl g) e = let is = g.status in absurd (cc)
+ended_cut : (kind : JobKind) (file : List ℕ) (before after : Seen) (a : Answer) (s : Status) → Ans kind file before after a → Del a before after s → s ≡ statuses.WriteFault → (reply : Reply) × MayReply kind file before after reply × Cuts reply before after s
+ended_cut kind file before after a s ans (inr cut) e = (reply_of a, may kind file before after a ans, cut)
+ended_cut kind file before after (Ok output) s ans (inl g) e = let is = g.status in absurd (cc)
+ended_cut kind file before after (Err (halt.Refused line)) s ans (inl g) e = let is = g.status in absurd (cc)
+ended_cut kind file before after (Err halt.Unread) s ans (inl g) e = let is = g.status in absurd (cc)
+ended_cut kind file before after (Err halt.Memory) s ans (inl g) e = let is = g.status in absurd (cc)
 
-ended_memory : (file : List ℕ) (before after : Seen) (a : Answer) (s : Status) → Ans file before after a → Del a before after s → s ≡ statuses.Memory → Gives memory_reply before after s × (after.store.read_faults ≡ before.store.read_faults)
-ended_memory file before after a s ans (inr cut) e = let is = cut_is before after (reply_of a) s cut in absurd (cc)
-ended_memory file before after (Ok output) s ans (inl g) e = let is = g.status in absurd (cc)
-ended_memory file before after (Err halt.TooLong) s ans (inl g) e = let is = g.status in absurd (cc)
-ended_memory file before after (Err halt.Syntax) s ans (inl g) e = let is = g.status in absurd (cc)
-ended_memory file before after (Err halt.Unread) s ans (inl g) e = let is = g.status in absurd (cc)
-ended_memory file before after (Err halt.Memory) s ans (inl g) e = (g, ans)
+ended_memory : (kind : JobKind) (file : List ℕ) (before after : Seen) (a : Answer) (s : Status) → Ans kind file before after a → Del a before after s → s ≡ statuses.Memory → Gives memory_reply before after s × (after.store.read_faults ≡ before.store.read_faults)
+ended_memory kind file before after a s ans (inr cut) e = let is = cut_is before after (reply_of a) s cut in absurd (cc)
+ended_memory kind file before after (Ok output) s ans (inl g) e = let is = g.status in absurd (cc)
+ended_memory kind file before after (Err (halt.Refused line)) s ans (inl g) e = let is = g.status in absurd (cc)
+ended_memory kind file before after (Err halt.Unread) s ans (inl g) e = let is = g.status in absurd (cc)
+ended_memory kind file before after (Err halt.Memory) s ans (inl g) e = (g, ans)
 
-status_is : (s t : Status) → s ≡ t → IsOfRun t → IsOfRun s
-status_is s t e is = subst IsOfRun (sym e) is
+status_is : (s t : Status) → s ≡ t → IsOfJobs t → IsOfJobs s
+status_is s t e is = subst IsOfJobs (sym e) is
 
-ended_only : (before after : Seen) (a : Answer) (s : Status) → Del a before after s → IsOfRun s
+ended_only : (before after : Seen) (a : Answer) (s : Status) → Del a before after s → IsOfJobs s
 ended_only before after a s (inr cut) = status_is s statuses.WriteFault (cut_is before after (reply_of a) s cut) tt
 ended_only before after (Ok output) s (inl g) = status_is s statuses.Done g.status tt
-ended_only before after (Err halt.TooLong) s (inl g) = status_is s statuses.Refused g.status tt
-ended_only before after (Err halt.Syntax) s (inl g) = status_is s statuses.Refused g.status tt
+ended_only before after (Err (halt.Refused line)) s (inl g) = status_is s statuses.Refused g.status tt
 ended_only before after (Err halt.Unread) s (inl g) = status_is s statuses.ReadFault g.status tt
 ended_only before after (Err halt.Memory) s (inl g) = status_is s statuses.Memory g.status tt
 
@@ -167,18 +144,19 @@ err_later before after r s (inl g) = let same = g.line.faults in omega arith
 err_later before after r s (inr (IsCut.at_output is rose some none)) = let same : after.err.faults ≡ before.err.faults = ap (λ (k : SinkSeen). k.faults) none in omega arith
 err_later before after r s (inr (IsCut.at_line is all rose some)) = some.later
 
-pub runs : (file : List ℕ) (before after : Seen) (a : Answer) (s : Status) → Ans file before after a → Del a before after s → after.store.files ≡ before.store.files → after.store.save_faults ≡ before.store.save_faults
-    → before.store.read_faults ≤ after.store.read_faults → Runs file before after s
-runs file before after a s ans del files saves later = record {
-  done = ended_done file before after a s ans del;
-  refused = ended_refused file before after a s ans del;
-  read_fault = ended_unread file before after a s ans del;
-  write_fault = ended_cut file before after a s ans del;
-  memory = ended_memory file before after a s ans del;
+pub does : (kind : JobKind) (file : List ℕ) (before after : Seen) (a : Answer) (s : Status) → Ans kind file before after a → Del a before after s → after.store.files ≡ before.store.files → after.store.save_faults ≡ before.store.save_faults
+    → before.store.read_faults ≤ after.store.read_faults → Does kind file before after s
+does kind file before after a s ans del files saves later = record {
+  done = ended_done kind file before after a s ans del;
+  refused = ended_refused kind file before after a s ans del;
+  read_fault = ended_unread kind file before after a s ans del;
+  write_fault = ended_cut kind file before after a s ans del;
+  memory = ended_memory kind file before after a s ans del;
   only = ended_only before after a s del;
-  exactly = λ told r there is quiet. quietly before after (reply_of a) r s del quiet (settled file before after a ans told r there is quiet);
-  missing = λ lacks quiet. quietly before after (reply_of a) unread_reply s del quiet (lacking file before after a ans lacks);
-  headline = λ told p there short spells quiet. quietly before after (reply_of a) (output_reply (output_of p)) s del quiet (settled file before after a ans told (output_reply (output_of p)) there (RunReply.program p short spells refl) quiet);
+  exactly = λ told r there is quiet. quietly before after (reply_of a) r s del quiet (settled kind file before after a ans told r there is quiet);
+  missing = λ lacks quiet. quietly before after (reply_of a) unread_reply s del quiet (lacking kind file before after a ans lacks);
+  headline = λ told p is_run there spells plain quiet. quietly before after (reply_of a) (output_reply (output_of p)) s del quiet
+      (settled kind file before after a ans told (output_reply (output_of p)) there (subst (λ (k : JobKind). JobReply k told (output_reply (output_of p))) (sym is_run) (JobReply.to_tree p spells (TreeReply.ran plain))) quiet);
   files = files;
   saves = saves;
   reads_later = later;

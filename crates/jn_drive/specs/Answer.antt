@@ -3,21 +3,25 @@ use Rattle.std.specs.Prelude.{◌≡◌, ℕ, ◌<◌, ◌≤◌, ◌⊎◌, Lis
 use Rattle.std.specs.Io.KnownBytes.{prepend_known, IsAtEnd}
 use Rattle.std.specs.declared.option.Option.{Option}
 use Rattle.jn_base.specs.declared.tree.Program.{Program}
+use Rattle.jn_base.specs.declared.refusal.Refusal.{Refusal}
+use Rattle.jn_base.specs.declared.refusal.Rule.TheVariants.{E02}
+use Rattle.jn_base.specs.Spelling.{refusal}
 use Rattle.jn_io.specs.Causes.{Rose}
 use Rattle.jn_io.specs.Told.{Files, Lacks}
-use Rattle.jn_plain.specs.Spelling.{SourceSpells}
+use Rattle.jn_parser.specs.declared.fault.ParseFault.{ParseFault}
+use Rattle.jn_parser.specs.declared.fault.ParseFault.TheVariants as parse_fault
 use Rattle.jn_drive.specs.declared.halt.Halt.{Halt}
 use Rattle.jn_drive.specs.declared.halt.Halt.TheVariants as halt
-use Rattle.jn_drive.specs.Meaning.{output_of}
-use Rattle.jn_drive.specs.Reply.{Reply, syntax_reply, too_long_reply, unread_reply, memory_reply, output_reply, source_limit}
+use Rattle.jn_drive.specs.declared.words.JobKind.{JobKind}
+use Rattle.jn_drive.specs.Reply.{Reply, refused_reply, not_taken_reply, unread_reply, memory_reply, output_reply, TreeReply, JobReply}
 use Rattle.jn_drive.specs.Seen.{IsSource}
+use Rattle.jn_words.specs.Line.{line_of}
 
 abbrev pub Answer : Type 0
 Answer = Result (List ℕ) Halt
 
 abbrev pub halt_reply : Halt → Reply
-halt_reply halt.TooLong = too_long_reply
-halt_reply halt.Syntax = syntax_reply
+halt_reply (halt.Refused line) = refused_reply line
 halt_reply halt.Unread = unread_reply
 halt_reply halt.Memory = memory_reply
 
@@ -25,26 +29,52 @@ abbrev pub reply_of : Answer → Reply
 reply_of (Ok output) = output_reply output
 reply_of (Err h) = halt_reply h
 
--- The bytes spell this program and no other.
-pub record SpellsOnly (p : Program) (bytes : List ℕ) : Type 0 where
-  pub spells : SourceSpells p bytes
-  pub only : (q : Program) → SourceSpells q bytes → p ≡ q
+-- The reply of a job to these bytes is this one and no other.
+pub record IsOnlyReply (kind : JobKind) (bytes : List ℕ) (reply : Reply) : Type 0 where
+  pub is : JobReply kind bytes reply
+  pub only : (other : Reply) → JobReply kind bytes other → reply ≡ other
 
 -- The answer is that to these bytes, or memory ran out.
-abbrev pub Judges : List ℕ → Answer → Type 0
-Judges bytes (Ok output) = (length bytes ≤ source_limit) × ((p : Program) × SpellsOnly p bytes × (output ≡ output_of p))
-Judges bytes (Err halt.TooLong) = source_limit < length bytes
-Judges bytes (Err halt.Syntax) = (length bytes ≤ source_limit) × ((p : Program) → SourceSpells p bytes → ⊥)
-Judges bytes (Err halt.Unread) = ⊥
-Judges bytes (Err halt.Memory) = ⊤
+abbrev pub Judges : JobKind → List ℕ → Answer → Type 0
+Judges kind bytes (Ok output) = IsOnlyReply kind bytes (output_reply output)
+Judges kind bytes (Err (halt.Refused line)) = IsOnlyReply kind bytes (refused_reply line)
+Judges kind bytes (Err halt.Unread) = ⊥
+Judges kind bytes (Err halt.Memory) = ⊤
+
+-- The answer is that to this tree, or memory ran out.
+abbrev pub AnswersTree : Program → JobKind → Answer → Type 0
+AnswersTree p kind (Ok output) = TreeReply p kind (output_reply output)
+AnswersTree p kind (Err (halt.Refused line)) = TreeReply p kind (refused_reply line)
+AnswersTree p kind (Err halt.Unread) = ⊥
+AnswersTree p kind (Err halt.Memory) = ⊤
+
+abbrev pub too_long_refusal : Refusal
+too_long_refusal = refusal E02 (record { line = 1; column = 1 }) None
+
+-- The source is refused with the line of this refusal, or memory ran out. Of a program the line tells names.
+abbrev pub IsRefusedBy : Option Program → Refusal → Halt → Type 0
+IsRefusedBy p r (halt.Refused line) = line ≡ line_of p r
+IsRefusedBy p r halt.Unread = ⊥
+IsRefusedBy p r halt.Memory = ⊤
+
+-- What the parser's fault comes to.
+abbrev pub IsOfFault : ParseFault → Halt → Type 0
+IsOfFault (parse_fault.Refused r) h = IsRefusedBy None r h
+IsOfFault parse_fault.Memory h = h ≡ halt.Memory
+
+-- It is refused as a tree that isn't taken yet, or memory ran out.
+abbrev pub IsNotTaken : Halt → Type 0
+IsNotTaken (halt.Refused line) = refused_reply line ≡ not_taken_reply
+IsNotTaken halt.Unread = ⊥
+IsNotTaken halt.Memory = ⊤
 
 -- The answer is that to the bytes of the file, which were read without a fault; or the file couldn't
 -- be read, or memory ran out.
-abbrev pub Answers : Option Files → List ℕ → ℕ → ℕ → Answer → Type 0
-Answers files file faults faults' (Err halt.Unread) = Rose faults faults' ⊎ Lacks files file
-Answers files file faults faults' (Err halt.Memory) = faults' ≡ faults
-Answers files file faults faults' answer =
-    (faults' ≡ faults) × ((bytes : List ℕ) × IsSource files file bytes × Judges bytes answer)
+abbrev pub Answers : JobKind → Option Files → List ℕ → ℕ → ℕ → Answer → Type 0
+Answers kind files file faults faults' (Err halt.Unread) = Rose faults faults' ⊎ Lacks files file
+Answers kind files file faults faults' (Err halt.Memory) = faults' ≡ faults
+Answers kind files file faults faults' answer =
+    (faults' ≡ faults) × ((bytes : List ℕ) × IsSource files file bytes × Judges kind bytes answer)
 
 -- Of a source no more than this is read: one byte more than it may have.
 abbrev pub most_read : ℕ
@@ -61,8 +91,7 @@ pub record IsFrontOf (bytes front : List ℕ) : Type 0 where
 abbrev pub ReadsFile : Option Files → List ℕ → ℕ → ℕ → Answer → Type 0
 ReadsFile files file faults faults' (Ok front) =
     (faults' ≡ faults) × ((bytes : List ℕ) × IsSource files file bytes × IsFrontOf bytes front)
-ReadsFile files file faults faults' (Err halt.TooLong) = ⊥
-ReadsFile files file faults faults' (Err halt.Syntax) = ⊥
+ReadsFile files file faults faults' (Err (halt.Refused line)) = ⊥
 ReadsFile files file faults faults' (Err halt.Unread) = Rose faults faults' ⊎ Lacks files file
 ReadsFile files file faults faults' (Err halt.Memory) = faults' ≡ faults
 
@@ -74,8 +103,7 @@ IsFront (Some bytes) front = IsFrontOf bytes front
 -- The front of the rest was read; or reading failed, or memory ran out.
 abbrev pub ReadsRest : Option (List ℕ) → ℕ → ℕ → Answer → Type 0
 ReadsRest rest faults faults' (Ok front) = (faults' ≡ faults) × IsFront rest front
-ReadsRest rest faults faults' (Err halt.TooLong) = ⊥
-ReadsRest rest faults faults' (Err halt.Syntax) = ⊥
+ReadsRest rest faults faults' (Err (halt.Refused line)) = ⊥
 ReadsRest rest faults faults' (Err halt.Unread) = Rose faults faults'
 ReadsRest rest faults faults' (Err halt.Memory) = faults' ≡ faults
 
@@ -92,7 +120,6 @@ pub record TakesPiece (rest rest' : Option (List ℕ)) (source source' : List �
 -- One call of `read`: it took a piece; or reading failed, or memory ran out.
 abbrev pub ReadsPiece : Option (List ℕ) → Option (List ℕ) → ℕ → ℕ → List ℕ → List ℕ → ℕ → Result ℕ Halt → Type 0
 ReadsPiece rest rest' faults faults' source source' room (Ok n) = (faults' ≡ faults) × TakesPiece rest rest' source source' room n
-ReadsPiece rest rest' faults faults' source source' room (Err halt.TooLong) = ⊥
-ReadsPiece rest rest' faults faults' source source' room (Err halt.Syntax) = ⊥
+ReadsPiece rest rest' faults faults' source source' room (Err (halt.Refused line)) = ⊥
 ReadsPiece rest rest' faults faults' source source' room (Err halt.Unread) = Rose faults faults'
 ReadsPiece rest rest' faults faults' source source' room (Err halt.Memory) = faults' ≡ faults

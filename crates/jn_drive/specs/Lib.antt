@@ -1,9 +1,14 @@
 pub mod Answer
+pub mod Check
 pub mod Code
+pub mod First
+pub mod Homes
 pub mod Job
 pub mod Machine
 pub mod Meaning
+pub mod Plain
 pub mod Reply
 pub mod Seen
 pub mod Status
+pub mod Unknown
 pub mod Words

@@ -1,18 +1,17 @@
-ghost use Rattle.std.specs.Prelude.{◌≡◌, codes};
+ghost use Rattle.std.specs.Prelude.{◌≡◌};
 ghost use Rattle.jn_drive.specs.declared.halt.Halt.TheVariants as halts;
 ghost use Rattle.jn_drive.specs.Answer.{halt_reply};
 
 use crate::status::Status;
 use jn_io::Failed;
+use sqlite_items::Items;
 use std::alloc::AllocError;
 
 /// Why a job has no output.
-#[derive(Clone, Copy, Debug, PartialEq, Eq)]
+#[derive(Debug, Drop)]
 pub enum Halt {
-    /// The source has too many bytes.
-    TooLong,
-    /// The source spells no program.
-    Syntax,
+    /// The source is refused, with this line.
+    Refused(Items<u8>),
     /// The file isn't there, or couldn't be read.
     Unread,
     /// Memory ran out.
@@ -36,23 +35,22 @@ impl From<AllocError> for Halt {
 }
 
 /// The status that tells it.
-pub fn status_of(halt: Halt) -> Status
-    ensures { result ≡ (halt_reply halt).status }
+pub fn status_of(halt: &Halt) -> Status
+    ensures { result ≡ (halt_reply halt.now).status }
 {
     match halt {
-        Halt::TooLong | Halt::Syntax => Status::Refused,
+        Halt::Refused(_) => Status::Refused,
         Halt::Unread => Status::ReadFault,
         Halt::Memory => Status::Memory,
     }
 }
 
 /// The line that tells it.
-pub fn line_of(halt: Halt) -> &'static [u8]
-    ensures { result.now ≡ (halt_reply halt).line }
+pub fn line_of(halt: &Halt) -> &[u8]
+    ensures { result.now ≡ (halt_reply halt.now).line }
 {
     match halt {
-        Halt::TooLong => b"1:1: E02 TooLong\n",
-        Halt::Syntax => b"1:1: E01 Syntax\n",
+        Halt::Refused(line) => line.as_slice(),
         Halt::Unread => b"fault: read\n",
         Halt::Memory => b"fault: memory\n",
     }

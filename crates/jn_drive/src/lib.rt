@@ -1,30 +1,39 @@
 //! The top call: what `jandc` does with its words, its files and its outputs.
 #![tactic(auto)]
 
+mod check;
 mod code;
 mod halt;
+mod homes;
+mod job;
 mod machine;
+mod plain;
 mod put;
 mod read;
-mod run;
 mod status;
 #[cfg(test)]
 mod tests;
+#[cfg(test)]
+mod tests_check;
+mod twice;
+mod unknown;
 mod words;
 
 ghost use Rattle.std.specs.Prelude.{◌≡◌, map, string_bytes, None};
-ghost use Rattle.jn_drive.specs.Words.{file_of};
+ghost use Rattle.jn_drive.specs.Words.{job_of};
 ghost use Rattle.jn_drive.specs.Job.{DoesJob};
 
+use crate::job::do_job;
 use crate::put::misuse;
-use crate::run::run;
-use crate::words::file_of;
+use crate::words::{file_in, kind_in};
 use jn_io::{Sink, Store};
 pub use status::Status;
 use std::alloc::Global;
 
-/// Does the job that the words are: `run FILE`, which runs the program that the file spells and puts
-/// what it prints on `out`. All other words are answered by the usage line.
+/// Does the job that the words are: `show FILE` puts the canonical text of the program that the file
+/// spells on `out`, `run FILE` runs it and puts what it prints, and `check FILE` puts nothing. A source that
+/// spells none is refused by a line on `err`, and by `check` one whose declarations break a rule. All other
+/// words are answered by the usage line.
 ///
 /// `DoesJob` in specs/Job.antt says for each status when it comes, and what the files and the outputs
 /// then are.
@@ -36,9 +45,9 @@ pub fn top<S: Store, O: Sink, E: Sink>(
     err: &mut E,
 ) -> Status
     // Usage comes only where the words are no job.
-    ensures usage { result ≡ Status.Usage → file_of (map string_bytes words.now) ≡ None }
+    ensures usage { result ≡ Status.Usage → job_of (map string_bytes words.now) ≡ None }
     // By the job: from what is seen of the store and the outputs before the call, to what is seen after.
-    ensures job { DoesJob (file_of (map string_bytes words.now))
+    ensures job { DoesJob (job_of (map string_bytes words.now))
         (record {
           store = record {
             files = S.files store.old;
@@ -59,8 +68,8 @@ pub fn top<S: Store, O: Sink, E: Sink>(
         })
         result }
 {
-    match file_of(words) {
+    match kind_in(words) {
         None => misuse(err),
-        Some(file) => run(alloc, file, store, out, err),
+        Some(kind) => do_job(alloc, kind, file_in(words), store, out, err),
     }
 }

@@ -55,7 +55,7 @@ pub fn deliver<O: Sink, E: Sink>(
 {
     match answer {
         Ok(output) => put_all(out, output.as_slice(), Status::Done),
-        Err(halt) => put_all(err, line_of(halt), status_of(halt)),
+        Err(halt) => put_all(err, line_of(&halt), status_of(&halt)),
     }
 }
 

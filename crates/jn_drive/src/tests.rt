@@ -74,7 +74,7 @@ fn words_of(alloc: Global, line: &str) -> Result<Vec<String>, AllocError> {
     Ok(all)
 }
 
-fn store_of(alloc: Global, source: &[u8], fails: &[u64]) -> Result<MemStore, AllocError> {
+pub fn store_of(alloc: Global, source: &[u8], fails: &[u64]) -> Result<MemStore, AllocError> {
     let mut store = MemStore::new(alloc, fails)?;
     store.add("f", source)?;
     Ok(store)
@@ -94,7 +94,7 @@ fn prints(alloc: Global, count: usize, spaces: usize) -> Result<Vec<u8>, AllocEr
 }
 
 /// Calls `top`, and expects this status and these bytes on the two outputs.
-fn expect<S: Store>(
+pub fn expect<S: Store>(
     rt: &(impl Abort + Alloc<A = Global>),
     line: &str,
     store: &mut S,

@@ -1,0 +1,170 @@
+ghost use Rattle.std.specs.Prelude.{◌≡◌, ◌≤◌, IfOk, None, option_copied};
+ghost use Rattle.jn_table.specs.Rows.{IsNamed};
+ghost use Rattle.jn_drive.specs.declared.words.JobKind.TheVariants.{Check};
+ghost use Rattle.jn_drive.specs.Meaning.{output_of};
+ghost use Rattle.jn_drive.specs.Answer.{AnswersTree, IsRefusedBy, IsOfFault, IsNotTaken, Judges, Answers, too_long_refusal};
+ghost use Rattle.jn_drive.specs.Job.{Does};
+
+use crate::check::{CheckFault, check_declarations};
+use crate::code::code_of;
+use crate::halt::Halt;
+use crate::machine::run_code;
+use crate::plain::is_plain;
+use crate::put::deliver;
+use crate::read::read_source;
+use crate::status::Status;
+use crate::words::JobKind;
+use jn_base::refusal::{Refusal, Rule};
+use jn_base::tree::{Place, Program};
+use jn_io::{Sink, Store};
+use jn_parser::{ParseFault, parse};
+use jn_printer::print_program;
+use jn_words::refusal_line;
+use sqlite_items::Items;
+use std::alloc::{AllocError, Global};
+
+/// How many bytes a source may have.
+const LIMIT: usize = 1_048_576;
+
+/// What the file's bytes come to.
+///
+/// The file is read whole first, or its first 1,048,577 bytes.
+fn answer<S: Store>(
+    alloc: Global,
+    kind: JobKind,
+    file: &str,
+    store: &mut S,
+) -> Result<Items<u8>, Halt>
+    ensures answer { Answers kind (S.files store.old) file.now
+        (S.read_faults store.old) (S.read_faults store.new) result }
+    ensures files { S.files store.new ≡ S.files store.old }
+    ensures saves { S.save_faults store.new ≡ S.save_faults store.old }
+    ensures later { S.read_faults store.old ≤ S.read_faults store.new }
+{
+    let source = read_source(alloc, file, store)?;
+    judge(alloc, kind, source.as_slice())
+}
+
+/// What the bytes of a source come to.
+fn judge(alloc: Global, kind: JobKind, source: &[u8]) -> Result<Items<u8>, Halt>
+    ensures { Judges kind source.now result }
+{
+    if source.len() > LIMIT {
+        return Err(refused(alloc, None, &too_long()));
+    }
+    match parse(alloc, source) {
+        Ok(program) => answer_tree(alloc, kind, &program),
+        Err(fault) => Err(unparsed(alloc, &fault)),
+    }
+}
+
+/// Why there is no tree.
+fn unparsed(alloc: Global, fault: &ParseFault) -> Halt
+    ensures { IsOfFault fault.now result }
+{
+    match fault {
+        ParseFault::Refused(refusal) => refused(alloc, None, refusal),
+        ParseFault::Memory => Halt::Memory,
+    }
+}
+
+/// The refusal of a source that has too many bytes.
+fn too_long() -> Refusal
+    ensures { result ≡ too_long_refusal }
+{
+    Refusal {
+        rule: Rule::E02,
+        at: Place { line: 1, column: 1 },
+        class: None,
+        member: None,
+        limit: None,
+    }
+}
+
+/// A refusal of a source, with its line. Where there is a tree, the line tells its names.
+fn refused(alloc: Global, program: Option<&Program>, refusal: &Refusal) -> Halt
+    ensures { IsRefusedBy (option_copied program.entry) refusal.now result }
+{
+    match refusal_line(alloc, program, refusal) {
+        Ok(line) => Halt::Refused(Items::from_vec(line)),
+        Err(_) => Halt::Memory,
+    }
+}
+
+/// What a tree comes to.
+fn answer_tree(alloc: Global, kind: JobKind, program: &Program) -> Result<Items<u8>, Halt>
+    requires { IsNamed program.now }
+    ensures { AnswersTree program.now kind result }
+{
+    match kind {
+        JobKind::Show => Ok(Items::from_vec(print_program(alloc, program)?)),
+        JobKind::Run if is_plain(program) => Ok(output(alloc, program)?),
+        JobKind::Run => Err(not_taken(alloc)),
+        JobKind::Check => checked(alloc, program),
+    }
+}
+
+/// What the declarations of a tree come to: nothing is put where they pass.
+fn checked(alloc: Global, program: &Program) -> Result<Items<u8>, Halt>
+    requires { IsNamed program.now }
+    ensures { AnswersTree program.now Check result }
+{
+    match check_declarations(alloc, program) {
+        Ok(()) => Ok(Items::new(alloc)),
+        Err(CheckFault::Refused(refusal)) => Err(refused(alloc, Some(program), &refusal)),
+        Err(CheckFault::Memory) => Err(Halt::Memory),
+    }
+}
+
+/// A tree that isn't taken yet.
+fn not_taken(alloc: Global) -> Halt
+    ensures { IsNotTaken result }
+{
+    match Items::from_slice(alloc, b"1:1: E01 Syntax\n") {
+        Ok(line) => Halt::Refused(line),
+        Err(_) => Halt::Memory,
+    }
+}
+
+/// What the program prints: it is turned into plain code, and that is run.
+fn output(alloc: Global, program: &Program) -> Result<Items<u8>, AllocError>
+    ensures { IfOk result (λ bytes. bytes ≡ output_of program.now) }
+{
+    let code = code_of(alloc, program)?;
+    let bytes = run_code(alloc, code.as_slice())?;
+    Ok(Items::from_vec(bytes))
+}
+
+/// A job on a file. Its reply is made first, and then put.
+pub fn do_job<S: Store, O: Sink, E: Sink>(
+    alloc: Global,
+    kind: JobKind,
+    file: &str,
+    store: &mut S,
+    out: &mut O,
+    err: &mut E,
+) -> Status
+    ensures { Does kind file.now
+        (record {
+          store = record {
+            files = S.files store.old;
+            read_faults = S.read_faults store.old;
+            save_faults = S.save_faults store.old;
+          };
+          out = record { taken = O.taken out.old; faults = O.faults out.old };
+          err = record { taken = E.taken err.old; faults = E.faults err.old };
+        })
+        (record {
+          store = record {
+            files = S.files store.new;
+            read_faults = S.read_faults store.new;
+            save_faults = S.save_faults store.new;
+          };
+          out = record { taken = O.taken out.new; faults = O.faults out.new };
+          err = record { taken = E.taken err.new; faults = E.faults err.new };
+        })
+        result }
+{
+    let answer = answer(alloc, kind, file, store);
+    deliver(answer, out, err)
+}
