@@ -12,7 +12,7 @@ use Rattle.jn_io.specs.Told.{Files}
 use Rattle.jn_words.specs.Line.{line_of}
 use Rattle.jn_parser.specs.declared.fault.ParseFault.{ParseFault}
 use Rattle.jn_parser.specs.declared.fault.ParseFault.TheVariants as parse_fault
-use Rattle.jn_parser.specs.Answer.{IfRefused, IsRefusedUnlessMemory}
+use Rattle.jn_parser.specs.Parsing.{IfRefused, IsRefused}
 use Rattle.jn_drive.specs.declared.halt.Halt.{Halt}
 use Rattle.jn_drive.specs.declared.halt.Halt.TheVariants as halt
 use Rattle.jn_drive.specs.declared.words.JobKind.{JobKind}
@@ -87,7 +87,7 @@ refused_only kind bytes r (halt.Refused line) is by only = subst (λ (l : List �
 refused_only kind bytes r halt.Unread is by only = absurd is
 refused_only kind bytes r halt.Memory is by only = is
 
-pub fault_judged : (kind : JobKind) (bytes : List ℕ) (f : ParseFault) (h : Halt) → IsOfFault f h → IfRefused {T = Program} (Err f) (IsTextRefused bytes) → ((s : Refusal) → IsTextRefused bytes s → IsRefusedUnlessMemory {T = Program} (Err f) s) → Judges kind bytes (Err h)
+pub fault_judged : (kind : JobKind) (bytes : List ℕ) (f : ParseFault) (h : Halt) → IsOfFault f h → IfRefused {T = Program} (Err f) (IsTextRefused bytes) → ((s : Refusal) → IsTextRefused bytes s → IsRefused {T = Program} (Err f) s) → Judges kind bytes (Err h)
 fault_judged kind bytes (parse_fault.Refused r) h is by only = refused_only kind bytes r h is by only
 fault_judged kind bytes parse_fault.Memory h is by only = subst (λ (x : Halt). Judges kind bytes (Err x)) (sym is) tt
 

@@ -15,4 +15,4 @@ pub returns-in-Ok : goal.returns-in-Ok
 returns-in-Ok c = spelled _ _ _ c.in-Ok.ensures.found (λ q is. c.in-Ok.ensures.only q is) _ c.answer_tree.ensures
 
 pub returns-in-Err : goal.returns-in-Err
-returns-in-Err c = fault_judged _ _ _ c.unparsed.result c.unparsed.ensures c.in-Err.ensures.refused c.in-Err.ensures.refused_only
+returns-in-Err c = fault_judged _ _ _ c.unparsed.result c.unparsed.ensures c.in-Err.ensures.refused c.in-Err.ensures.only_refused
