@@ -1,20 +1,16 @@
 -- What is refused of a program's declarations, from what the passes found.
 use Rattle.std.proofs.Common.{◌≡◌, ◌∙◌, ℕ, List, [], ◌∷◌, reverse, refl, sym, ap, subst, Option, Some, None, Result, Ok, Err, OnOk, IfErr, IsSome}
 use Rattle.std.proofs.lemmas.List.{reverse-reverse}
-use Rattle.jn_base.specs.declared.tree.Name.{Name}
 use Rattle.jn_base.specs.declared.tree.Place.{Place}
 use Rattle.jn_base.specs.declared.tree.Program.{Program}
 use Rattle.jn_base.specs.declared.path.Path.{Path as ShownPath}
 use Rattle.jn_base.specs.declared.refusal.Refusal.{Refusal}
-use Rattle.jn_base.specs.declared.refusal.Rule.{Rule}
 use Rattle.jn_base.specs.declared.refusal.Rule.TheVariants as rule
 use Rattle.jn_base.specs.Paths.{Path, shown}
 use Rattle.jn_base.specs.Universe.{InUniverse}
 use Rattle.jn_base.specs.ClassOrder.{IsFirst}
-use Rattle.jn_base.specs.Duplicates.{duplicates, IsFirstDuplicate}
-use Rattle.jn_base.specs.Members.{IsHome}
-use Rattle.jn_base.specs.TableRules.{IsOver, IsCycle, IsMixed, HasUnknown, NoneIs, TableRefuses, TablePasses, DeclarationsRefuse, DeclarationsPass, at_home, unknown_at}
-use Rattle.jn_base.specs.LawsOfTable.{HasHome}
+use Rattle.jn_base.specs.Duplicates.{duplicates}
+use Rattle.jn_base.specs.TableRules.{IsOver, IsCycle, IsMixed, NoneIs, TableRefuses, DeclarationsRefuse, DeclarationsPass}
 use Rattle.jn_base.proofs.Homes.{home_of}
 use Rattle.jn_base.proofs.TableLaws.{declarations_refused_or_passed, one_declarations_refusal}
 use Rattle.jn_table.specs.Rows.{IsNamed}
@@ -129,6 +125,6 @@ passed_by_all p (Err Memory) refused is = tt
 pub cause_is : {T : Type 0} (p : Program) (a : Result T CheckFault) (f : CheckFault) (r : Refusal) → IfErr a (λ f. IsCauseOf p f) → a ≡ Err f → f ≡ Refused r → DeclarationsRefuse p r
 cause_is {T = T} p a f r is e same =
     subst (λ (g : CheckFault). IsCauseOf p g) same (by_error a f e is) where
-  by_error : (b : Result T CheckFault) (g : CheckFault) → b ≡ Err g → IfErr b (λ h. IsCauseOf p h) → IsCauseOf p g
-  by_error (Ok x) g e is = absurd (cc e)
-  by_error (Err h) g e is = let k : h ≡ g = cc e in subst (λ (x : CheckFault). IsCauseOf p x) k is
+      by_error : (b : Result T CheckFault) (g : CheckFault) → b ≡ Err g → IfErr b (λ h. IsCauseOf p h) → IsCauseOf p g
+      by_error (Ok x) g e is = absurd (cc e)
+      by_error (Err h) g e is = let k : h ≡ g = cc e in subst (λ (x : CheckFault). IsCauseOf p x) k is

@@ -1,5 +1,5 @@
 -- Homes, found by going down the declared names of a path.
-use Rattle.std.proofs.Common.{◌≡◌, ◌≢◌, ◌∙◌, ℕ, zero, suc, ◌<◌, ◌≤◌, ◌+◌, List, [], ◌∷◌, ◌++◌, length, length-append, drop, refl, sym, ap, subst, Contains, Some, None, Option, arith, reverse, append-nil, append_assoc, Bool, true, false, nat_lt, inl, inr, get_or}
+use Rattle.std.proofs.Common.{◌≡◌, ◌∙◌, ℕ, zero, suc, ◌<◌, ◌≤◌, ◌+◌, List, [], ◌∷◌, ◌++◌, length, drop, refl, sym, ap, subst, Contains, Some, None, arith, reverse, append-nil, append_assoc, Bool, true, false, nat_lt, inl, inr, get_or}
 use Rattle.std.proofs.lemmas.List.{reverse-append}
 use Rattle.std.proofs.lemmas.List.Elements.{Contains-append_left, Contains-append_right, Contains-append_cases}
 use Rattle.std.proofs.lemmas.Bool.{ltb-true, ltb-false}
@@ -13,7 +13,7 @@ use Rattle.jn_base.specs.declared.tree.Member.{Member, out-Member}
 use Rattle.jn_base.specs.declared.tree.Member.TheOpen.{Member-F}
 use Rattle.jn_base.specs.declared.tree.Member.TheVariants as member
 use Rattle.jn_base.specs.declared.tree.Member.TheVariants.{outs-Inner, outs-Slot, outs-Body}
-use Rattle.jn_base.specs.Paths.{Path, StandsIn, StandsAt, Declared, nested, and_nested}
+use Rattle.jn_base.specs.Paths.{Path, StandsAt, Declared, nested, and_nested}
 use Rattle.jn_base.proofs.NameTests.{in_cons, in_none, first}
 use Rattle.jn_drive.specs.Homes.{Finds, OnWay}
 use Rattle.jn_drive.proofs.TwiceSteps.{at_index}
@@ -168,7 +168,7 @@ searched_next all left left' d x s e not = record {
   front = s.front ++ d ∷ [];
   split = s.split ∙ (ap (λ (l : List Decl). s.front ++ l) e ∙ sym (append_assoc s.front (d ∷ []) left'));
   none = λ f c is. elim (Contains-append_cases s.front (d ∷ []) f c) [
-    inl h ↦ s.none f h is
+    | inl h ↦ s.none f h is
     | inr h ↦ elim (in_cons d [] f h) [ inl same ↦ not (ap (λ (y : Decl). y.name.name) same ∙ is) | inr h' ↦ in_none f h' ]
   ];
 }
@@ -185,7 +185,7 @@ inner_found m d x e is = (subst (λ (o : Member-F Member Decl). Contains (and_ne
 pub inner_other : (m : Member) (d : Decl) (x : Name) → m ≡ member.Inner d → (d.name.name ≡ x → ⊥) → Finds (nested (m ∷ [])) x None
 inner_other m d x e not f c is =
     elim (in_cons d [] f (subst (λ (o : Member-F Member Decl). Contains (and_nested o []) f) (ap out-Member e ∙ outs-Inner d) c)) [
-      inl same ↦ not (ap (λ (y : Decl). y.name.name) same ∙ is)
+      | inl same ↦ not (ap (λ (y : Decl). y.name.name) same ∙ is)
       | inr h ↦ in_none f h
     ]
 

@@ -23,7 +23,7 @@ use Rattle.jn_drive.specs.Plain.{IsPlain}
 use Rattle.jn_drive.specs.Reply.{Reply, TreeReply, JobReply, refused_reply, output_reply}
 use Rattle.jn_drive.specs.Seen.{IsSource}
 use Rattle.jn_drive.proofs.Spelled.{spelled_is_named}
-use Rattle.jn_drive.specs.Answer.{Answer, IsFrontOf, Judges, Answers, AnswersTree, IsOnlyReply, IsRefusedBy, IsOfFault, IsNotTaken, too_long_refusal, reply_of}
+use Rattle.jn_drive.specs.Answer.{Answer, IsFrontOf, Judges, Answers, AnswersTree, IsOnlyReply, IsRefusedBy, IsOfFault, IsNotTaken, too_long_refusal}
 
 -- A tree has one reply.
 tree_once : (p : Program) → IsNamed p → (kind : JobKind) (a b : Reply) → TreeReply p kind a → TreeReply p kind b → a ≡ b
@@ -124,7 +124,7 @@ short_or_long n false is = inl (ltb-false greatest_source n is)
 
 front_only : (kind : JobKind) (bytes front : List ℕ) → IsFrontOf bytes front → (r : Reply) → IsOnlyReply kind front r → IsOnlyReply kind bytes r
 front_only kind bytes front is r only = elim (short_or_long (length front) (nat_lt greatest_source (length front)) refl) [
-  inl short ↦ subst (λ (bs : List ℕ). IsOnlyReply kind bs r) (all_read bytes front is short) only
+  | inl short ↦ subst (λ (bs : List ℕ). IsOnlyReply kind bs r) (all_read bytes front is short) only
   | inr long ↦ other_long kind bytes front r (longer bytes front is long) long only
 ]
 

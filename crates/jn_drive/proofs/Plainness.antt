@@ -1,5 +1,5 @@
 -- Which expressions are plain, form by form.
-use Rattle.std.proofs.Common.{◌≡◌, ◌&&◌, Bool, true, false, List, map, refl, ℤ}
+use Rattle.std.proofs.Common.{◌≡◌, ◌&&◌, true, List, map, ℤ}
 use Rattle.jn_base.specs.declared.tree.Level.{Level}
 use Rattle.jn_base.specs.declared.tree.Expr.{Expr}
 use Rattle.jn_base.specs.declared.tree.Link.{Link}

@@ -2,7 +2,6 @@
 use Rattle.std.proofs.Common.{◌≡◌, ◌∙◌, ℕ, ◌≤◌, ◌⊎◌, inl, inr, List, sym, ap, subst, refl, Ok, Err, Some, None, arith}
 use Rattle.std.specs.declared.option.Option.{Option}
 use Rattle.std.proofs.lemmas.Option.{same_Some}
-use Rattle.jn_base.specs.declared.tree.Program.{Program}
 use Rattle.jn_io.specs.Told.{Files, Lacks}
 use Rattle.jn_drive.specs.declared.status.Status.{Status}
 use Rattle.jn_drive.specs.declared.status.Status.TheVariants as statuses

@@ -1,11 +1,10 @@
 -- A program that is spelled has its names: equal ones have one number, and each name of a declaration is one of its own.
-use Rattle.std.proofs.Common.{◌≡◌, ◌∙◌, ℕ, ◌<◌, List, [], ◌∷◌, ◌++◌, length, map, refl, sym, ap, subst, ◌⊎◌, inl, inr, Contains, Some, None, drop, All, suc, Option}
+use Rattle.std.proofs.Common.{◌≡◌, ◌∙◌, ℕ, ◌<◌, List, [], ◌∷◌, ◌++◌, length, map, refl, sym, ap, subst, inl, inr, Contains, Some, None, All, suc, Option}
 use Rattle.std.specs.List.{slice_get}
 use Rattle.std.proofs.lemmas.Option.{slice_get_within, same_Some}
 use Rattle.std.proofs.lemmas.List.Elements.{Contains-append_left, Contains-append_right, Contains-append_cases, All-contains_itself, All-weaker}
 use Rattle.jn_base.specs.declared.tree.Name.{Name}
 use Rattle.jn_base.specs.declared.tree.Text.{Text}
-use Rattle.jn_base.specs.declared.tree.Named.{Named}
 use Rattle.jn_base.specs.declared.tree.Kind.{Kind}
 use Rattle.jn_base.specs.declared.tree.Decl.{Decl}
 use Rattle.jn_base.specs.declared.tree.Field.{Field}
@@ -25,10 +24,7 @@ use Rattle.jn_base.specs.declared.word.Mark.TheVariants.{OpenBrace, CloseBrace, 
 use Rattle.jn_base.specs.Parts.{Part, Role, Declares, lexeme_of, name, named, new_name, opening, mark}
 use Rattle.jn_base.specs.GrammarDecl.{IsInner, IsMember, IsMembers, IsTop, IsProgram}
 use Rattle.jn_base.specs.Spelling.{SourceSpells}
-use Rattle.jn_base.specs.Paths.{Path, StandsIn, StandsAt, Declared, nested, fields, methods, and_nested, and_field, and_method}
-use Rattle.jn_base.specs.ClassOrder.{HasDistinctNames, HasItsNames}
-use Rattle.jn_base.specs.Members.{MethodAt, FieldAt}
-use Rattle.jn_base.specs.LawsOfTable.{NamesItsPaths}
+use Rattle.jn_base.specs.Paths.{Path, StandsIn, StandsAt, nested, fields, methods, and_nested, and_field, and_method}
 use Rattle.jn_table.specs.Rows.{IsNamed}
 use Rattle.jn_base.proofs.NameTests.{in_cons, in_none, first, later}
 
@@ -101,7 +97,7 @@ nested_named : (n : ℕ) (k : Kind) (a l : ℕ) (w : List Part) (ms : List Membe
 nested_named n k a l _ _ IsMembers.no_member all d c = absurd (in_none d c)
 nested_named n k a l _ _ (IsMembers.then_member {v = v} {w = w} {ts = ts} (IsMember.declared {t = t} i) more) all d c =
     elim (in_cons t (nested ts) d (as_nested ts d (member.Inner t) _ (outs-Inner t) c)) [
-      inl is ↦ subst (λ (x : Decl). DeclNamed n x) is (inner_named n a l v t i (named_left n v w all))
+      | inl is ↦ subst (λ (x : Decl). DeclNamed n x) is (inner_named n a l v t i (named_left n v w all))
       | inr h ↦ nested_named n k a l w ts more (named_right n v w all) d h
     ]
 nested_named n k a l _ _ (IsMembers.then_member {v = v} {w = w} {ts = ts} (IsMember.slot {x = x} p s {t = ty} is_type) more) all d c =
@@ -119,7 +115,7 @@ field_named n k a l _ _ IsMembers.no_member all f c = absurd (in_none f c)
 field_named n k a l _ _ (IsMembers.then_member {v = v} {w = w} {ts = ts} (IsMember.declared {t = t} i) more) all f c = field_named n k a l w ts more (named_right n v w all) f (as_field ts f (member.Inner t) _ (outs-Inner t) c)
 field_named n k a l _ _ (IsMembers.then_member {v = v} {w = w} {ts = ts} (IsMember.slot {x = x} p s {w = u} {t = ty} is_type) more) all f c =
     elim (in_cons (record { ty = ty; name = named x p }) (fields ts) f (as_field ts f (member.Slot (record { ty = ty; name = named x p })) _ (outs-Slot (record { ty = ty; name = named x p })) c)) [
-      inl is ↦ subst (λ (y : Field). y.name.name.0 < n) is (name_behind n u v w x p (mark Semicolon s ∷ []) refl all)
+      | inl is ↦ subst (λ (y : Field). y.name.name.0 < n) is (name_behind n u v w x p (mark Semicolon s ∷ []) refl all)
       | inr h ↦ field_named n _ a l w ts more (named_right n v w all) f h
     ]
 field_named n k a l _ _ (IsMembers.then_member {v = v} {w = w} {ts = ts} (IsMember.method {x = x} p o c' b e {res = res} {ts = ps} {cs = cs} {ss = ss} is_res params sharing stmts) more) all f c =
@@ -132,7 +128,7 @@ method_named n k a l _ _ (IsMembers.then_member {v = v} {w = w} {ts = ts} (IsMem
     method_named n _ a l w ts more (named_right n v w all) m (as_method ts m (member.Slot (record { ty = ty; name = named x p })) _ (outs-Slot (record { ty = ty; name = named x p })) c)
 method_named n k a l _ _ (IsMembers.then_member {v = v} {w = w} {ts = ts} (IsMember.method {x = x} p o c' b e {r = r} {res = res} {ts = ps} {cs = cs} {ss = ss} is_res params sharing stmts) more) all m c =
     elim (in_cons (record { result = res; name = named x p; params = ps; sharing = cs; body = ss }) (methods ts) m (as_method ts m (member.Body (record { result = res; name = named x p; params = ps; sharing = cs; body = ss })) _ (outs-Body (record { result = res; name = named x p; params = ps; sharing = cs; body = ss })) c)) [
-      inl is ↦ subst (λ (y : Method). y.name.name.0 < n) is (name_behind n r v w x p _ refl all)
+      | inl is ↦ subst (λ (y : Method). y.name.name.0 < n) is (name_behind n r v w x p _ refl all)
       | inr h ↦ method_named n _ a l w ts more (named_right n v w all) m h
     ]
 
@@ -142,7 +138,7 @@ tops_named : (n : ℕ) (w : List Part) (ds : List Decl) → IsProgram w ds → A
 tops_named n _ _ IsProgram.no_top all d c = absurd (in_none d c)
 tops_named n _ _ (IsProgram.then_top {v = v} {w = w} {t = t} {ts = ts} i more) all d c =
     elim (in_cons t ts d c) [
-      inl is ↦ subst (λ (x : Decl). DeclNamed n x) is (top_named n v t i (named_left n v w all))
+      | inl is ↦ subst (λ (x : Decl). DeclNamed n x) is (top_named n v t i (named_left n v w all))
       | inr h ↦ tops_named n w ts more (named_right n v w all) d h
     ]
 
@@ -166,12 +162,12 @@ path_named : (n : ℕ) (p : Program) (w : List Part) → IsProgram w p.decls →
 path_named n p w is all [] d stands C c = absurd stands
 path_named n p w is all (B ∷ []) d (inside, same) C c =
     elim (in_cons B [] C c) [
-      inl e ↦ subst (λ (x : Name). x.0 < n) (same ∙ e) (standing_named n p w is all [] d inside).is_named
+      | inl e ↦ subst (λ (x : Name). x.0 < n) (same ∙ e) (standing_named n p w is all [] d inside).is_named
       | inr h ↦ absurd (in_none C h)
     ]
 path_named n p w is all (B ∷ D ∷ P) d ((e, stands, of_e, among), same) C c =
     elim (in_cons B (D ∷ P) C c) [
-      inl here ↦ subst (λ (x : Name). x.0 < n) (same ∙ here) (standing_named n p w is all (D ∷ P) d (e, stands, of_e, among)).is_named
+      | inl here ↦ subst (λ (x : Name). x.0 < n) (same ∙ here) (standing_named n p w is all (D ∷ P) d (e, stands, of_e, among)).is_named
       | inr h ↦ path_named n p w is all (D ∷ P) e (stands, of_e) C h
     ]
 
@@ -181,7 +177,7 @@ words_within : (bytes : List ℕ) (names texts : List Text) (ts : List Token) (w
 words_within bytes names texts _ _ AreWords.no_word w c x e = absurd (in_none w c)
 words_within bytes names texts (t ∷ ts) (v ∷ ws) (AreWords.then_word is more) w c x e =
     elim (in_cons v ws w c) [
-      inl same ↦ word_within names texts t.kind (text_of bytes t) w.word x (subst (λ (y : Lexeme). IsWord names texts t.kind (text_of bytes t) y.word) same is) e
+      | inl same ↦ word_within names texts t.kind (text_of bytes t) w.word x (subst (λ (y : Lexeme). IsWord names texts t.kind (text_of bytes t) y.word) same is) e
       | inr h ↦ words_within bytes names texts ts ws more w h x e
     ]
 
@@ -193,16 +189,16 @@ part_among : (w : List Part) (t : Part) → Contains w t → Contains (map lexem
 part_among [] t c = absurd (in_none t c)
 part_among (s ∷ w) t c =
     elim (in_cons s w t c) [
-      inl same ↦ subst (λ (x : Part). Contains (map lexeme_of (s ∷ w)) (lexeme_of x)) same (first (lexeme_of s) (map lexeme_of w))
+      | inl same ↦ subst (λ (x : Part). Contains (map lexeme_of (s ∷ w)) (lexeme_of x)) same (first (lexeme_of s) (map lexeme_of w))
       | inr h ↦ later (lexeme_of s) (map lexeme_of w) (lexeme_of t) (part_among w t h)
     ]
 
 part_within : (bytes : List ℕ) (names texts : List Text) (w : List Part) → AreWordsOf bytes names texts (map lexeme_of w) → AllNamed (length names) w
 part_within bytes names texts w of t c x e =
     elim (Contains-append_cases of.words (last_word bytes of.fault ∷ []) (lexeme_of t) (subst (λ (ws : List Lexeme). Contains ws (lexeme_of t)) of.whole (part_among w t c))) [
-      inl h ↦ words_within bytes names texts of.tokens of.words of.are_words (lexeme_of t) h x e
+      | inl h ↦ words_within bytes names texts of.tokens of.words of.are_words (lexeme_of t) h x e
       | inr h ↦ elim (in_cons (last_word bytes of.fault) [] (lexeme_of t) h) [
-        inl same ↦ absurd (no_name_last bytes of.fault x (ap (λ (y : Lexeme). name_number y.word) same ∙ e))
+        | inl same ↦ absurd (no_name_last bytes of.fault x (ap (λ (y : Lexeme). name_number y.word) same ∙ e))
         | inr none ↦ absurd (in_none (lexeme_of t) none)
       ]
     ]

@@ -1,6 +1,5 @@
 -- What stands twice in a tree, one level deep.
-use Rattle.std.proofs.Common.{◌≡◌, ◌∙◌, ℕ, Bool, List, [], ◌∷◌, ◌++◌, map, refl, ap, Option}
-use Rattle.jn_base.specs.declared.tree.Name.{Name}
+use Rattle.std.proofs.Common.{◌≡◌, ◌∙◌, ℕ, Bool, List, [], ◌∷◌, ◌++◌, map, ap, Option}
 use Rattle.jn_base.specs.declared.tree.Named.{Named}
 use Rattle.jn_base.specs.declared.tree.Place.{Place}
 use Rattle.jn_base.specs.declared.tree.TypeTerm.{TypeTerm}
@@ -18,8 +17,7 @@ use Rattle.jn_base.specs.declared.tree.Member.TheOpen.{Member-F}
 use Rattle.jn_base.specs.declared.tree.Member.TheFolds.{map-Member, fold_out-Member, fold_out-Decl}
 use Rattle.jn_base.specs.declared.tree.Member.TheVariants as member
 use Rattle.jn_base.specs.declared.tree.Member.TheVariants.{outs-Inner, outs-Slot, outs-Body}
-use Rattle.jn_base.specs.Paths.{Path}
-use Rattle.jn_base.specs.Duplicates.{InStmt, InMember, InDecl, Given, of_decls, of_fields, of_methods, nothing, only_if, has_name, duplicate, stmt_step, member_step, decl_step, in_block, in_stmt, in_member, in_decl, in_members, in_lists, in_method}
+use Rattle.jn_base.specs.Duplicates.{InStmt, InMember, InDecl, of_decls, of_fields, of_methods, nothing, only_if, has_name, duplicate, stmt_step, member_step, decl_step, in_block, in_stmt, in_member, in_decl, in_members, in_lists, in_method}
 
 stmt_from : (s : Stmt) (f : Stmt-F Stmt) → out-Stmt s ≡ f → in_stmt s ≡ stmt_step (map-Stmt _ _ in_stmt f)
 stmt_from s f e = fold_out-Stmt InStmt stmt_step s ∙ ap (λ (x : Stmt-F Stmt). stmt_step (map-Stmt _ _ in_stmt x)) e

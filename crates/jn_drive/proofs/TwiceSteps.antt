@@ -1,5 +1,5 @@
 -- Lists of what stands twice, one step at a time.
-use Rattle.std.proofs.Common.{◌≡◌, ◌∙◌, ℕ, Bool, true, false, ◌||◌, List, [], ◌∷◌, ◌++◌, map, reverse, refl, ap, sym, subst, Option, Some, None, option_map, drop, take, length, length-take, min, ◌<◌, ◌≤◌, ◌+◌, suc, add-one, get_or, arith, append-nil, append_assoc, Result, Ok, IfOk}
+use Rattle.std.proofs.Common.{◌≡◌, ◌∙◌, ℕ, Bool, true, false, ◌||◌, List, [], ◌∷◌, ◌++◌, map, refl, ap, sym, subst, Option, Some, None, option_map, drop, take, length, length-take, ◌<◌, ◌≤◌, ◌+◌, suc, add-one, get_or, arith, append-nil, append_assoc, Result, Ok, IfOk}
 use Rattle.std.proofs.Math.Seq.{drop-cons, take-length}
 use Rattle.std.proofs.lemmas.List.{take-append-le}
 use Rattle.std.proofs.Math.Bool.{or_comm}
@@ -13,7 +13,7 @@ use Rattle.jn_base.specs.declared.tree.Decl.{Decl}
 use Rattle.jn_base.specs.declared.tree.Member.{Member}
 use Rattle.jn_base.specs.declared.refusal.Refusal.{Refusal}
 use Rattle.jn_base.specs.Paths.{Path}
-use Rattle.jn_base.specs.Duplicates.{Given, InMember, InDecl, InStmt, same_given, only_if, has_name, seconds, param_name, param_scope, in_block, in_stmt, in_member, in_members, in_decl, in_decls, refusal, duplicate}
+use Rattle.jn_base.specs.Duplicates.{Given, InMember, InDecl, InStmt, same_given, only_if, has_name, seconds, param_scope, in_block, in_stmt, in_member, in_members, in_decl, in_decls, refusal, duplicate}
 use Rattle.std.specs.List.{list_any}
 use Rattle.jn_drive.specs.declared.twice.Seen.{Seen}
 use Rattle.jn_drive.specs.First.{first, IfPassed, SameNames, in_seen}

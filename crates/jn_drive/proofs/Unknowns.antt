@@ -1,5 +1,5 @@
 -- The paths of a filled table are the universe's, so that its paths tell what is a member.
-use Rattle.std.proofs.Common.{◌≡◌, ◌∙◌, ℕ, zero, suc, ◌<◌, ◌≤◌, ◌+◌, ◌-◌, List, [], ◌∷◌, ◌++◌, length, length-append, drop, take, refl, sym, ap, subst, All, Contains, Option, Some, None, arith, reverse, get_or, slice_get, ◌↔◌, Bool, true, false, nat_lt, IsTrue, IfOk, Result, Ok, Err}
+use Rattle.std.proofs.Common.{◌≡◌, ◌∙◌, ℕ, ◌<◌, ◌≤◌, ◌+◌, ◌-◌, List, [], ◌∷◌, ◌++◌, length, length-append, drop, take, refl, sym, ap, subst, All, Contains, Option, Some, None, arith, reverse, get_or, slice_get, ◌↔◌, Bool, true, false, nat_lt, IsTrue, IfOk, Result, Ok, Err}
 use Rattle.std.proofs.Math.Seq.{take-length}
 use Rattle.std.proofs.lemmas.List.{reverse-append, reverse-reverse, take-append-le, take-append-drop, take_all}
 use Rattle.std.proofs.lemmas.Option.{slice_get_within, slice_get_read, get_or_from_slice_get}
@@ -14,20 +14,19 @@ use Rattle.jn_base.specs.declared.refusal.Refusal.{Refusal}
 use Rattle.jn_base.specs.Paths.{Path, shown, StandsAt, Declared}
 use Rattle.jn_base.specs.Supers.{Member}
 use Rattle.jn_base.specs.Universe.{IsNamespace, InUniverse}
-use Rattle.jn_base.specs.ClassOrder.{class_cmp, Before, IsFirst}
+use Rattle.jn_base.specs.ClassOrder.{class_cmp, Before}
 use Rattle.jn_base.specs.Duplicates.{duplicates}
 use Rattle.jn_base.specs.TableRules.{ExtendsUnknown, HasUnknown, NoneIs, unknown_at}
 use Rattle.jn_base.proofs.NameTests.{first}
 use Rattle.jn_base.proofs.Reaching.{declared_in_universe}
 use Rattle.jn_base.proofs.Unique.{one_decl}
-use Rattle.jn_table.specs.Answers.{AreRows, HasUniverse}
 use Rattle.jn_table.specs.Rows.{IsNumber}
 use Rattle.jn_table.specs.Tables.{IsFilled, IsPathOf}
 use Rattle.jn_table.specs.declared.class.ClassId.{ClassId}
 use Rattle.jn_table.specs.declared.table.Table.{Table}
-use Rattle.jn_table.proofs.Shown.{place_of_number, numbers_before, shown_one}
+use Rattle.jn_table.proofs.Shown.{place_of_number, numbers_before}
 use Rattle.jn_table.proofs.Sorted.{in_order}
-use Rattle.jn_drive.specs.Unknown.{IsKnown, IsFirstWithout, FirstWithout, UnknownIs, IsFirstUnknown, FirstUnknownIs}
+use Rattle.jn_drive.specs.Unknown.{IsKnown, IsFirstWithout, FirstWithout, UnknownIs, IsFirstUnknown}
 use Rattle.jn_drive.proofs.TwiceSteps.{at_get}
 
 -- ---- paths with the outermost name first
@@ -93,10 +92,10 @@ unknown_as p once R d stands (Some x) w = record { decl = d; stands = stands; be
 unknown_as p once R d stands None all = λ h. not h.0 h.1 where
   not : (named : Named) → ExtendsUnknown p R named → ⊥
   not named u =
-    let same = one_decl p once R u.decl d u.stands stands in
-    let among : Contains d.extends named = subst (λ (e : Decl). Contains e.extends named) same
-        (subst (λ (ns : List Named). Contains ns named) (sym u.is) (Contains-append_right u.before (named ∷ u.after) named (first named u.after))) in
-    u.unknown (All-contains (λ n. Member p (drop 1 R) n.name) d.extends named all among)
+      let same = one_decl p once R u.decl d u.stands stands in
+      let among : Contains d.extends named = subst (λ (e : Decl). Contains e.extends named) same
+      (subst (λ (ns : List Named). Contains ns named) (sym u.is) (Contains-append_right u.before (named ∷ u.after) named (first named u.after))) in
+      u.unknown (All-contains (λ n. Member p (drop 1 R) n.name) d.extends named all among)
 
 pub unknown_in : (p : Program) (t : Table) → IsFilled p t → duplicates p ≡ [] → (names space : List Name) (d : Decl) → StandsAt p (reverse names) d
     → space ≡ take (length names - 1) names → (list : List Named) → list ≡ d.extends → (o : Option Named)

@@ -1,5 +1,5 @@
 -- The first of a list, and the names that were seen before, in their order or in another.
-use Rattle.std.specs.Prelude.{◌≡◌, Bool, List, [], ◌∷◌, ◌++◌, Option, Some, None, Result, Ok, Err, ⊤}
+use Rattle.std.specs.Prelude.{◌≡◌, Bool, List, [], ◌∷◌, Option, Some, None, Result, Ok, Err, ⊤}
 use Rattle.jn_base.specs.declared.tree.Name.{Name}
 use Rattle.jn_base.specs.Duplicates.{Given, Space, of_decls, of_fields, of_methods, has_name}
 use Rattle.jn_drive.specs.declared.twice.Seen.{Seen}

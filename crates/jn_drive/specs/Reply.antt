@@ -1,5 +1,5 @@
 -- The reply of a job: what is put on `out`, the line on `err`, and the status.
-use Rattle.std.specs.Prelude.{◌≡◌, ℕ, List, [], codes, Option, Some, None}
+use Rattle.std.specs.Prelude.{◌≡◌, ℕ, List, [], codes, Some, None}
 use Rattle.jn_base.specs.declared.tree.Program.{Program}
 use Rattle.jn_base.specs.declared.refusal.Refusal.{Refusal}
 use Rattle.jn_base.specs.Spelling.{IsTextOf, IsTextRefused}

@@ -1,5 +1,5 @@
 -- Which words are a job. A word is its bytes.
-use Rattle.std.specs.Prelude.{List, [], ◌∷◌, ℕ, Bool, not, ◌&&◌, ◌||◌, Some, None, codes, bytes_eq, nat_eq, if◌then◌else◌}
+use Rattle.std.specs.Prelude.{List, [], ◌∷◌, ℕ, Bool, not, ◌||◌, Some, None, codes, bytes_eq, nat_eq, if◌then◌else◌}
 use Rattle.std.specs.declared.option.Option.{Option}
 use Rattle.std.specs.List.{starts_with}
 use Rattle.jn_drive.specs.declared.words.JobKind.{JobKind}

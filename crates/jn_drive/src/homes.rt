@@ -59,12 +59,7 @@ pub fn decl_at<'a>(p: &'a Program, path: &Path) -> Option<&'a Decl>
 }
 
 /// From the declaration of a front of the path by all the names that are left.
-fn inner_at<'a>(
-    p: &'a Program,
-    path: &Path,
-    top: &'a Decl,
-    left: &[Name],
-) -> Option<&'a Decl>
+fn inner_at<'a>(p: &'a Program, path: &Path, top: &'a Decl, left: &[Name]) -> Option<&'a Decl>
     requires once { duplicates p.now ≡ [] }
     requires way { OnWay p.now (reverse path.now.names) top.now left.now }
     ensures { DeclIs p.now (reverse path.now.names) (option_copied result) }

@@ -31,15 +31,36 @@ fn the_first_rule_that_is_broken_is_told(rt: HostRuntime) -> Result<(), Fail> {
             "package A { class C extends D { } class D { } }\npackage B { class C { } class D extends C { } }\nclass Main { void main() { } }",
             "",
         ),
-        ("package a { class D { } }\npackage b extends a { class C extends D { } }", ""),
-        ("class C { int C; void C(int c) { { int x = 1; } { int x = 2; } } class C { } }", ""),
+        (
+            "package a { class D { } }\npackage b extends a { class C extends D { } }",
+            "",
+        ),
+        (
+            "class C { int C; void C(int c) { { int x = 1; } { int x = 2; } } class C { } }",
+            "",
+        ),
         // A second declaration, field, method, parameter, local, and name in each sort of list.
         ("class A { }\nclass A { }", "2:7: E05 Duplicate A\n"),
-        ("package a { class B { }\npackage B { } }", "2:9: E05 Duplicate a B\n"),
-        ("class Main { int a; int a; void main() { } }", "1:25: E05 Duplicate Main a\n"),
-        ("class A { void f() { } int f() { return 1; } int f; }", "1:28: E05 Duplicate A f\n"),
-        ("class A { void f(int x, boolean x) { } }", "1:33: E05 Duplicate A x\n"),
-        ("class A { void f(int x) { if (true) { int x = 1; } } }", "1:43: E05 Duplicate A x\n"),
+        (
+            "package a { class B { }\npackage B { } }",
+            "2:9: E05 Duplicate a B\n",
+        ),
+        (
+            "class Main { int a; int a; void main() { } }",
+            "1:25: E05 Duplicate Main a\n",
+        ),
+        (
+            "class A { void f() { } int f() { return 1; } int f; }",
+            "1:28: E05 Duplicate A f\n",
+        ),
+        (
+            "class A { void f(int x, boolean x) { } }",
+            "1:33: E05 Duplicate A x\n",
+        ),
+        (
+            "class A { void f(int x) { if (true) { int x = 1; } } }",
+            "1:43: E05 Duplicate A x\n",
+        ),
         (
             "class A { void f() { { int y = 1; } int y = 2; while (true) { int y = 3; } } }",
             "1:67: E05 Duplicate A y\n",
@@ -48,11 +69,23 @@ fn the_first_rule_that_is_broken_is_told(rt: HostRuntime) -> Result<(), Fail> {
             "package a { class C extends D & E & D { } class D { } class E { } }",
             "1:37: E05 Duplicate a.C D\n",
         ),
-        ("package a { class C shares b & b { } }", "1:32: E05 Duplicate a.C b\n"),
-        ("package a adapts b & c & b { }", "1:26: E05 Duplicate a b\n"),
+        (
+            "package a { class C shares b & b { } }",
+            "1:32: E05 Duplicate a.C b\n",
+        ),
+        (
+            "package a adapts b & c & b { }",
+            "1:26: E05 Duplicate a b\n",
+        ),
         // The first one in the order of the source, and before all else.
-        ("class A { int a; class B { int b; int b; } int a; }", "1:39: E05 Duplicate A.B b\n"),
-        ("class X extends X { int a; int a; }", "1:32: E05 Duplicate X a\n"),
+        (
+            "class A { int a; class B { int b; int b; } int a; }",
+            "1:39: E05 Duplicate A.B b\n",
+        ),
+        (
+            "class X extends X { int a; int a; }",
+            "1:32: E05 Duplicate X a\n",
+        ),
         // Its own strict super: the first in class order, at its home.
         (
             "package A { class C extends D { } class D { } }\npackage B { class C { } class D extends C { } }\npackage AB extends A & B { }\nclass Main { void main() { } }",
@@ -76,13 +109,22 @@ fn the_first_rule_that_is_broken_is_told(rt: HostRuntime) -> Result<(), Fail> {
             "2:31: E07 Kind b.C\n",
         ),
         // A name that is no member of the namespace, also one of an outer namespace: the first in class order, and in its list.
-        ("package a { class C extends D { } }", "1:29: E06 Unknown a.C D\n"),
-        ("class D { }\npackage a { class C extends D { } }", "2:29: E06 Unknown a.C D\n"),
+        (
+            "package a { class C extends D { } }",
+            "1:29: E06 Unknown a.C D\n",
+        ),
+        (
+            "class D { }\npackage a { class C extends D { } }",
+            "2:29: E06 Unknown a.C D\n",
+        ),
         (
             "package b { class C extends Y { } }\npackage a { class C extends D & Z & W { } class D { } }",
             "2:33: E06 Unknown a.C Z\n",
         ),
-        ("package a { class C extends Y { } }\nclass E extends Z { }", "2:17: E06 Unknown E Z\n"),
+        (
+            "package a { class C extends Y { } }\nclass E extends Z { }",
+            "2:17: E06 Unknown E Z\n",
+        ),
     ] {
         check(&rt, source, line)?;
     }

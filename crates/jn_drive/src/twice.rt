@@ -55,11 +55,7 @@ fn duplicate(alloc: Global, path: &Path, second: Named) -> Result<Refusal, Alloc
 }
 
 /// The same, where there is a second name.
-fn shown(
-    alloc: Global,
-    path: &Path,
-    second: Option<Named>,
-) -> Result<Option<Refusal>, AllocError>
+fn shown(alloc: Global, path: &Path, second: Option<Named>) -> Result<Option<Refusal>, AllocError>
     ensures { IfOk result (λ found. found ≡ option_map (duplicate (reverse path.now.names)) second) }
 {
     match second {
@@ -120,11 +116,7 @@ fn see(seen: &mut Seen, m: &Member) -> Result<(), AllocError>
 
 /// In the body of the class at this path.
 #[cycle(decl)]
-fn in_members(
-    alloc: Global,
-    path: &Path,
-    members: &[Member],
-) -> Result<Option<Refusal>, AllocError>
+fn in_members(alloc: Global, path: &Path, members: &[Member]) -> Result<Option<Refusal>, AllocError>
     ensures { IfOk result (λ found. found ≡ first (in_members (reverse path.now.names) [] (map in_member members.now))) }
 {
     let mut seen = Seen {

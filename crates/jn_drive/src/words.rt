@@ -36,7 +36,11 @@ pub fn file_in(words: &[String]) -> &str
 fn kind_on(word: &str, file: &str) -> Option<JobKind>
     ensures { result ≡ kind_on word.now file.now }
 {
-    if names_file(file) { kind_of(word) } else { None }
+    if names_file(file) {
+        kind_of(word)
+    } else {
+        None
+    }
 }
 
 /// The job of a word.

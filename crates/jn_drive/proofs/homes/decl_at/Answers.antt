@@ -1,4 +1,3 @@
-use Rattle.std.proofs.Common.{◌≡◌}
 use Rattle.jn_drive.proofs.Housing.{undeclared_at}
 use Rattle.jn_drive.proofs.homes.decl_at.Goals as goal
 

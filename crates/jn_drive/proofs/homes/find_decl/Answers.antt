@@ -1,4 +1,4 @@
-use Rattle.std.proofs.Common.{◌≡◌, ◌∙◌, rules, sym, ap, drop}
+use Rattle.std.proofs.Common.{rules}
 use Rattle.std.proofs.Math.ListN.{drop_of_length-le}
 use Rattle.jn_drive.proofs.TwiceSteps.{at_index}
 use Rattle.jn_drive.proofs.Housing.{searched_next, searched_all, other_number}

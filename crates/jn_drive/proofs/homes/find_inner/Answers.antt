@@ -1,4 +1,4 @@
-use Rattle.std.proofs.Common.{◌≡◌, ◌∙◌, rules, sym, ap, drop}
+use Rattle.std.proofs.Common.{rules}
 use Rattle.std.proofs.Math.ListN.{drop_of_length-le}
 use Rattle.jn_drive.proofs.Housing.{members_hit, members_next, members_all}
 use Rattle.jn_drive.proofs.homes.find_inner.Goals as goal

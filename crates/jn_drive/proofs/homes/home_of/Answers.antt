@@ -1,4 +1,3 @@
-use Rattle.std.proofs.Common.{◌≡◌}
 use Rattle.jn_drive.proofs.Housing.{nowhere_at}
 use Rattle.jn_drive.proofs.homes.home_of.Goals as goal
 

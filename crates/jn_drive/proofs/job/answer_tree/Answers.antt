@@ -1,4 +1,4 @@
-use Rattle.std.proofs.Common.{◌≡◌, ◌∙◌, rules}
+use Rattle.std.proofs.Common.{◌∙◌, rules}
 use Rattle.jn_drive.proofs.Judging.{tree_shown, tree_ran, tree_not_taken, tree_checked}
 use Rattle.jn_drive.proofs.job.answer_tree.Goals as goal
 

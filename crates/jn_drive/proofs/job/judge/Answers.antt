@@ -1,4 +1,4 @@
-use Rattle.std.proofs.Common.{◌≡◌, ◌∙◌, List, ℕ, sym, subst, arith, rules, None}
+use Rattle.std.proofs.Common.{subst, rules, None}
 use Rattle.jn_base.specs.declared.refusal.Refusal.{Refusal}
 use Rattle.jn_drive.specs.Answer.{IsRefusedBy}
 use Rattle.jn_drive.proofs.Judging.{spelled, fault_judged, long_judged}

@@ -1,4 +1,4 @@
-use Rattle.std.proofs.Common.{◌≡◌, ◌∙◌, List, [], ap, sym, rules, refl, length, subst, map, IfOk}
+use Rattle.std.proofs.Common.{◌≡◌, ◌∙◌, List, ap, sym, rules, length, subst, map, IfOk}
 use Rattle.std.specs.declared.alloc.AllocError.{AllocError}
 use Rattle.jn_base.specs.declared.tree.Name.{Name}
 use Rattle.jn_base.specs.declared.tree.Stmt.{Stmt}

@@ -1,4 +1,4 @@
-use Rattle.std.proofs.Common.{◌≡◌, ◌≤◌, List, take, length}
+use Rattle.std.proofs.Common.{◌≡◌, List, take, length}
 use Rattle.jn_base.specs.declared.tree.Name.{Name}
 use Rattle.jn_drive.specs.First.{SameNames}
 use Rattle.jn_drive.proofs.TwiceSteps.{LeftOfBlock}

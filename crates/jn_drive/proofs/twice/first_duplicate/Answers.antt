@@ -1,4 +1,4 @@
-use Rattle.std.proofs.Common.{◌≡◌, ◌∙◌, List, ap, sym, rules, reverse}
+use Rattle.std.proofs.Common.{◌∙◌, List, ap, sym, rules, reverse}
 use Rattle.jn_base.specs.declared.tree.Name.{Name}
 use Rattle.jn_base.specs.Duplicates.{in_decl}
 use Rattle.jn_drive.specs.First.{first}

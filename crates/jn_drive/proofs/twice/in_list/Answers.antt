@@ -1,7 +1,5 @@
-use Rattle.std.proofs.Common.{◌≡◌, ◌∙◌, List, [], ap, sym, rules, map}
+use Rattle.std.proofs.Common.{◌∙◌, [], rules}
 use Rattle.jn_base.specs.declared.tree.Named.{Named}
-use Rattle.jn_base.specs.Duplicates.{seconds}
-use Rattle.jn_drive.specs.First.{first}
 use Rattle.jn_drive.proofs.TwiceSteps.{as_named, left_hit, left_none}
 use Rattle.jn_drive.proofs.twice.in_list.Goals as goal
 

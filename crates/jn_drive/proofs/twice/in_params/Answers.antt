@@ -1,4 +1,4 @@
-use Rattle.std.proofs.Common.{◌≡◌, ◌∙◌, List, [], ap, sym, rules, refl}
+use Rattle.std.proofs.Common.{rules, refl}
 use Rattle.jn_base.specs.Duplicates.{param_name}
 use Rattle.jn_drive.proofs.TwiceSteps.{left_first, left_hit, left_next, left_none, params_more, params_all}
 use Rattle.jn_drive.proofs.twice.in_params.Goals as goal

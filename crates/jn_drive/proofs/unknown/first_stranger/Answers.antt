@@ -1,4 +1,4 @@
-use Rattle.std.proofs.Common.{◌≡◌, ◌≤◌, rules, length, false, true}
+use Rattle.std.proofs.Common.{rules}
 use Rattle.std.proofs.lemmas.List.Elements.{All-more}
 use Rattle.jn_drive.specs.Unknown.{IsKnown}
 use Rattle.jn_drive.proofs.Unknowns.{told, not_told, stranger_here, no_stranger}

@@ -1,4 +1,3 @@
-use Rattle.std.proofs.Common.{◌≡◌, ◌∙◌, rules, IfOk}
 use Rattle.jn_drive.proofs.Unknowns.{unknown_found}
 use Rattle.jn_drive.proofs.unknown.unknown_of.Goals as goal
 
