@@ -15,6 +15,8 @@ mod status;
 mod tests;
 #[cfg(test)]
 mod tests_check;
+#[cfg(test)]
+mod tests_show;
 mod twice;
 mod unknown;
 mod words;

@@ -133,6 +133,10 @@ fn sources_are_run_or_refused(rt: HostRuntime) -> Result<(), Fail> {
             "5\n-6\n",
         ),
         (
+            "class Main { void main() { print((1 + 2) * 3); /* nine */ } } // end",
+            "9\n",
+        ),
+        (
             "class Main { void main() { print(1 - 2 * 3 + 4); print(0); print(0 - 0); } }",
             "-1\n0\n0\n",
         ),
@@ -152,25 +156,49 @@ fn sources_are_run_or_refused(rt: HostRuntime) -> Result<(), Fail> {
             (Status::Done, output.as_bytes(), ""),
         )?;
     }
-    for source in [
-        "class Main { void main() { print(1) } }",
-        "",
-        "class Main { void main() { print(); } }",
-        "class Main { void main() { print(01); } }",
-        "class Main { void main() { print(9223372036854775808); } }",
-        "class Main { void main() { } } x",
-        "class Other { void main() { } }",
+    for (source, line) in [
+        (
+            "class Main { void main() { print(1) } }",
+            "1:37: E01 Syntax\n",
+        ),
+        (
+            "class Main { void main() { print(); } }",
+            "1:34: E01 Syntax\n",
+        ),
+        (
+            "class Main { void main() { print(01); } }",
+            "1:34: E01 Syntax\n",
+        ),
+        (
+            "class Main { void main() { print(9223372036854775808); } }",
+            "1:34: E01 Syntax\n",
+        ),
+        ("class Main { void main() { } } x", "1:32: E01 Syntax\n"),
+        // These are programs, but not of the plain form.
+        ("", NO_PROGRAM),
+        ("class Other { void main() { } }", NO_PROGRAM),
+        ("class Main { void main() { print(true); } }", NO_PROGRAM),
+        ("class Main { void main() { print(6 / 2); } }", NO_PROGRAM),
+        ("class Main { int f; void main() { } }", NO_PROGRAM),
     ] {
         let mut store = store_of(rt.alloc(), source.as_bytes(), &[])?;
-        expect(&rt, "run f", &mut store, (Status::Refused, b"", NO_PROGRAM))?;
+        expect(&rt, "run f", &mut store, (Status::Refused, b"", line))?;
     }
+    let mut store = store_of(rt.alloc(), &[0xff], &[])?;
+    expect(
+        &rt,
+        "run f",
+        &mut store,
+        (Status::Refused, b"", "1:1: E03 Utf8\n"),
+    )?;
     Ok(())
 }
 
 #[test]
 fn words_that_are_no_job_get_the_usage_line(rt: HostRuntime) -> Result<(), Fail> {
     for line in [
-        "run", "", "f", "run f f", "show f", "Run f", "run -f", "run --", "f run", "ru f", "runs f",
+        "run", "", "f", "run f f", "shows f", "Run f", "run -f", "run --", "f run", "ru f",
+        "runs f",
     ] {
         let mut store = store_of(rt.alloc(), FIRST.as_bytes(), &[])?;
         expect(&rt, line, &mut store, (Status::Usage, b"", USAGE))?;
@@ -279,5 +307,35 @@ fn each_failing_put_is_told(rt: HostRuntime) -> Result<(), Fail> {
         assert_eq!(rt; out.bytes().len(), 0);
         assert_eq!(rt; err.bytes().len(), 5);
     }
+    Ok(())
+}
+
+/// `print` of 1 in so many pairs of parentheses beside its own.
+fn nested(alloc: Global, count: usize) -> Result<Vec<u8>, AllocError> {
+    let mut source = Vec::from_slice(alloc, b"class Main { void main() { print(")?;
+    for _ in 0..count {
+        source.push(b'(')?;
+    }
+    source.push(b'1')?;
+    for _ in 0..count {
+        source.push(b')')?;
+    }
+    source.extend_from_slice(b"); } }")?;
+    Ok(source)
+}
+
+#[test]
+fn parentheses_nest_up_to_their_limit(rt: HostRuntime) -> Result<(), Fail> {
+    let most = nested(rt.alloc(), 197)?;
+    let mut store = store_of(rt.alloc(), most.as_slice(), &[])?;
+    expect(&rt, "run f", &mut store, (Status::Done, b"1\n", ""))?;
+    let more = nested(rt.alloc(), 198)?;
+    let mut store = store_of(rt.alloc(), more.as_slice(), &[])?;
+    expect(
+        &rt,
+        "run f",
+        &mut store,
+        (Status::Refused, b"", "1:231: E04 Limit nesting\n"),
+    )?;
     Ok(())
 }
