@@ -226,14 +226,16 @@ module _ (p : Program) (t : Table) (ms : Members) (g : IsMembersOf p t ms) where
         by_row (inl e) = absurd (cc e)
         by_row (inr l) = l
 
+    -- a declaration that does not stand above A
+    abbrev Away : Name → Path → Path → Type 0
+    Away m A S = Decls p R m S × (Sup p A S → ⊥)
+
     -- no second one was found: the first has all others above it
     pub only_is : (m : Name) (a : ClassId) (A : Path) → Num a A → IsLow p R m A → PassedTo ms.rows.items sups m (Some a) (length sups) → IsLeast p R m A
     only_is m a A x w h = record { among = w.declares; below = λ S d. by_cases S d (sup_cases a (super_at S d.super).id A S x (super_at S d.super).number) } where
-      abbrev Away : Path → Type 0
-      Away S = Decls p R m S × (Sup p A S → ⊥)
-      by_place : (S : Path) → Away S → SuperAt S → LowerIn p Away S
+      by_place : (S : Path) → Away m A S → SuperAt S → LowerIn p (Away m A) S
       by_place S v s = by_row (passed_at m (Some a) (length sups) h S v.0 s (within_of sups s.place s.id s.id_at)) where
-        by_row : (◌≡◌ {A = Option ClassId} (Some a) (Some s.id)) ⊎ LowerIn p (Decls p R m) S → LowerIn p Away S
+        by_row : (◌≡◌ {A = Option ClassId} (Some a) (Some s.id)) ⊎ LowerIn p (Decls p R m) S → LowerIn p (Away m A) S
         by_row (inl e) =
             let k : a ≡ s.id = cc e in
             let i : A ≡ S = number_path t.known.items a A S x (subst (λ (j : ClassId). Num j S) (sym k) s.number) in
@@ -241,7 +243,7 @@ module _ (p : Program) (t : Table) (ms : Members) (g : IsMembersOf p t ms) where
         by_row (inr l) = (l.0, (l.1, λ z. v.1 (sup_joined z l.2)), l.2, l.3)
       by_cases : (S : Path) → Decls p R m S → Sup p A S ⊎ (Sup p A S → ⊥) → Sup p A S
       by_cases S d (inl s) = s
-      by_cases S d (inr n) = absurd (no_descent p g.acyclic c.paths Away (λ T v. (c.are.exact T).1 v.0.super) (λ T v. by_place T v (super_at T v.0.super)) S (d, n))
+      by_cases S d (inr n) = absurd (no_descent p g.acyclic c.paths (Away m A) (λ T v. (c.are.exact T).1 v.0.super) (λ T v. by_place T v (super_at T v.0.super)) S (d, n))
 
     -- two below which no other stands: there is no least one
     pub none_least : (m : Name) (A B : Path) → IsLow p R m A → IsLow p R m B → (B ≡ A → ⊥) → (Q : Path) → IsLeast p R m Q → ⊥

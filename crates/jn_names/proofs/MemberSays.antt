@@ -17,8 +17,9 @@ use Rattle.jn_table.specs.Tables.{IsTableOf, IsFilled, SaysRow}
 use Rattle.jn_table.proofs.Shown.{same_id}
 use Rattle.jn_names.specs.declared.members.MemberRow.{MemberRow}
 use Rattle.jn_names.specs.declared.members.Members.{Members}
+use Rattle.jn_names.specs.declared.members.Least.{Least}
 use Rattle.jn_names.specs.declared.members.Least.TheVariants as least
-use Rattle.jn_names.specs.MemberRows.{PassedTo, FirstLowRow, FieldlessTo, FirstFieldRow}
+use Rattle.jn_names.specs.MemberRows.{PassedTo, FirstLowRow, FieldlessTo, FirstFieldRow, LeastRow, FieldRow}
 use Rattle.jn_names.specs.Members.{IsMemberRow, RowAt, IsMembersOf, SaysLeast, SaysField}
 use Rattle.jn_names.proofs.MemberProof.{path_at, first_is, second_is, none_is, only_is, none_least, first_field_is, second_field_is, no_field_is, only_field_is, within_of}
 
@@ -83,6 +84,25 @@ module _ (ms : Members) (id : ClassId) (m : Name) (row : MemberRow) (at : slice_
         two_is = r.number;
         two_first = second_field_is p t ms g R row.sups.items c m a b s q.path r.path q.number r.number;
       }
+
+-- what a search in the rows tells
+pub says_least : (ms : Members) (id : ClassId) (m : Name) (row : MemberRow) (rows : List MemberRow) (sups : List ClassId) (told : Least)
+    → Some row ≡ slice_get ms.rows.items id.0 → rows ≡ ms.rows.items → sups ≡ row.sups.items → LeastRow rows sups m told → SaysLeast ms id m told
+says_least ms id m row rows sups told at e h k =
+    by_answer told (subst (λ (rs : List MemberRow). LeastRow rs row.sups.items m told) e (subst (λ (ss : List ClassId). LeastRow rows ss m told) h k)) where
+  by_answer : (told : Least) → LeastRow ms.rows.items row.sups.items m told → SaysLeast ms id m told
+  by_answer least.None w = least_none ms id m row (sym at) w
+  by_answer (least.One a) w = least_one ms id m row (sym at) a w.0 w.1
+  by_answer (least.Many a b) w = least_many ms id m row (sym at) a b w.0 w.1
+
+pub says_field : (ms : Members) (id : ClassId) (f : Name) (row : MemberRow) (rows : List MemberRow) (sups : List ClassId) (told : Least)
+    → Some row ≡ slice_get ms.rows.items id.0 → rows ≡ ms.rows.items → sups ≡ row.sups.items → FieldRow rows sups f told → SaysField ms id f told
+says_field ms id f row rows sups told at e h k =
+    by_answer told (subst (λ (rs : List MemberRow). FieldRow rs row.sups.items f told) e (subst (λ (ss : List ClassId). FieldRow rows ss f told) h k)) where
+  by_answer : (told : Least) → FieldRow ms.rows.items row.sups.items f told → SaysField ms id f told
+  by_answer least.None w = field_none ms id f row (sym at) w
+  by_answer (least.One a) w = field_one ms id f row (sym at) a w.0 w.1
+  by_answer (least.Many a b) w = field_many ms id f row (sym at) a b w.0 w.1
 
 -- ---- building
 

@@ -1,8 +1,10 @@
 -- What the rows of `Members` say of numbers.
-use Rattle.std.specs.Prelude.{◌≡◌, ◌<◌, ◌⊎◌, ℕ, List, Contains, slice_get, Option, Some}
+use Rattle.std.specs.Prelude.{◌≡◌, ◌<◌, ◌⊎◌, ℕ, List, Contains, slice_get, length, Option, Some, None}
 use Rattle.jn_base.specs.declared.tree.Name.{Name}
 use Rattle.jn_table.specs.declared.class.ClassId.{ClassId}
 use Rattle.jn_names.specs.declared.members.MemberRow.{MemberRow}
+use Rattle.jn_names.specs.declared.members.Least.{Least}
+use Rattle.jn_names.specs.declared.members.Least.TheVariants as least
 
 -- the row of the number has the method, the field, the super
 abbrev pub MethodAtRow : List MemberRow → Name → ClassId → Type 0
@@ -65,3 +67,14 @@ pub record FirstFieldRow (rows : List MemberRow) (sups : List ClassId) (f : Name
   pub at : slice_get sups place ≡ Some a
   pub is : IsFieldRow rows f but a
   pub before : FieldlessTo rows sups f but place
+
+-- no one, one with all others passed, or two
+abbrev pub LeastRow : List MemberRow → List ClassId → Name → Least → Type 0
+LeastRow rows sups m least.None = PassedTo rows sups m None (length sups)
+LeastRow rows sups m (least.One a) = FirstLowRow rows sups m None a × PassedTo rows sups m (Some a) (length sups)
+LeastRow rows sups m (least.Many a b) = FirstLowRow rows sups m None a × FirstLowRow rows sups m (Some a) b
+
+abbrev pub FieldRow : List MemberRow → List ClassId → Name → Least → Type 0
+FieldRow rows sups f least.None = FieldlessTo rows sups f None (length sups)
+FieldRow rows sups f (least.One a) = FirstFieldRow rows sups f None a × FieldlessTo rows sups f (Some a) (length sups)
+FieldRow rows sups f (least.Many a b) = FirstFieldRow rows sups f None a × FirstFieldRow rows sups f (Some a) b

@@ -1,7 +1,7 @@
 ghost use Rattle.std.specs.Prelude.{◌≡◌, ◌↔◌, false, Contains, Some, IsTrue, IfOk, MatchOption, length};
 ghost use Rattle.jn_base.specs.TableRules.{IsCycle, NoneIs};
 ghost use Rattle.jn_table.specs.Tables.{IsFilled};
-ghost use Rattle.jn_names.specs.MemberRows.{MethodAtRow, FieldAtRow, SupAtRow, LowerRow, HasLowerRow, PassedRow, PassedTo, IsLowRow, FirstLowRow, FieldlessRow, FieldlessTo, IsFieldRow, FirstFieldRow};
+ghost use Rattle.jn_names.specs.MemberRows.{MethodAtRow, FieldAtRow, SupAtRow, LowerRow, HasLowerRow, PassedRow, PassedTo, IsLowRow, FirstLowRow, FieldlessRow, FieldlessTo, IsFieldRow, FirstFieldRow, LeastRow, FieldRow};
 
 use crate::bound::{has, is_name};
 use jn_base::tree::{Name, Program};
@@ -180,6 +180,32 @@ fn first_field(
     None
 }
 
+/// The least one of the numbers that have the method, or the first two that have none below.
+fn least_of(rows: &[MemberRow], sups: &[ClassId], m: Name) -> Least
+    ensures { LeastRow rows.now sups.now m result }
+{
+    match first_low(rows, sups, m, None) {
+        None => Least::None,
+        Some(a) => match first_low(rows, sups, m, Some(a)) {
+            None => Least::One(a),
+            Some(b) => Least::Many(a, b),
+        },
+    }
+}
+
+/// The only one of the numbers that has the field, or the first two.
+fn field_of(rows: &[MemberRow], sups: &[ClassId], f: Name) -> Least
+    ensures { FieldRow rows.now sups.now f result }
+{
+    match first_field(rows, sups, f, None) {
+        None => Least::None,
+        Some(a) => match first_field(rows, sups, f, Some(a)) {
+            None => Least::One(a),
+            Some(b) => Least::Many(a, b),
+        },
+    }
+}
+
 /// A copy of the numbers.
 fn copied(alloc: Global, ids: &[ClassId]) -> Result<Vec<ClassId>, AllocError>
     ensures { IfOk result (λ all. all.items ≡ ids.now) }
@@ -216,13 +242,7 @@ impl Members {
     {
         match at(&self.rows, id.0 as usize) {
             None => Least::None,
-            Some(row) => match first_low(&self.rows, &row.sups, m, None) {
-                None => Least::None,
-                Some(a) => match first_low(&self.rows, &row.sups, m, Some(a)) {
-                    None => Least::One(a),
-                    Some(b) => Least::Many(a, b),
-                },
-            },
+            Some(row) => least_of(&self.rows, &row.sups, m),
         }
     }
 
@@ -232,13 +252,7 @@ impl Members {
     {
         match at(&self.rows, id.0 as usize) {
             None => Least::None,
-            Some(row) => match first_field(&self.rows, &row.sups, f, None) {
-                None => Least::None,
-                Some(a) => match first_field(&self.rows, &row.sups, f, Some(a)) {
-                    None => Least::One(a),
-                    Some(b) => Least::Many(a, b),
-                },
-            },
+            Some(row) => field_of(&self.rows, &row.sups, f),
         }
     }
 }

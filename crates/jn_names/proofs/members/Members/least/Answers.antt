@@ -1,14 +1,14 @@
-use Rattle.jn_names.proofs.MemberSays.{least_absent, least_none, least_one, least_many}
+use Rattle.std.proofs.Common.{List, slice_get, Some, None, ◌≡◌, ◌∙◌, sym, ap}
+use Rattle.jn_names.specs.declared.members.MemberRow.{MemberRow}
+use Rattle.jn_names.proofs.MemberSays.{least_absent, says_least}
 use Rattle.jn_names.proofs.members.Members.least.Goals as goal
 
 pub returns-in-None : goal.returns-in-None
-returns-in-None c = ?
+returns-in-None c =
+    least_absent c.args.self.now c.args.id c.args.m (ap (λ (rs : List MemberRow). slice_get rs c.args.id.0) (sym c.deref.ensures.value) ∙ sym c.in-None.ensures)
 
-pub returns-in-None-first_low : goal.returns-in-None-first_low
-returns-in-None-first_low c = ?
-
-pub returns-in-None-first_low-2 : goal.returns-in-None-first_low-2
-returns-in-None-first_low-2 c = ?
-
-pub returns-in-Some-first_low-2 : goal.returns-in-Some-first_low-2
-returns-in-Some-first_low-2 c = ?
+pub returns-in-Some : goal.returns-in-Some
+returns-in-Some c =
+    says_least c.args.self.now c.args.id c.args.m c.in-Some.row.now c.deref-in-Some.result.now c.deref-in-Some-2.result.now c.least_of.result
+        (c.in-Some.ensures ∙ ap (λ (rs : List MemberRow). slice_get rs c.args.id.0) c.deref.ensures.value)
+        c.deref-in-Some.ensures.value c.deref-in-Some-2.ensures.value c.least_of.ensures
