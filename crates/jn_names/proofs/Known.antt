@@ -20,7 +20,7 @@ use Rattle.std.proofs.lemmas.Bool.{cases_lt}
 use Rattle.jn_base.specs.Resolve.{FirstUnknown, FoundOut, FoundNowhere}
 use Rattle.jn_names.specs.Bounds.{HasNone}
 
-among_at : (ps : List Path) (k : ℕ) (P : Path) → slice_get ps k ≡ Some P → Contains ps P
+pub among_at : (ps : List Path) (k : ℕ) (P : Path) → slice_get ps k ≡ Some P → Contains ps P
 among_at [] k P a = absurd (cc a)
 among_at (Q ∷ ps) zero P a = (0, omega arith, cc a)
 among_at (Q ∷ ps) (suc k) P a = let r = among_at ps k P a in (suc r.0, omega (arith, r.1), r.2)

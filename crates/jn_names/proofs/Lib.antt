@@ -3,8 +3,11 @@ pub mod Turned
 pub mod Sought
 pub mod ScopedProof
 pub mod Answering
-pub mod Depths
 pub mod Gives
 pub mod MaskProof
 pub mod TypeProof
 pub mod Notings
+pub mod Descent
+pub mod MemberProof
+pub mod MemberSays
+pub mod MemberRowProof

@@ -8,3 +8,5 @@ pub mod Masking
 pub mod Noting
 pub mod MemberRows
 pub mod Members
+pub mod FieldTypes
+pub mod FieldSteps

@@ -1,8 +1,10 @@
 -- What the rows of `Members` say of numbers.
-use Rattle.std.specs.Prelude.{◌≡◌, ◌<◌, ◌⊎◌, ℕ, List, Contains, slice_get, Option, Some}
+use Rattle.std.specs.Prelude.{◌≡◌, ◌<◌, ◌⊎◌, ℕ, List, Contains, slice_get, length, Option, Some, None}
 use Rattle.jn_base.specs.declared.tree.Name.{Name}
 use Rattle.jn_table.specs.declared.class.ClassId.{ClassId}
 use Rattle.jn_names.specs.declared.members.MemberRow.{MemberRow}
+use Rattle.jn_names.specs.declared.members.Least.{Least}
+use Rattle.jn_names.specs.declared.members.Least.TheVariants as least
 
 -- the row of the number has the method, the field, the super
 abbrev pub MethodAtRow : List MemberRow → Name → ClassId → Type 0
@@ -33,23 +35,46 @@ PassedRow rows sups m but s = MethodAtRow rows m s → (but ≡ Some s) ⊎ HasL
 abbrev pub PassedTo : List MemberRow → List ClassId → Name → Option ClassId → ℕ → Type 0
 PassedTo rows sups m but n = (k : ℕ) (s : ClassId) → k < n → slice_get sups k ≡ Some s → PassedRow rows sups m but s
 
--- the first of the numbers that has the method, is not `but`, and has none below
+-- s has the method, is not `but`, and has none below
+pub record IsLowRow (rows : List MemberRow) (sups : List ClassId) (m : Name) (but : Option ClassId) (s : ClassId) : Type 0 where
+  pub has : MethodAtRow rows m s
+  pub other : but ≡ Some s → ⊥
+  pub low : HasLowerRow rows sups m s → ⊥
+
+-- the first of the numbers that is such a one
 pub record FirstLowRow (rows : List MemberRow) (sups : List ClassId) (m : Name) (but : Option ClassId) (a : ClassId) : Type 0 where
   pub place : ℕ
   pub at : slice_get sups place ≡ Some a
-  pub has : MethodAtRow rows m a
-  pub other : but ≡ Some a → ⊥
-  pub low : HasLowerRow rows sups m a → ⊥
+  pub is : IsLowRow rows sups m but a
   pub before : PassedTo rows sups m but place
 
--- none of the first n numbers but `but` has the field
-abbrev pub FieldlessTo : List MemberRow → List ClassId → Name → Option ClassId → ℕ → Type 0
-FieldlessTo rows sups f but n = (k : ℕ) (s : ClassId) → k < n → slice_get sups k ≡ Some s → FieldAtRow rows f s → but ≡ Some s
+-- if s has the field, it is `but`
+abbrev pub FieldlessRow : List MemberRow → Name → Option ClassId → ClassId → Type 0
+FieldlessRow rows f but s = FieldAtRow rows f s → but ≡ Some s
 
--- the first of the numbers that has the field and is not `but`
+-- so the first n of the numbers
+abbrev pub FieldlessTo : List MemberRow → List ClassId → Name → Option ClassId → ℕ → Type 0
+FieldlessTo rows sups f but n = (k : ℕ) (s : ClassId) → k < n → slice_get sups k ≡ Some s → FieldlessRow rows f but s
+
+-- s has the field and is not `but`
+pub record IsFieldRow (rows : List MemberRow) (f : Name) (but : Option ClassId) (s : ClassId) : Type 0 where
+  pub has : FieldAtRow rows f s
+  pub other : but ≡ Some s → ⊥
+
+-- the first of the numbers that is such a one
 pub record FirstFieldRow (rows : List MemberRow) (sups : List ClassId) (f : Name) (but : Option ClassId) (a : ClassId) : Type 0 where
   pub place : ℕ
   pub at : slice_get sups place ≡ Some a
-  pub has : FieldAtRow rows f a
-  pub other : but ≡ Some a → ⊥
+  pub is : IsFieldRow rows f but a
   pub before : FieldlessTo rows sups f but place
+
+-- no one, one with all others passed, or two
+abbrev pub LeastRow : List MemberRow → List ClassId → Name → Least → Type 0
+LeastRow rows sups m least.None = PassedTo rows sups m None (length sups)
+LeastRow rows sups m (least.One a) = FirstLowRow rows sups m None a × PassedTo rows sups m (Some a) (length sups)
+LeastRow rows sups m (least.Many a b) = FirstLowRow rows sups m None a × FirstLowRow rows sups m (Some a) b
+
+abbrev pub FieldRow : List MemberRow → List ClassId → Name → Least → Type 0
+FieldRow rows sups f least.None = FieldlessTo rows sups f None (length sups)
+FieldRow rows sups f (least.One a) = FirstFieldRow rows sups f None a × FieldlessTo rows sups f (Some a) (length sups)
+FieldRow rows sups f (least.Many a b) = FirstFieldRow rows sups f None a × FirstFieldRow rows sups f (Some a) b

@@ -2,6 +2,7 @@ ghost use Rattle.std.specs.Prelude.{◌≡◌, ◌++◌, ◌∷◌, [], Contains
 ghost use Rattle.jn_base.specs.declared.tree.Program.{Program};
 ghost use Rattle.jn_base.specs.declared.tree.Kind.TheVariants as kinds;
 ghost use Rattle.jn_base.specs.Universe.{InUniverse};
+ghost use Rattle.jn_base.specs.Paths.{shown};
 ghost use Rattle.jn_base.specs.Supers.{Sup};
 ghost use Rattle.jn_base.specs.Members.{HasKind};
 ghost use Rattle.jn_table.specs.Rows.{IsNumber, HasField};
@@ -81,6 +82,14 @@ impl Bound {
             self.push(*name)?;
         }
         Ok(())
+    }
+
+    /// The path as the tree and refusals have it.
+    pub fn shown(&self, alloc: Global) -> Result<Path, AllocError>
+        ensures { IfOk result (λ path. path ≡ shown self.now) }
+    {
+        let names = Items::from_slice(alloc, self.path.names.as_slice())?;
+        Ok(Path { names })
     }
 
     /// Its number in the table, where it has one.

@@ -1,11 +1,12 @@
-ghost use Rattle.std.specs.Prelude.{◌≡◌, ◌↔◌, Contains, Option, Some, IsTrue, IfOk, IfSome, IfNone, MatchOption, length};
+ghost use Rattle.std.specs.Prelude.{◌≡◌, ◌↔◌, false, Contains, Some, IsTrue, IfOk, MatchOption, length};
 ghost use Rattle.jn_base.specs.TableRules.{IsCycle, NoneIs};
 ghost use Rattle.jn_table.specs.Tables.{IsFilled};
-ghost use Rattle.jn_names.specs.MemberRows.{MethodAtRow, FieldAtRow, SupAtRow, LowerRow, HasLowerRow, PassedTo, FirstLowRow, FieldlessTo, FirstFieldRow};
+ghost use Rattle.jn_names.specs.MemberRows.{MethodAtRow, FieldAtRow, SupAtRow, LowerRow, HasLowerRow, PassedRow, PassedTo, IsLowRow, FirstLowRow, FieldlessRow, FieldlessTo, IsFieldRow, FirstFieldRow, LeastRow, FieldRow};
 
 use crate::bound::{has, is_name};
 use jn_base::tree::{Name, Program};
 use jn_table::{ClassId, Table};
+use sqlite_items::at;
 use std::alloc::{AllocError, Global};
 
 /// How often a class has a method or a field among its supers.
@@ -65,7 +66,7 @@ fn is_just(but: Option<ClassId>, id: ClassId) -> bool
 fn has_method(rows: &[MemberRow], m: Name, s: ClassId) -> bool
     ensures { IsTrue result ↔ MethodAtRow rows.now m s }
 {
-    match rows.get(s.0 as usize) {
+    match at(rows, s.0 as usize) {
         None => false,
         Some(row) => has(&row.methods, m),
     }
@@ -74,7 +75,7 @@ fn has_method(rows: &[MemberRow], m: Name, s: ClassId) -> bool
 fn has_field(rows: &[MemberRow], f: Name, s: ClassId) -> bool
     ensures { IsTrue result ↔ FieldAtRow rows.now f s }
 {
-    match rows.get(s.0 as usize) {
+    match at(rows, s.0 as usize) {
         None => false,
         Some(row) => has(&row.fields, f),
     }
@@ -83,7 +84,7 @@ fn has_field(rows: &[MemberRow], f: Name, s: ClassId) -> bool
 fn has_sup(rows: &[MemberRow], a: ClassId, b: ClassId) -> bool
     ensures { IsTrue result ↔ SupAtRow rows.now a b }
 {
-    match rows.get(a.0 as usize) {
+    match at(rows, a.0 as usize) {
         None => false,
         Some(row) => has_class(&row.sups, b),
     }
@@ -93,7 +94,13 @@ fn has_sup(rows: &[MemberRow], a: ClassId, b: ClassId) -> bool
 fn is_lower(rows: &[MemberRow], m: Name, s: ClassId, t: ClassId) -> bool
     ensures { IsTrue result ↔ ((t ≡ s → ⊥) × MethodAtRow rows.now m t × SupAtRow rows.now t s) }
 {
-    !is_class(t, s) && has_method(rows, m, t) && has_sup(rows, t, s)
+    if is_class(t, s) {
+        return false;
+    }
+    if !has_method(rows, m, t) {
+        return false;
+    }
+    has_sup(rows, t, s)
 }
 
 /// Whether another of the numbers has the method and stands below `s`.
@@ -108,21 +115,47 @@ fn has_lower(rows: &[MemberRow], sups: &[ClassId], m: Name, s: ClassId) -> bool
     false
 }
 
-/// The first of the numbers, but for one, that has the method and none below.
-fn first_low(
+/// Whether the number hasn't the method, is the one that is left out, or has another below.
+fn is_passed(
     rows: &[MemberRow],
     sups: &[ClassId],
     m: Name,
     but: Option<ClassId>,
-) -> Option<ClassId>
+    s: ClassId,
+) -> bool
+    ensures passed { IsTrue result → PassedRow rows.now sups.now m but s }
+    ensures low { result ≡ false → IsLowRow rows.now sups.now m but s }
+{
+    if !has_method(rows, m, s) {
+        return true;
+    }
+    if is_just(but, s) {
+        return true;
+    }
+    has_lower(rows, sups, m, s)
+}
+
+/// The first of the numbers, but for one, that has the method and none below.
+fn first_low(rows: &[MemberRow], sups: &[ClassId], m: Name, but: Option<ClassId>) -> Option<ClassId>
     ensures { MatchOption result (PassedTo rows.now sups.now m but (length sups.now)) (FirstLowRow rows.now sups.now m but) }
 {
     for s in sups {
-        if has_method(rows, m, *s) && !is_just(but, *s) && !has_lower(rows, sups, m, *s) {
+        if !is_passed(rows, sups, m, but, *s) {
             return Some(*s);
         }
     }
     None
+}
+
+/// Whether the number hasn't the field, or is the one that is left out.
+fn is_fieldless(rows: &[MemberRow], f: Name, but: Option<ClassId>, s: ClassId) -> bool
+    ensures passed { IsTrue result → FieldlessRow rows.now f but s }
+    ensures other { result ≡ false → IsFieldRow rows.now f but s }
+{
+    if !has_field(rows, f, s) {
+        return true;
+    }
+    is_just(but, s)
 }
 
 /// The first of the numbers, but for one, that has the field.
@@ -135,11 +168,37 @@ fn first_field(
     ensures { MatchOption result (FieldlessTo rows.now sups.now f but (length sups.now)) (FirstFieldRow rows.now sups.now f but) }
 {
     for s in sups {
-        if has_field(rows, f, *s) && !is_just(but, *s) {
+        if !is_fieldless(rows, f, but, *s) {
             return Some(*s);
         }
     }
     None
+}
+
+/// The least one of the numbers that have the method, or the first two that have none below.
+fn least_of(rows: &[MemberRow], sups: &[ClassId], m: Name) -> Least
+    ensures { LeastRow rows.now sups.now m result }
+{
+    match first_low(rows, sups, m, None) {
+        None => Least::None,
+        Some(a) => match first_low(rows, sups, m, Some(a)) {
+            None => Least::One(a),
+            Some(b) => Least::Many(a, b),
+        },
+    }
+}
+
+/// The only one of the numbers that has the field, or the first two.
+fn field_of(rows: &[MemberRow], sups: &[ClassId], f: Name) -> Least
+    ensures { FieldRow rows.now sups.now f result }
+{
+    match first_field(rows, sups, f, None) {
+        None => Least::None,
+        Some(a) => match first_field(rows, sups, f, Some(a)) {
+            None => Least::One(a),
+            Some(b) => Least::Many(a, b),
+        },
+    }
 }
 
 /// A copy of the numbers.
@@ -158,9 +217,7 @@ impl Members {
 
     /// The members of a program, by a table in which its universe is filled.
     pub fn build(alloc: Global, p: &Program, t: &Table) -> Result<Members, AllocError>
-        requires filled { IsFilled p.now t.now }
-        requires acyclic { NoneIs (IsCycle p.now) }
-        ensures { IfOk result (λ members. IsMembersOf p.now t.now members) }
+        ensures { IfOk result (λ members. IsFilled p.now t.now → NoneIs (IsCycle p.now) → IsMembersOf p.now t.now members) }
     {
         let mut rows = Vec::new(alloc);
         for k in 0..t.known().len() {
@@ -178,15 +235,9 @@ impl Members {
     pub fn least(&self, id: ClassId, m: Name) -> Least
         ensures { SaysLeast self.now id m result }
     {
-        match self.rows.get(id.0 as usize) {
+        match at(&self.rows, id.0 as usize) {
             None => Least::None,
-            Some(row) => match first_low(&self.rows, &row.sups, m, None) {
-                None => Least::None,
-                Some(a) => match first_low(&self.rows, &row.sups, m, Some(a)) {
-                    None => Least::One(a),
-                    Some(b) => Least::Many(a, b),
-                },
-            },
+            Some(row) => least_of(&self.rows, &row.sups, m),
         }
     }
 
@@ -194,15 +245,9 @@ impl Members {
     pub fn field(&self, id: ClassId, f: Name) -> Least
         ensures { SaysField self.now id f result }
     {
-        match self.rows.get(id.0 as usize) {
+        match at(&self.rows, id.0 as usize) {
             None => Least::None,
-            Some(row) => match first_field(&self.rows, &row.sups, f, None) {
-                None => Least::None,
-                Some(a) => match first_field(&self.rows, &row.sups, f, Some(a)) {
-                    None => Least::One(a),
-                    Some(b) => Least::Many(a, b),
-                },
-            },
+            Some(row) => field_of(&self.rows, &row.sups, f),
         }
     }
 }

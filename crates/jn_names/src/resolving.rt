@@ -2,8 +2,7 @@ ghost use Rattle.std.specs.Prelude.{◌≡◌, Result};
 ghost use Rattle.jn_base.specs.declared.types.Atom.{Atom as AnAtom};
 ghost use Rattle.jn_base.specs.declared.types.Ty.{Ty as AType};
 ghost use Rattle.jn_base.specs.declared.refusal.Refusal.{Refusal as ARefusal};
-ghost use Rattle.jn_base.specs.Fits.{ScopeFits};
-ghost use Rattle.jn_base.specs.Resolve.{scope_at, Resolve};
+ghost use Rattle.jn_base.specs.Resolve.{Resolve};
 ghost use Rattle.jn_base.specs.ResolveTypes.{ResolveType, ResolveView};
 ghost use Rattle.jn_table.specs.Tables.{IsFilled};
 ghost use Rattle.jn_names.specs.Answers.{Told};
@@ -17,7 +16,8 @@ use jn_base::types::{Atom, Ty};
 use jn_table::Table;
 use std::alloc::Global;
 
-/// What a term stands for: an atom, or the first of its refusals, by E06, E14, E15 or E22.
+/// What a term stands for: an atom, or the first of its refusals, by E06, E14, E15 or E22. The universe is filled in the
+/// table, and the variables make a scope that fits.
 pub fn resolve(
     alloc: Global,
     p: &Program,
@@ -26,10 +26,8 @@ pub fn resolve(
     vars: &Vars,
     term: &Term,
 ) -> Result<Atom, NameFault>
-    requires filled { IsFilled p.now t.old }
-    requires scope { ScopeFits (scope_at spot.now vars.now) }
-    ensures told { Told (Resolve p.now spot.now vars.now term.now) result }
-    ensures only { (o : Result AnAtom ARefusal) → Resolve p.now spot.now vars.now term.now o → Told (λ a. a ≡ o) result }
+    ensures told { IsFilled p.now t.old → Told (Resolve p.now spot.now vars.now term.now) result }
+    ensures only { IsFilled p.now t.old → (o : Result AnAtom ARefusal) → Resolve p.now spot.now vars.now term.now o → Told (λ a. a ≡ o) result }
     ensures kept { t.new ≡ t.old }
 {
     atom_of(alloc, t, spot, vars, term)
@@ -46,10 +44,8 @@ pub fn resolve_type(
     masks: &[Name],
     ty: &TypeTerm,
 ) -> Result<Ty, NameFault>
-    requires filled { IsFilled p.now t.old }
-    requires scope { ScopeFits (scope_at spot.now vars.now) }
-    ensures told { Told (ResolveType p.now masks.now spot.now vars.now ty.now) result }
-    ensures only { (o : Result AType ARefusal) → ResolveType p.now masks.now spot.now vars.now ty.now o → Told (λ a. a ≡ o) result }
+    ensures told { IsFilled p.now t.old → Told (ResolveType p.now masks.now spot.now vars.now ty.now) result }
+    ensures only { IsFilled p.now t.old → (o : Result AType ARefusal) → ResolveType p.now masks.now spot.now vars.now ty.now o → Told (λ a. a ≡ o) result }
     ensures kept { t.new ≡ t.old }
 {
     type_of(alloc, t, masks, spot, vars, ty)
@@ -65,10 +61,8 @@ pub fn resolve_view(
     masks: &[Name],
     view: &ViewTerm,
 ) -> Result<Ty, NameFault>
-    requires filled { IsFilled p.now t.old }
-    requires scope { ScopeFits (scope_at spot.now vars.now) }
-    ensures told { Told (ResolveView p.now masks.now spot.now vars.now view.now) result }
-    ensures only { (o : Result AType ARefusal) → ResolveView p.now masks.now spot.now vars.now view.now o → Told (λ a. a ≡ o) result }
+    ensures told { IsFilled p.now t.old → Told (ResolveView p.now masks.now spot.now vars.now view.now) result }
+    ensures only { IsFilled p.now t.old → (o : Result AType ARefusal) → ResolveView p.now masks.now spot.now vars.now view.now o → Told (λ a. a ≡ o) result }
     ensures kept { t.new ≡ t.old }
 {
     view_of(alloc, t, masks, spot, vars, view)

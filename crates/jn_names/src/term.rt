@@ -1,6 +1,6 @@
-ghost use Rattle.std.specs.Prelude.{◌≡◌, ◌≤◌, ◌++◌, length, IsTrue, ◌↔◌, IfOk};
+ghost use Rattle.std.specs.Prelude.{◌≡◌, Ok, IsTrue, ◌↔◌, IfOk};
 ghost use Rattle.jn_base.specs.declared.tree.Program.{Program};
-ghost use Rattle.jn_base.specs.Fits.{ScopeFits};
+ghost use Rattle.jn_base.specs.declared.types.Anchor.TheVariants.{Up};
 ghost use Rattle.jn_base.specs.Resolve.{class_of, scope_at, names_of, anchor_out, taken_off, IsAbove, Behind, BoundGives, PathGives, PlainGiven, PrefixGiven, AnchorGiven, suits, is_fixed, has_exact, IsOfClass, SuitGives, atom_with, Resolve};
 ghost use Rattle.jn_table.specs.Tables.{IsFilled};
 ghost use Rattle.jn_names.specs.Answers.{Told};
@@ -36,26 +36,34 @@ fn names_of(alloc: Global, term: &Term) -> Result<Items<Name>, AllocError>
     Ok(names)
 }
 
+/// The anchor `Up(path, k)`. No scope that fits has a bound of more than 255 names; of such a one nothing is told.
+fn up(path: u32, k: usize) -> Result<Anchor, NameFault>
+    ensures { Told (λ o. o ≡ Ok (Up path k)) result }
+{
+    if k > 255 {
+        return Err(NameFault::Memory);
+    }
+    Ok(Anchor::Up(path, k as u8))
+}
+
 /// The anchor where `k` names of the class are taken off.
-fn anchor_out(class: &Bound, k: usize) -> Anchor
-    requires { length class.now ≤ 255 }
-    ensures { result ≡ anchor_out class.now k }
+fn anchor_out(class: &Bound, k: usize) -> Result<Anchor, NameFault>
+    ensures { Told (λ o. o ≡ Ok (anchor_out class.now k)) result }
 {
     if k < class.depth() {
-        return Anchor::Up(0, k as u8);
+        return up(0, k);
     }
-    Anchor::Root
+    Ok(Anchor::Root)
 }
 
 /// The anchor of `N.t`.
 fn plain(alloc: Global, t: &Table, spot: &Spot, term: &Term) -> Result<Anchor, NameFault>
-    requires { length (class_of spot.now) ≤ 255 }
     ensures { Told (λ o. (p : Program) → IsFilled p t.now → PlainGiven p spot.now term.now o) result }
 {
     let class = class_of(alloc, spot)?;
     let names = names_of(alloc, term)?;
     match sought(alloc, t, &class, names.as_slice())? {
-        Found::Without(k) => Ok(anchor_out(&class, k)),
+        Found::Without(k) => anchor_out(&class, k),
         Found::Unknown(name) => Err(refused(alloc, Rule::E06, term.at, spot, name)),
     }
 }
@@ -117,7 +125,6 @@ fn bound_gives(
     path: u32,
     v: &Bound,
 ) -> Result<Anchor, NameFault>
-    requires { length v.now ≤ 255 }
     ensures { Told (λ o. (p : Program) → IsFilled p t.now → BoundGives p spot.now term.now front.now path v.now (taken_off front.now v.now) o) result }
 {
     match taken_off(front, v) {
@@ -147,7 +154,6 @@ fn path_gives(
     front: &Option<Bound>,
     before: Before,
 ) -> Result<Anchor, NameFault>
-    requires { ScopeFits (scope_at spot.now vars.now) }
     ensures { Told (λ o. (p : Program) → IsFilled p t.now → PathGives p spot.now (scope_at spot.now vars.now) term.now front.now (told_before before) o) result }
 {
     match before {
@@ -171,7 +177,6 @@ fn prefix(
     names: &[Name],
     r: Ref,
 ) -> Result<Anchor, NameFault>
-    requires { ScopeFits (scope_at spot.now vars.now) }
     ensures { Told (λ o. (p : Program) → IsFilled p t.now → PrefixGiven p spot.now vars.now term.now names.now r o) result }
 {
     let class = class_of(alloc, spot)?;
@@ -194,7 +199,6 @@ fn anchor_of(
     vars: &Vars,
     term: &Term,
 ) -> Result<Anchor, NameFault>
-    requires { ScopeFits (scope_at spot.now vars.now) }
     ensures { Told (λ o. (p : Program) → IsFilled p t.now → AnchorGiven p spot.now vars.now term.now term.now.head o) result }
 {
     match &term.head {
@@ -295,7 +299,6 @@ pub fn atom_of(
     vars: &Vars,
     term: &Term,
 ) -> Result<Atom, NameFault>
-    requires { ScopeFits (scope_at spot.now vars.now) }
     ensures { Told (λ o. (p : Program) → IsFilled p t.now → Resolve p spot.now vars.now term.now o) result }
 {
     let anchor = anchor_of(alloc, t, spot, vars, term)?;

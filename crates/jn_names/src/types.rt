@@ -1,7 +1,5 @@
 ghost use Rattle.std.specs.Prelude.{◌≡◌, ◌∷◌, [], length, IsTrue, ◌↔◌, IfOk};
 ghost use Rattle.jn_base.specs.declared.tree.Program.{Program};
-ghost use Rattle.jn_base.specs.Fits.{ScopeFits};
-ghost use Rattle.jn_base.specs.Resolve.{scope_at};
 ghost use Rattle.jn_base.specs.ResolveTypes.{OneDepth, ResolveAll, bounds_at, may_mask, MasksGive, DepthsGive, ResolveClass, ResolveType, ResolveView};
 ghost use Rattle.jn_table.specs.Tables.{IsFilled};
 ghost use Rattle.jn_names.specs.Answers.{Told};
@@ -27,7 +25,6 @@ fn atoms_of(
     vars: &Vars,
     terms: &[Term],
 ) -> Result<Items<Atom>, NameFault>
-    requires { ScopeFits (scope_at spot.now vars.now) }
     ensures told { Told (λ o. (p : Program) → IsFilled p t.now → ResolveAll p spot.now vars.now terms.now o) result }
     ensures long { IfOk result (λ atoms. length atoms ≡ length terms.now) }
 {
@@ -138,7 +135,6 @@ fn class_type(
     terms: &[Term],
     masks: &[Named],
 ) -> Result<Ty, NameFault>
-    requires { ScopeFits (scope_at spot.now vars.now) }
     ensures { Told (λ o. (p : Program) → IsFilled p t.now → ResolveClass p names.now spot.now vars.now terms.now masks.now o) result }
 {
     let atoms = atoms_of(alloc, t, spot, vars, terms)?;
@@ -155,7 +151,6 @@ pub fn type_of(
     vars: &Vars,
     ty: &TypeTerm,
 ) -> Result<Ty, NameFault>
-    requires { ScopeFits (scope_at spot.now vars.now) }
     ensures { Told (λ o. (p : Program) → IsFilled p t.now → ResolveType p names.now spot.now vars.now ty.now o) result }
 {
     match ty {
@@ -200,7 +195,6 @@ pub fn view_of(
     vars: &Vars,
     view: &ViewTerm,
 ) -> Result<Ty, NameFault>
-    requires { ScopeFits (scope_at spot.now vars.now) }
     ensures { Told (λ o. (p : Program) → IsFilled p t.now → ResolveView p names.now spot.now vars.now view.now o) result }
 {
     match atom_of(alloc, t, spot, vars, &view.term) {

@@ -13,6 +13,7 @@ mod class;
 mod depths;
 mod entry;
 mod fault;
+mod field_types;
 mod fill;
 mod gather;
 mod judge;
@@ -28,6 +29,7 @@ mod universe;
 
 pub use class::{ClassId, Row, RowMember};
 pub use fault::TableFault;
+pub use field_types::{FieldTy, FieldTypes};
 pub use table::Table;
 
 #[cfg(test)]

@@ -1,0 +1,153 @@
+-- What `Members` answers, and how it is built.
+use Rattle.std.proofs.Common.{◌≡◌, ◌<◌, ◌≤◌, ◌+◌, ℕ, zero, suc, List, [], ◌∷◌, ◌++◌, length, slice_get, Some, None, Option, refl, sym, ap, ◌∙◌, subst, ◌⊎◌, inl, inr, arith}
+use Rattle.std.proofs.lemmas.Bool.{cases_lt}
+use Rattle.jn_reach.proofs.Searches.{same_some}
+use Rattle.jn_base.specs.declared.tree.Name.{Name}
+use Rattle.jn_base.specs.declared.tree.Program.{Program}
+use Rattle.jn_base.specs.declared.path.Path.{Path as ShownPath}
+use Rattle.jn_base.specs.Paths.{Path}
+use Rattle.jn_base.specs.Supers.{Sup}
+use Rattle.jn_base.specs.TableRules.{IsCycle, NoneIs}
+use Rattle.jn_table.specs.declared.class.ClassId.{ClassId}
+use Rattle.jn_table.specs.declared.class.Row.{Row}
+use Rattle.jn_table.specs.declared.table.Table.{Table}
+use Rattle.jn_table.specs.OwnParts.{SaysMethods, SaysFields}
+use Rattle.jn_table.specs.Rows.{IsNumber, AreClasses}
+use Rattle.jn_table.specs.Tables.{IsTableOf, IsFilled, SaysRow}
+use Rattle.jn_table.proofs.Shown.{same_id}
+use Rattle.jn_names.specs.declared.members.MemberRow.{MemberRow}
+use Rattle.jn_names.specs.declared.members.Members.{Members}
+use Rattle.jn_names.specs.declared.members.Least.{Least}
+use Rattle.jn_names.specs.declared.members.Least.TheVariants as least
+use Rattle.jn_names.specs.MemberRows.{PassedTo, FirstLowRow, FieldlessTo, FirstFieldRow, LeastRow, FieldRow}
+use Rattle.jn_names.specs.Members.{IsMemberRow, RowAt, IsMembersOf, SaysLeast, SaysField}
+use Rattle.jn_names.proofs.MemberProof.{path_at, first_is, second_is, none_is, only_is, none_least, first_field_is, second_field_is, no_field_is, only_field_is, within_of}
+
+-- the supers of the row are those of the path of its number
+its_sups : (ms : Members) (id : ClassId) (row : MemberRow) → slice_get ms.rows.items id.0 ≡ Some row → (p : Program) (t : Table) (R : Path) → IsMembersOf p t ms
+    → IsNumber t.known.items id R → AreClasses p t.known.items (Sup p R) row.sups.items
+its_sups ms id row at p t R g n =
+    let r = g.rows id R n in
+    subst (λ (w : MemberRow). AreClasses p t.known.items (Sup p R) w.sups.items) (same_some (slice_get ms.rows.items id.0) r.row row r.at at) r.is.sups
+
+pub least_absent : (ms : Members) (id : ClassId) (m : Name) → slice_get ms.rows.items id.0 ≡ None → SaysLeast ms id m least.None
+least_absent ms id m e = λ p t R g n. absurd (let k : ◌≡◌ {A = Option MemberRow} None (Some (g.rows id R n).row) = sym e ∙ (g.rows id R n).at in cc k)
+
+pub field_absent : (ms : Members) (id : ClassId) (f : Name) → slice_get ms.rows.items id.0 ≡ None → SaysField ms id f least.None
+field_absent ms id f e = λ p t R g n. absurd (let k : ◌≡◌ {A = Option MemberRow} None (Some (g.rows id R n).row) = sym e ∙ (g.rows id R n).at in cc k)
+
+module _ (ms : Members) (id : ClassId) (m : Name) (row : MemberRow) (at : slice_get ms.rows.items id.0 ≡ Some row) where
+  pub least_none : PassedTo ms.rows.items row.sups.items m None (length row.sups.items) → SaysLeast ms id m least.None
+  least_none h = λ p t R g n. none_is p t ms g R row.sups.items (its_sups ms id row at p t R g n) m h
+
+  pub least_one : (a : ClassId) → FirstLowRow ms.rows.items row.sups.items m None a → PassedTo ms.rows.items row.sups.items m (Some a) (length row.sups.items)
+      → SaysLeast ms id m (least.One a)
+  least_one a f h = λ p t R g n.
+      let c = its_sups ms id row at p t R g n in
+      let q = path_at p t ms g R row.sups.items c f.place a f.at in
+      (q.path, q.number, only_is p t ms g R row.sups.items c m a q.path q.number (first_is p t ms g R row.sups.items c m a f q.path q.number).holds h)
+
+  pub least_many : (a b : ClassId) → FirstLowRow ms.rows.items row.sups.items m None a → FirstLowRow ms.rows.items row.sups.items m (Some a) b
+      → SaysLeast ms id m (least.Many a b)
+  least_many a b f s = λ p t R g n.
+      let c = its_sups ms id row at p t R g n in
+      let q = path_at p t ms g R row.sups.items c f.place a f.at in
+      let r = path_at p t ms g R row.sups.items c s.place b s.at in
+      let one = first_is p t ms g R row.sups.items c m a f q.path q.number in
+      let two = second_is p t ms g R row.sups.items c m a b s q.path r.path q.number r.number in (
+        record { one = q.path; one_is = q.number; one_first = one; two = r.path; two_is = r.number; two_first = two },
+        none_least p t ms g R row.sups.items c m q.path r.path one.holds two.holds.0 two.holds.1,
+      )
+
+  pub field_none : FieldlessTo ms.rows.items row.sups.items m None (length row.sups.items) → SaysField ms id m least.None
+  field_none h = λ p t R g n. no_field_is p t ms g R row.sups.items (its_sups ms id row at p t R g n) m h
+
+  pub field_one : (a : ClassId) → FirstFieldRow ms.rows.items row.sups.items m None a → FieldlessTo ms.rows.items row.sups.items m (Some a) (length row.sups.items)
+      → SaysField ms id m (least.One a)
+  field_one a f h = λ p t R g n.
+      let c = its_sups ms id row at p t R g n in
+      let q = path_at p t ms g R row.sups.items c f.place a f.at in
+      (q.path, q.number, only_field_is p t ms g R row.sups.items c m a q.path q.number (first_field_is p t ms g R row.sups.items c m a f q.path q.number).holds h)
+
+  pub field_many : (a b : ClassId) → FirstFieldRow ms.rows.items row.sups.items m None a → FirstFieldRow ms.rows.items row.sups.items m (Some a) b
+      → SaysField ms id m (least.Many a b)
+  field_many a b f s = λ p t R g n.
+      let c = its_sups ms id row at p t R g n in
+      let q = path_at p t ms g R row.sups.items c f.place a f.at in
+      let r = path_at p t ms g R row.sups.items c s.place b s.at in
+      record {
+        one = q.path;
+        one_is = q.number;
+        one_first = first_field_is p t ms g R row.sups.items c m a f q.path q.number;
+        two = r.path;
+        two_is = r.number;
+        two_first = second_field_is p t ms g R row.sups.items c m a b s q.path r.path q.number r.number;
+      }
+
+-- what a search in the rows tells
+pub says_least : (ms : Members) (id : ClassId) (m : Name) (row : MemberRow) (rows : List MemberRow) (sups : List ClassId) (told : Least)
+    → Some row ≡ slice_get ms.rows.items id.0 → rows ≡ ms.rows.items → sups ≡ row.sups.items → LeastRow rows sups m told → SaysLeast ms id m told
+says_least ms id m row rows sups told at e h k =
+    by_answer told (subst (λ (rs : List MemberRow). LeastRow rs row.sups.items m told) e (subst (λ (ss : List ClassId). LeastRow rows ss m told) h k)) where
+      by_answer : (told : Least) → LeastRow ms.rows.items row.sups.items m told → SaysLeast ms id m told
+      by_answer least.None w = least_none ms id m row (sym at) w
+      by_answer (least.One a) w = least_one ms id m row (sym at) a w.0 w.1
+      by_answer (least.Many a b) w = least_many ms id m row (sym at) a b w.0 w.1
+
+pub says_field : (ms : Members) (id : ClassId) (f : Name) (row : MemberRow) (rows : List MemberRow) (sups : List ClassId) (told : Least)
+    → Some row ≡ slice_get ms.rows.items id.0 → rows ≡ ms.rows.items → sups ≡ row.sups.items → FieldRow rows sups f told → SaysField ms id f told
+says_field ms id f row rows sups told at e h k =
+    by_answer told (subst (λ (rs : List MemberRow). FieldRow rs row.sups.items f told) e (subst (λ (ss : List ClassId). FieldRow rows ss f told) h k)) where
+      by_answer : (told : Least) → FieldRow ms.rows.items row.sups.items f told → SaysField ms id f told
+      by_answer least.None w = field_none ms id f row (sym at) w
+      by_answer (least.One a) w = field_one ms id f row (sym at) a w.0 w.1
+      by_answer (least.Many a b) w = field_many ms id f row (sym at) a b w.0 w.1
+
+-- ---- building
+
+get_front : {A : Type 0} (xs ys : List A) (i : ℕ) (x : A) → slice_get xs i ≡ Some x → slice_get (xs ++ ys) i ≡ Some x
+get_front [] ys i x e = absurd (cc e)
+get_front (z ∷ xs) ys zero x e = e
+get_front (z ∷ xs) ys (suc i) x e = get_front xs ys i x e
+
+get_last : {A : Type 0} (xs : List A) (y : A) → slice_get (xs ++ y ∷ []) (length xs) ≡ Some y
+get_last [] y = refl
+get_last (x ∷ xs) y = get_last xs y
+
+pub is_member_row : (p : Program) (t : Table) (R : Path) (id : ClassId) (row : MemberRow) (filled : Row) → IsTableOf p t → IsNumber t.known.items id R
+    → SaysRow t id filled → row.sups.items ≡ filled.sups.items → SaysMethods t id row.methods.items → SaysFields t id row.fields.items
+    → IsMemberRow p t.known.items R row
+is_member_row p t R id row filled is n says e methods fields = record {
+  sups = subst (AreClasses p t.known.items (Sup p R)) (sym e) (says p R is n).sups;
+  methods = methods p R is n;
+  fields = fields p R is n;
+}
+
+-- the rows of the first k numbers
+abbrev pub RowsTo : Program → List ShownPath → List MemberRow → ℕ → Type 0
+RowsTo p known rows k = (id : ClassId) (R : Path) → id.0 < k → IsNumber known id R → RowAt p known rows id R
+
+pub rows_more : (p : Program) (known : List ShownPath) (rows new : List MemberRow) (row : MemberRow) (id : ClassId) → length rows ≡ id.0
+    → RowsTo p known rows id.0 → ((R : Path) → IsNumber known id R → IsMemberRow p known R row) → new ≡ rows ++ row ∷ [] → RowsTo p known new (id.0 + 1)
+rows_more p known rows new row id long h one e = λ other R l n. by_place other R n (cases_lt other.0 id.0) l where
+  by_place : (other : ClassId) (R : Path) → IsNumber known other R → (other.0 < id.0) ⊎ (id.0 ≤ other.0) → other.0 < id.0 + 1 → RowAt p known new other R
+  by_place other R n (inl b) l =
+      let r = h other R b n in
+      record { row = r.row; at = subst (λ (xs : List MemberRow). slice_get xs other.0 ≡ Some r.row) (sym e) (get_front rows (row ∷ []) other.0 r.row r.at); is = r.is }
+  by_place other R n (inr b) l =
+      let s : other.0 ≡ id.0 = omega arith in
+      let i : other ≡ id = same_id other id s in
+      record {
+        row = row;
+        at = subst (λ (xs : List MemberRow). slice_get xs other.0 ≡ Some row) (sym e)
+            (subst (λ (k : ℕ). slice_get (rows ++ row ∷ []) k ≡ Some row) (long ∙ sym s) (get_last rows row));
+        is = one R (subst (λ (x : ClassId). IsNumber known x R) i n);
+      }
+
+pub rows_all : (p : Program) (t : Table) (ms : Members) (k : ℕ) → IsFilled p t → NoneIs (IsCycle p) → length t.known.items ≤ k → RowsTo p t.known.items ms.rows.items k
+    → IsMembersOf p t ms
+rows_all p t ms k f a l h = record {
+  filled = f;
+  acyclic = a;
+  rows = λ id R n. h id R (let w = within_of t.known.items id.0 _ n in omega (arith, w, l)) n;
+}

@@ -1,0 +1,5 @@
+use Rattle.jn_names.specs.MemberRows.{FieldlessTo}
+use Rattle.jn_names.proofs.members.first_field.Given as goal
+
+abbrev pub invariant-loop-s : goal.invariant-loop-s
+invariant-loop-s l = FieldlessTo l.rows l.sups l.f l.but l.s-index

@@ -1,0 +1,5 @@
+use Rattle.jn_names.specs.MemberRows.{PassedTo}
+use Rattle.jn_names.proofs.members.first_low.Given as goal
+
+abbrev pub invariant-loop-s : goal.invariant-loop-s
+invariant-loop-s l = PassedTo l.rows l.sups l.m l.but l.s-index
