@@ -1,5 +1,5 @@
 -- The types of fields, one level deep and list by list.
-use Rattle.std.proofs.Common.{◌≡◌, ◌<◌, ◌≤◌, ◌+◌, ℕ, List, [], ◌∷◌, ◌++◌, map, take, drop, length, get_or, refl, sym, ap, ◌∙◌, subst, Result, Ok, Err, arith}
+use Rattle.std.proofs.Common.{◌≡◌, ◌<◌, ◌≤◌, ◌+◌, ℕ, List, [], ◌∷◌, ◌++◌, map, take, drop, length, get_or, refl, sym, ap, ◌∙◌, subst, Result, Ok, Err}
 use Rattle.std.proofs.lemmas.List.{append_assoc, append-nil, take-append-drop, take_all}
 use Rattle.std.proofs.lemmas.Option.{slice_get_read}
 use Rattle.jn_base.specs.declared.tree.Name.{Name}
@@ -28,7 +28,7 @@ use Rattle.jn_names.specs.declared.fault.NameFault.{NameFault}
 use Rattle.jn_names.specs.declared.fault.NameFault.TheVariants.{Refused, Memory}
 use Rattle.jn_names.specs.Answers.{Told}
 use Rattle.jn_names.specs.FieldTypes.{AtField, FieldsBy, all_by, member_step, decl_step, fields_of_member, fields_of_decl, spot_of, no_vars, FieldGives, before_fields, typed, declared_fields, FieldsGive, FieldTypesTold, none, refused, first}
-use Rattle.jn_names.specs.FieldSteps.{Adds, AddsOr, SaysAdds}
+use Rattle.jn_names.specs.FieldSteps.{Adds, AddsOr}
 use Rattle.jn_names.proofs.Turned.{at_index}
 use Rattle.jn_names.proofs.ScopedProof.{take_one, map_both}
 
