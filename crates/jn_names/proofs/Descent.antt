@@ -41,6 +41,6 @@ pub no_descent : (p : Program) → NoneIs (IsCycle p) → (L : List Path) (P : P
 no_descent p n [] P cover lower w h = in_none w (cover w h)
 no_descent p n (z ∷ L) P cover lower w h =
     let not_z : P z → ⊥ = λ pz.
-        let y = lower z pz in
-        no_descent p n L (UnderIn p P z) (under_covered p L P z cover) (under_lower p n P z lower) y.0 (y.1, y.2, y.3) in
+    let y = lower z pz in
+    no_descent p n L (UnderIn p P z) (under_covered p L P z cover) (under_lower p n P z lower) y.0 (y.1, y.2, y.3) in
     no_descent p n L P (λ v pv. elsewhere z L v (cover v pv) (λ e. not_z (subst P (sym e) pv))) lower w h

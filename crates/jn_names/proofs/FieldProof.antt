@@ -78,12 +78,12 @@ module _ (p : Program) (known : List ShownPath) where
   give_then (x ∷ xs) ys a q o (refused r k e) h g = absurd (let l : ◌≡◌ {A = Result (List FieldTy) Refusal} (Err r) (Ok a) = sym e ∙ h in cc l)
   give_then (x ∷ xs) ys a q o (first ty id others k n rest e) h g =
       by_others others (λ b i. give_then xs ys b others o rest i g) (sym e ∙ h) where
-    by_others : (v : Result (List FieldTy) Refusal) → ((b : List FieldTy) → v ≡ Ok b → FieldsGive p known (xs ++ ys) (behind b o)) → before_fields (typed id x ty) v ≡ Ok a
-        → FieldsGive p known (x ∷ (xs ++ ys)) (behind a o)
-    by_others (Err r) f i = absurd (cc i)
-    by_others (Ok b) f i =
-        let j : (typed id x ty ∷ b) ≡ a = cc i in
-        first ty id (behind b o) k n (f b refl) (ap (λ (c : List FieldTy). behind c o) (sym j) ∙ before_behind (typed id x ty) b o)
+        by_others : (v : Result (List FieldTy) Refusal) → ((b : List FieldTy) → v ≡ Ok b → FieldsGive p known (xs ++ ys) (behind b o)) → before_fields (typed id x ty) v ≡ Ok a
+            → FieldsGive p known (x ∷ (xs ++ ys)) (behind a o)
+        by_others (Err r) f i = absurd (cc i)
+        by_others (Ok b) f i =
+            let j : (typed id x ty ∷ b) ≡ a = cc i in
+            first ty id (behind b o) k n (f b refl) (ap (λ (c : List FieldTy). behind c o) (sym j) ∙ before_behind (typed id x ty) b o)
 
   give_refused : (xs ys : List AtField) (r : Refusal) (q : Result (List FieldTy) Refusal) → FieldsGive p known xs q → q ≡ Err r → FieldsGive p known (xs ++ ys) (Err r)
   give_refused [] ys r q (none e) h = absurd (let k : ◌≡◌ {A = Result (List FieldTy) Refusal} (Ok []) (Err r) = sym e ∙ h in cc k)
@@ -91,9 +91,9 @@ module _ (p : Program) (known : List ShownPath) where
       let i : s ≡ r = cc l in refused r (subst (λ (z : Refusal). FieldGives p x (Err z)) i k) refl
   give_refused (x ∷ xs) ys r q (first ty id others k n rest e) h =
       by_others others (λ i. give_refused xs ys r others rest i) (sym e ∙ h) where
-    by_others : (v : Result (List FieldTy) Refusal) → (v ≡ Err r → FieldsGive p known (xs ++ ys) (Err r)) → before_fields (typed id x ty) v ≡ Err r → FieldsGive p known (x ∷ (xs ++ ys)) (Err r)
-    by_others (Err s) f i = first ty id (Err r) k n (f i) refl
-    by_others (Ok b) f i = absurd (cc i)
+        by_others : (v : Result (List FieldTy) Refusal) → (v ≡ Err r → FieldsGive p known (xs ++ ys) (Err r)) → before_fields (typed id x ty) v ≡ Err r → FieldsGive p known (x ∷ (xs ++ ys)) (Err r)
+        by_others (Err s) f i = first ty id (Err r) k n (f i) refl
+        by_others (Ok b) f i = absurd (cc i)
 
 -- ---- adding
 
@@ -127,17 +127,17 @@ module _ {A : Type 0} (f : A → FieldsBy) (R : Path) (ms : List A) (p : Program
       → Adds p t (f m R) b c → Adds p t (all_by R (map f (take (i + 1) ms))) a c
   adds_more i m a b c l e g h =
       subst (λ (xs : List AtField). Adds p t xs a c) (sym (fields_to i m l e ∙ ap (λ (xs : List AtField). all_by R (map f (take i ms)) ++ xs) (append-nil (f m R))))
-          (adds_joined p t (all_by R (map f (take i ms))) (f m R) a b c g h)
+      (adds_joined p t (all_by R (map f (take i ms))) (f m R) a b c g h)
 
   pub refused_at : (i : ℕ) (m : A) (a b c : List FieldTy) (fault : NameFault) → i < length ms → m ≡ get_or ms i m → Adds p t (all_by R (map f (take i ms))) a b
       → AddsOr p t (f m R) b c (Err fault) → AddsOr p t (all_by R (map f ms)) a c (Err fault)
   refused_at i m a b c (Refused r) l e g h =
       let split : ms ≡ take i ms ++ (m ∷ drop (i + 1) ms) = sym (take-append-drop i ms) ∙ ap (λ (xs : List A). take i ms ++ xs) (at_index ms i m l e) in
       let parts : all_by R (map f ms) ≡ all_by R (map f (take i ms)) ++ (f m R ++ all_by R (map f (drop (i + 1) ms))) =
-          ap (λ (xs : List A). all_by R (map f xs)) split
-          ∙ (ap (all_by R) (map_both f (take i ms) (m ∷ drop (i + 1) ms)) ∙ all_both R (map f (take i ms)) (f m ∷ map f (drop (i + 1) ms))) in
+      ap (λ (xs : List A). all_by R (map f xs)) split
+      ∙ (ap (all_by R) (map_both f (take i ms) (m ∷ drop (i + 1) ms)) ∙ all_both R (map f (take i ms)) (f m ∷ map f (drop (i + 1) ms))) in
       subst (λ (xs : List AtField). FieldsGive p t.known.items xs (Err r)) (sym parts)
-          (refused_behind p t (all_by R (map f (take i ms))) (f m R) (all_by R (map f (drop (i + 1) ms))) a b r g h)
+      (refused_behind p t (all_by R (map f (take i ms))) (f m R) (all_by R (map f (drop (i + 1) ms))) a b r g h)
   refused_at i m a b c Memory l e g h = tt
 
   pub adds_all : (i : ℕ) (a b : List FieldTy) → length ms ≤ i → Adds p t (all_by R (map f (take i ms))) a b → Adds p t (all_by R (map f ms)) a b
@@ -179,4 +179,4 @@ pub told_all : (p : Program) (t : Table) (xs : List AtField) (a b : List FieldTy
 told_all p t xs a b e h g =
     let types : g.types ≡ b = sym (g.is ∙ ap (λ (o : List FieldTy). o ++ g.types) h) in
     subst (λ (ts : List FieldTy). FieldsGive p t.known.items (declared_fields p) (Ok ts)) types
-        (subst (λ (ys : List AtField). FieldsGive p t.known.items ys (Ok g.types)) e g.give)
+    (subst (λ (ys : List AtField). FieldsGive p t.known.items ys (Ok g.types)) e g.give)

@@ -68,16 +68,14 @@ module _ (p : Program) (t : Table) (ms : Members) (g : IsMembersOf p t ms) where
 
   method_row : (m : Name) (s : ClassId) (S : Path) → Num s S → MethodAtRow ms.rows.items m s ↔ MethodNamed p S m
   method_row m s S n =
-      let r = g.rows s S n in
-      (
+      let r = g.rows s S n in (
         λ x. (r.is.methods m).0 (subst (λ (w : MemberRow). Contains w.methods.items m) (same_some (slice_get ms.rows.items s.0) x.0 r.row x.1 r.at) x.2),
         λ x. (r.row, r.at, (r.is.methods m).1 x),
       )
 
   field_row : (f : Name) (s : ClassId) (S : Path) → Num s S → FieldAtRow ms.rows.items f s ↔ FieldNamed p S f
   field_row f s S n =
-      let r = g.rows s S n in
-      (
+      let r = g.rows s S n in (
         λ x. (r.is.fields f).0 (subst (λ (w : MemberRow). Contains w.fields.items f) (same_some (slice_get ms.rows.items s.0) x.0 r.row x.1 r.at) x.2),
         λ x. (r.row, r.at, (r.is.fields f).1 x),
       )
@@ -90,8 +88,7 @@ module _ (p : Program) (t : Table) (ms : Members) (g : IsMembersOf p t ms) where
   sup_row : (a b : ClassId) (A B : Path) → Num a A → Num b B → SupAtRow ms.rows.items a b ↔ Sup p A B
   sup_row a b A B x y =
       let r = g.rows a A x in
-      let k = row_sups A r.row.sups.items r.is.sups b B y in
-      (
+      let k = row_sups A r.row.sups.items r.is.sups b B y in (
         λ z. k.0 (subst (λ (w : MemberRow). Contains w.sups.items b) (same_some (slice_get ms.rows.items a.0) z.0 r.row z.1 r.at) z.2),
         λ s. (r.row, r.at, k.1 s),
       )
@@ -144,8 +141,7 @@ module _ (p : Program) (t : Table) (ms : Members) (g : IsMembersOf p t ms) where
     lower_of m s S n h =
         let w = h.1 in
         let k = place_of sups h.0 w.among in
-        let T = path_at k.0 h.0 k.2 in
-        (
+        let T = path_at k.0 h.0 k.2 in (
           T.path,
           decls_of m T.path T.super ((method_row m h.0 T.path T.number).0 w.has),
           (sup_row h.0 s T.path S T.number n).0 w.below,
@@ -168,12 +164,15 @@ module _ (p : Program) (t : Table) (ms : Members) (g : IsMembersOf p t ms) where
       by_number S q d below = by_cases (id_cases q.id a) where
         by_cases : (q.id ≡ a) ⊎ (q.id ≡ a → ⊥) → S ≡ A
         by_cases (inl e) = number_path t.known.items a S A (subst (λ (x : ClassId). Num x S) e q.number) x
-        by_cases (inr n) = absurd (w.low (q.id, record {
-          among = among_of sups q.place q.id q.id_at;
-          other = n;
-          has = (method_row m q.id S q.number).1 (declared_here m S d);
-          below = (sup_row q.id a S A q.number x).1 below;
-        }))
+        by_cases (inr n) = absurd (w.low (
+          q.id,
+          record {
+            among = among_of sups q.place q.id q.id_at;
+            other = n;
+            has = (method_row m q.id S q.number).1 (declared_here m S d);
+            below = (sup_row q.id a S A q.number x).1 below;
+          },
+        ))
 
     not_low : (m : Name) (S : Path) → IsLow p R m S → LowerIn p (Decls p R m) S → ⊥
     not_low m S w l = l.3 (w.none_below l.0 l.1 l.2)
@@ -235,6 +234,7 @@ module _ (p : Program) (t : Table) (ms : Members) (g : IsMembersOf p t ms) where
             let i : A ≡ S = number_path t.known.items a A S x (subst (λ (j : ClassId). Num j S) (sym k) s.number) in
             absurd (v.1 (subst (Sup p A) i itself))
         by_row (inr l) = (l.0, (l.1, λ z. v.1 (sup_joined z l.2)), l.2, l.3)
+
       by_cases : (S : Path) → Decls p R m S → Sup p A S ⊎ (Sup p A S → ⊥) → Sup p A S
       by_cases S d (inl s) = s
       by_cases S d (inr n) = absurd (no_descent p g.acyclic c.paths (Away m A) (λ T v. (c.are.exact T).1 v.0.super) (λ T v. by_place T v (super_at T v.0.super)) S (d, n))

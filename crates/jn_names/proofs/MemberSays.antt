@@ -54,8 +54,7 @@ module _ (ms : Members) (id : ClassId) (m : Name) (row : MemberRow) (at : slice_
       let q = path_at p t ms g R row.sups.items c f.place a f.at in
       let r = path_at p t ms g R row.sups.items c s.place b s.at in
       let one = first_is p t ms g R row.sups.items c m a f q.path q.number in
-      let two = second_is p t ms g R row.sups.items c m a b s q.path r.path q.number r.number in
-      (
+      let two = second_is p t ms g R row.sups.items c m a b s q.path r.path q.number r.number in (
         record { one = q.path; one_is = q.number; one_first = one; two = r.path; two_is = r.number; two_first = two },
         none_least p t ms g R row.sups.items c m q.path r.path one.holds two.holds.0 two.holds.1,
       )
@@ -90,19 +89,19 @@ pub says_least : (ms : Members) (id : ClassId) (m : Name) (row : MemberRow) (row
     → Some row ≡ slice_get ms.rows.items id.0 → rows ≡ ms.rows.items → sups ≡ row.sups.items → LeastRow rows sups m told → SaysLeast ms id m told
 says_least ms id m row rows sups told at e h k =
     by_answer told (subst (λ (rs : List MemberRow). LeastRow rs row.sups.items m told) e (subst (λ (ss : List ClassId). LeastRow rows ss m told) h k)) where
-  by_answer : (told : Least) → LeastRow ms.rows.items row.sups.items m told → SaysLeast ms id m told
-  by_answer least.None w = least_none ms id m row (sym at) w
-  by_answer (least.One a) w = least_one ms id m row (sym at) a w.0 w.1
-  by_answer (least.Many a b) w = least_many ms id m row (sym at) a b w.0 w.1
+      by_answer : (told : Least) → LeastRow ms.rows.items row.sups.items m told → SaysLeast ms id m told
+      by_answer least.None w = least_none ms id m row (sym at) w
+      by_answer (least.One a) w = least_one ms id m row (sym at) a w.0 w.1
+      by_answer (least.Many a b) w = least_many ms id m row (sym at) a b w.0 w.1
 
 pub says_field : (ms : Members) (id : ClassId) (f : Name) (row : MemberRow) (rows : List MemberRow) (sups : List ClassId) (told : Least)
     → Some row ≡ slice_get ms.rows.items id.0 → rows ≡ ms.rows.items → sups ≡ row.sups.items → FieldRow rows sups f told → SaysField ms id f told
 says_field ms id f row rows sups told at e h k =
     by_answer told (subst (λ (rs : List MemberRow). FieldRow rs row.sups.items f told) e (subst (λ (ss : List ClassId). FieldRow rows ss f told) h k)) where
-  by_answer : (told : Least) → FieldRow ms.rows.items row.sups.items f told → SaysField ms id f told
-  by_answer least.None w = field_none ms id f row (sym at) w
-  by_answer (least.One a) w = field_one ms id f row (sym at) a w.0 w.1
-  by_answer (least.Many a b) w = field_many ms id f row (sym at) a b w.0 w.1
+      by_answer : (told : Least) → FieldRow ms.rows.items row.sups.items f told → SaysField ms id f told
+      by_answer least.None w = field_none ms id f row (sym at) w
+      by_answer (least.One a) w = field_one ms id f row (sym at) a w.0 w.1
+      by_answer (least.Many a b) w = field_many ms id f row (sym at) a b w.0 w.1
 
 -- ---- building
 

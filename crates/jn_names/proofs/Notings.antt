@@ -110,18 +110,19 @@ adding_firsts : (ns xs seen : List Name) → SameNames xs seen → adding xs ns 
 adding_firsts [] xs seen h = sym (append-nil xs)
 adding_firsts (n ∷ ns) xs seen h =
     by_test (has_name xs n) refl (λ k. adding_firsts ns xs (n ∷ seen) k) (λ k. adding_firsts ns (xs ++ n ∷ []) (n ∷ seen) k) where
-  seen_so : (b : Bool) → has_name xs n ≡ b
-      → xs ++ (only_if (not b) (n ∷ []) ++ firsts (n ∷ seen) ns) ≡ xs ++ (only_if (not (has_name seen n)) (n ∷ []) ++ firsts (n ∷ seen) ns)
-  seen_so b e = ap (λ (c : Bool). xs ++ (only_if (not c) (n ∷ []) ++ firsts (n ∷ seen) ns)) (sym e ∙ h n)
-  by_test : (b : Bool) → has_name xs n ≡ b
-      → (SameNames xs (n ∷ seen) → adding xs ns ≡ xs ++ firsts (n ∷ seen) ns)
-      → (SameNames (xs ++ n ∷ []) (n ∷ seen) → adding (xs ++ n ∷ []) ns ≡ (xs ++ n ∷ []) ++ firsts (n ∷ seen) ns)
-      → adding (added xs n) ns ≡ xs ++ (only_if (not (has_name seen n)) (n ∷ []) ++ firsts (n ∷ seen) ns)
-  by_test true e again more =
-      ap (λ (b : Bool). adding (cond b xs (xs ++ n ∷ [])) ns) e ∙ (again (same_again xs seen n e h) ∙ seen_so true e)
-  by_test false e again more =
-      ap (λ (b : Bool). adding (cond b xs (xs ++ n ∷ [])) ns) e
-      ∙ (more (same_more xs seen n h) ∙ (append_assoc xs (n ∷ []) (firsts (n ∷ seen) ns) ∙ seen_so false e))
+      seen_so : (b : Bool) → has_name xs n ≡ b
+          → xs ++ (only_if (not b) (n ∷ []) ++ firsts (n ∷ seen) ns) ≡ xs ++ (only_if (not (has_name seen n)) (n ∷ []) ++ firsts (n ∷ seen) ns)
+      seen_so b e = ap (λ (c : Bool). xs ++ (only_if (not c) (n ∷ []) ++ firsts (n ∷ seen) ns)) (sym e ∙ h n)
+
+      by_test : (b : Bool) → has_name xs n ≡ b
+          → (SameNames xs (n ∷ seen) → adding xs ns ≡ xs ++ firsts (n ∷ seen) ns)
+          → (SameNames (xs ++ n ∷ []) (n ∷ seen) → adding (xs ++ n ∷ []) ns ≡ (xs ++ n ∷ []) ++ firsts (n ∷ seen) ns)
+          → adding (added xs n) ns ≡ xs ++ (only_if (not (has_name seen n)) (n ∷ []) ++ firsts (n ∷ seen) ns)
+      by_test true e again more =
+          ap (λ (b : Bool). adding (cond b xs (xs ++ n ∷ [])) ns) e ∙ (again (same_again xs seen n e h) ∙ seen_so true e)
+      by_test false e again more =
+          ap (λ (b : Bool). adding (cond b xs (xs ++ n ∷ [])) ns) e
+          ∙ (more (same_more xs seen n h) ∙ (append_assoc xs (n ∷ []) (firsts (n ∷ seen) ns) ∙ seen_so false e))
 
 pub noted_firsts : (ms : Mentions) → noted [] ms ≡ firsts [] (masks_in ms)
 unfolding noted

@@ -131,11 +131,7 @@ fn add_decls(
 
 /// The type of each declared field, in source order, or the first refusal of a field's type. The universe is filled in
 /// the table.
-pub fn field_types(
-    alloc: Global,
-    p: &Program,
-    t: &mut Table,
-) -> Result<FieldTypes, NameFault>
+pub fn field_types(alloc: Global, p: &Program, t: &mut Table) -> Result<FieldTypes, NameFault>
     ensures told { IsFilled p.now t.old → FieldTypesTold p.now t.old result }
     ensures kept { t.new ≡ t.old }
 {

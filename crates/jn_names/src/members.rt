@@ -136,12 +136,7 @@ fn is_passed(
 }
 
 /// The first of the numbers, but for one, that has the method and none below.
-fn first_low(
-    rows: &[MemberRow],
-    sups: &[ClassId],
-    m: Name,
-    but: Option<ClassId>,
-) -> Option<ClassId>
+fn first_low(rows: &[MemberRow], sups: &[ClassId], m: Name, but: Option<ClassId>) -> Option<ClassId>
     ensures { MatchOption result (PassedTo rows.now sups.now m but (length sups.now)) (FirstLowRow rows.now sups.now m but) }
 {
     for s in sups {

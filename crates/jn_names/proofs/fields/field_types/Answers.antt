@@ -13,8 +13,8 @@ returns-in-Err-clause-told c = λ f.
     let names : c.deref.result.now ≡ mask_names p = c.deref.ensures.value ∙ c.in_ok-names.ensures in
     let xs : List AtField = all_by c.root-root.result (map fields_of_decl c.as_slice.result.now) in
     let fields : xs ≡ declared_fields p =
-        ap (λ (R : Path). all_by R (map fields_of_decl c.as_slice.result.now)) c.root-root.ensures
-        ∙ ap (λ (ds : List Decl). all_by [] (map fields_of_decl ds)) c.as_slice.ensures in
+    ap (λ (R : Path). all_by R (map fields_of_decl c.as_slice.result.now)) c.root-root.ensures
+    ∙ ap (λ (ds : List Decl). all_by [] (map fields_of_decl ds)) c.as_slice.ensures in
     told_refused p c.args.t.now xs c.new-list.result.items c.add_decls.new.out.items c.in-Err.fault fields (c.in-Err.ensures p f names)
 
 pub returns-clause-told : goal.returns-clause-told
@@ -23,6 +23,6 @@ returns-clause-told c = λ f.
     let names : c.deref.result.now ≡ mask_names p = c.deref.ensures.value ∙ c.in_ok-names.ensures in
     let xs : List AtField = all_by c.root-root.result (map fields_of_decl c.as_slice.result.now) in
     let fields : xs ≡ declared_fields p =
-        ap (λ (R : Path). all_by R (map fields_of_decl c.as_slice.result.now)) c.root-root.ensures
-        ∙ ap (λ (ds : List Decl). all_by [] (map fields_of_decl ds)) c.as_slice.ensures in
+    ap (λ (R : Path). all_by R (map fields_of_decl c.as_slice.result.now)) c.root-root.ensures
+    ∙ ap (λ (ds : List Decl). all_by [] (map fields_of_decl ds)) c.as_slice.ensures in
     told_all p c.args.t.now xs c.new-list.result.items c.add_decls.new.out.items fields c.new-list.ensures.items (c.in-Ok.ensures p f names)

@@ -13,8 +13,8 @@ pub returns-in-Err : goal.returns-in-Err
 returns-in-Err c =
     let T : Result Anchor Refusal → Type 0 = λ o. o ≡ Ok (Up c.args.path c.in-Some.k) in
     let U : Result Anchor Refusal → Type 0 =
-        λ o. (p : Program) → IsFilled p c.args.t.now
-            → BoundGives p c.args.spot.now c.args.term.now c.args.front.now c.args.path c.args.v.now (taken_off c.args.front.now c.args.v.now) o in
+    λ o. (p : Program) → IsFilled p c.args.t.now
+    → BoundGives p c.args.spot.now c.args.term.now c.args.front.now c.args.path c.args.v.now (taken_off c.args.front.now c.args.v.now) o in
     passing T U c.in-Err.fault (λ r h. absurd (cc h)) c.in-Err.ensures
 
 pub returns : goal.returns
@@ -22,12 +22,12 @@ returns c =
     let a : Anchor = c.in-Ok.anchor in
     let is : a ≡ Up c.args.path c.in-Some.k = cc (c.in-Ok.ensures) in
     let T : Result Anchor Refusal → Type 0 =
-        λ o. (p : Program) → IsFilled p c.args.t.now
-            → Behind p c.args.spot.now c.args.term.now c.args.front.now c.in_ok-left-in-Some.left a o in
+    λ o. (p : Program) → IsFilled p c.args.t.now
+    → Behind p c.args.spot.now c.args.term.now c.args.front.now c.in_ok-left-in-Some.left a o in
     let U : Result Anchor Refusal → Type 0 =
-        λ o. (p : Program) → IsFilled p c.args.t.now
-            → BoundGives p c.args.spot.now c.args.term.now c.args.front.now c.args.path c.args.v.now (taken_off c.args.front.now c.args.v.now) o in
+    λ o. (p : Program) → IsFilled p c.args.t.now
+    → BoundGives p c.args.spot.now c.args.term.now c.args.front.now c.args.path c.args.v.now (taken_off c.args.front.now c.args.v.now) o in
     told_weaker T U c.behind.result
-        (λ o h p f. bound_step p c.args.spot.now c.args.term.now c.args.front.now c.args.path c.args.v.now c.in_ok-left-in-Some.left c.in-Some.k o (sym c.taken_off.ensures ∙ c.in-Some.is) c.in_ok-left-in-Some.ensures
-            (subst (λ (x : Anchor). Behind p c.args.spot.now c.args.term.now c.args.front.now c.in_ok-left-in-Some.left x o) is (h p f)))
-        c.behind.ensures
+    (λ o h p f. bound_step p c.args.spot.now c.args.term.now c.args.front.now c.args.path c.args.v.now c.in_ok-left-in-Some.left c.in-Some.k o (sym c.taken_off.ensures ∙ c.in-Some.is) c.in_ok-left-in-Some.ensures
+    (subst (λ (x : Anchor). Behind p c.args.spot.now c.args.term.now c.args.front.now c.in_ok-left-in-Some.left x o) is (h p f)))
+    c.behind.ensures

@@ -15,7 +15,7 @@ loop-k-preserved c =
       rows = λ p i. rows_more p c.args.t.now.known.items c.loop-k.rows.items c.push.new.self.items row (record { 0 = c.loop-k.k }) c.loop-k.invariant.long
           (c.loop-k.invariant.rows p i)
           (λ R n. is_member_row p c.args.t.now R (record { 0 = c.loop-k.k }) row c.row.result.now i n c.row.ensures
-              (c.in_ok-copied.ensures ∙ c.deref.ensures.value) c.in_ok-own_methods.ensures c.in_ok-own_fields.ensures)
+          (c.in_ok-copied.ensures ∙ c.deref.ensures.value) c.in_ok-own_methods.ensures c.in_ok-own_fields.ensures)
           c.in_ok-push.ensures.items;
     }
 

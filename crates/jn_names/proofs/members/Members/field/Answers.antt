@@ -10,5 +10,5 @@ returns-in-None c =
 pub returns-in-Some : goal.returns-in-Some
 returns-in-Some c =
     says_field c.args.self.now c.args.id c.args.f c.in-Some.row.now c.deref-in-Some.result.now c.deref-in-Some-2.result.now c.field_of.result
-        (c.in-Some.ensures ∙ ap (λ (rs : List MemberRow). slice_get rs c.args.id.0) c.deref.ensures.value)
-        c.deref-in-Some.ensures.value c.deref-in-Some-2.ensures.value c.field_of.ensures
+    (c.in-Some.ensures ∙ ap (λ (rs : List MemberRow). slice_get rs c.args.id.0) c.deref.ensures.value)
+    c.deref-in-Some.ensures.value c.deref-in-Some-2.ensures.value c.field_of.ensures
