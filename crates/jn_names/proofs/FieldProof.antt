@@ -27,7 +27,7 @@ use Rattle.jn_table.specs.Tables.{IsFilled}
 use Rattle.jn_names.specs.declared.fault.NameFault.{NameFault}
 use Rattle.jn_names.specs.declared.fault.NameFault.TheVariants.{Refused, Memory}
 use Rattle.jn_names.specs.Answers.{Told}
-use Rattle.jn_names.specs.FieldTypes.{AtField, FieldsBy, all_by, member_step, decl_step, fields_of_member, fields_of_decl, spot_of, no_vars, FieldGives, before_fields, typed, declared_fields, FieldsGive, FieldTypesTold, none, refused, first}
+use Rattle.jn_names.specs.FieldTypes.{AtField, FieldsBy, all_by, member_step, decl_step, fields_of_member, fields_of_decl, spot_of, no_vars, FieldGives, before_fields, typed, declared_fields, FieldsGive, AllFieldsGive, FieldsTold, none, refused, first}
 use Rattle.jn_names.specs.FieldSteps.{Adds, AddsOr}
 use Rattle.jn_names.proofs.Turned.{at_index}
 use Rattle.jn_names.proofs.ScopedProof.{take_one, map_both}
@@ -170,12 +170,11 @@ field_refused p t names x spot vars Memory a b e h k f g = tt
 -- ---- all of them
 
 pub told_refused : (p : Program) (t : Table) (xs : List AtField) (a b : List FieldTy) (fault : NameFault) → xs ≡ declared_fields p → AddsOr p t xs a b (Err fault)
-    → FieldTypesTold p t (Err fault)
+    → FieldsTold (AllFieldsGive p t) (Err fault)
 told_refused p t xs a b (Refused r) e g = subst (λ (ys : List AtField). FieldsGive p t.known.items ys (Err r)) e g
 told_refused p t xs a b Memory e g = tt
 
-pub told_all : (p : Program) (t : Table) (xs : List AtField) (a b : List FieldTy) → xs ≡ declared_fields p → a ≡ [] → Adds p t xs a b
-    → FieldsGive p t.known.items (declared_fields p) (Ok b)
+pub told_all : (p : Program) (t : Table) (xs : List AtField) (a b : List FieldTy) → xs ≡ declared_fields p → a ≡ [] → Adds p t xs a b → AllFieldsGive p t (Ok b)
 told_all p t xs a b e h g =
     let types : g.types ≡ b = sym (g.is ∙ ap (λ (o : List FieldTy). o ++ g.types) h) in
     subst (λ (ts : List FieldTy). FieldsGive p t.known.items (declared_fields p) (Ok ts)) types

@@ -12,3 +12,4 @@ pub mod MemberProof
 pub mod MemberSays
 pub mod MemberRowProof
 pub mod FieldProof
+pub mod FieldOnce

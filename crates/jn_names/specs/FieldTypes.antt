@@ -78,8 +78,12 @@ pub data FieldsGive (p : Program) (known : List ShownPath) : List AtField → Re
       → FieldGives p x (Ok ty) → IsNumber known id x.class → FieldsGive p known xs others → o ≡ before_fields (typed id x ty) others
       → FieldsGive p known (x ∷ xs) o
 
--- what is answered of the declared fields
-abbrev pub FieldTypesTold : Program → Table → Result FieldTypes NameFault → Type 0
-FieldTypesTold p t (Ok all) = FieldsGive p t.known.items (declared_fields p) (Ok all.list.items)
-FieldTypesTold p t (Err (Refused r)) = FieldsGive p t.known.items (declared_fields p) (Err r)
-FieldTypesTold p t (Err Memory) = Unit {0}
+-- what the declared fields of the program give
+abbrev pub AllFieldsGive : Program → Table → Result (List FieldTy) Refusal → Type 0
+AllFieldsGive p t = FieldsGive p t.known.items (declared_fields p)
+
+-- the answer is one of which T holds; of want of memory nothing is said
+abbrev pub FieldsTold : (Result (List FieldTy) Refusal → Type 0) → Result FieldTypes NameFault → Type 0
+FieldsTold T (Ok all) = T (Ok all.list.items)
+FieldsTold T (Err (Refused r)) = T (Err r)
+FieldsTold T (Err Memory) = Unit {0}

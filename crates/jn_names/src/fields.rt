@@ -1,6 +1,8 @@
-ghost use Rattle.std.specs.Prelude.{◌≡◌, ◌∷◌, [], map, IfOk};
+ghost use Rattle.std.specs.Prelude.{◌≡◌, ◌∷◌, [], map, IfOk, List, Result};
+ghost use Rattle.jn_base.specs.declared.refusal.Refusal.{Refusal as ARefusal};
+ghost use Rattle.jn_table.specs.declared.field_types.FieldTy.{FieldTy as AFieldTy};
 ghost use Rattle.jn_table.specs.Tables.{IsFilled};
-ghost use Rattle.jn_names.specs.FieldTypes.{all_by, fields_of_member, fields_of_decl, spot_of, FieldTypesTold};
+ghost use Rattle.jn_names.specs.FieldTypes.{all_by, fields_of_member, fields_of_decl, spot_of, AllFieldsGive, FieldsTold};
 ghost use Rattle.jn_names.specs.FieldSteps.{SaysAdds};
 
 use crate::bound::Bound;
@@ -132,7 +134,8 @@ fn add_decls(
 /// The type of each declared field, in source order, or the first refusal of a field's type. The universe is filled in
 /// the table.
 pub fn field_types(alloc: Global, p: &Program, t: &mut Table) -> Result<FieldTypes, NameFault>
-    ensures told { IsFilled p.now t.old → FieldTypesTold p.now t.old result }
+    ensures told { IsFilled p.now t.old → FieldsTold (AllFieldsGive p.now t.old) result }
+    ensures only { IsFilled p.now t.old → (o : Result (List AFieldTy) ARefusal) → AllFieldsGive p.now t.old o → FieldsTold (λ a. a ≡ o) result }
     ensures kept { t.new ≡ t.old }
 {
     let names = mask_names(alloc, p)?;

@@ -183,7 +183,7 @@ fn main_class(alloc: Global) -> Result<Decl, AllocError> {
     decl(alloc, Kind::Class, MAIN, &[], members)
 }
 
-/// The package a, `package b extends a { class C { } }` and Main.
+/// The package a, `package b extends a { class C { } }`, Main and `class X { }`.
 fn families(alloc: Global) -> Result<Program, AllocError> {
     let inner = decl(alloc, Kind::Class, C, &[], Items::new(alloc))?;
     let mut members = Items::new(alloc);
@@ -192,6 +192,7 @@ fn families(alloc: Global) -> Result<Program, AllocError> {
     decls.push(base(alloc)?)?;
     decls.push(decl(alloc, Kind::Package, B, &[A], members)?)?;
     decls.push(main_class(alloc)?)?;
+    decls.push(decl(alloc, Kind::Class, X, &[], Items::new(alloc))?)?;
     program(alloc, decls)
 }
 
@@ -216,9 +217,10 @@ fn variable(
     })
 }
 
-/// `final a.C p, a.C q, final int n, final b.D e`
+/// `a.C e, final a.C p, a.C q, final int n, final b.D e`, of which the newest `e` counts.
 fn variables(alloc: Global) -> Result<Vars, AllocError> {
     let mut list = Items::new(alloc);
+    list.push(variable(alloc, E, 5, false, &[A, C])?)?;
     list.push(variable(alloc, P, 1, true, &[A, C])?)?;
     list.push(variable(alloc, Q, 2, false, &[A, C])?)?;
     list.push(Var {
@@ -311,10 +313,6 @@ const FIRST: Place = Place { line: 1, column: 1 };
 
 const SECOND: Place = Place { line: 1, column: 2 };
 
-fn refused(rule: Rule, name: Name) -> Told {
-    Told::Refused(rule, FIRST, name)
-}
-
 /// A term at a class for a use, and what it stands for.
 type TermRow = (&'static [Name], Role, Written, Told);
 
@@ -338,165 +336,188 @@ fn term_told(
     )
 }
 
+const E06_C: Told = Told::Refused(Rule::E06, FIRST, C);
+
+const E06_Z: Told = Told::Refused(Rule::E06, FIRST, Z);
+
+const E14_RUN: Told = Told::Refused(Rule::E14, FIRST, RUN);
+
+const E15_RUN: Told = Told::Refused(Rule::E15, FIRST, RUN);
+
+const E22_RUN: Told = Told::Refused(Rule::E22, FIRST, RUN);
+
+const ROOT: Told = Told::Atom(Anchor::Root);
+
+const UP_0_0: Told = Told::Atom(Anchor::Up(0, 0));
+
+const UP_0_1: Told = Told::Atom(Anchor::Up(0, 1));
+
+const UP_0_2: Told = Told::Atom(Anchor::Up(0, 2));
+
+const UP_1_0: Told = Told::Atom(Anchor::Up(1, 0));
+
+const UP_1_1: Told = Told::Atom(Anchor::Up(1, 1));
+
+const UP_4_1: Told = Told::Atom(Anchor::Up(4, 1));
+
+/// Terms and what they stand for.
+const TERMS: [TermRow; 54] = [
+    // at each level, and from an heir
+    (&[A, C, X], Role::Value, (Front::Plain, &[], &[X]), UP_0_1),
+    (&[A, C, X], Role::Value, (Front::Plain, &[], &[C]), UP_0_2),
+    (
+        &[A, C, X],
+        Role::Value,
+        (Front::Plain, &[], &[C, X]),
+        UP_0_2,
+    ),
+    (&[A, C, X], Role::Value, (Front::Plain, &[], &[A, C]), ROOT),
+    (&[B, D, X], Role::Value, (Front::Plain, &[], &[D]), UP_0_2),
+    (&[B, D], Role::Value, (Front::Plain, &[], &[X]), UP_0_0),
+    (&[B, C], Role::Value, (Front::Plain, &[], &[C]), UP_0_1),
+    (&[MAIN], Role::Value, (Front::Plain, &[], &[A, C]), ROOT),
+    (&[MAIN], Role::Value, (Front::Plain, &[], &[MAIN]), ROOT),
+    (&[MAIN], Role::Value, (Front::Plain, &[], &[X]), ROOT),
+    // exact to some name
+    (&[MAIN], Role::Value, (Front::Plain, &[A], &[C]), ROOT),
+    (&[MAIN], Role::Value, (Front::Plain, &[A, C], &[]), ROOT),
+    (
+        &[A, C, X],
+        Role::Value,
+        (Front::Plain, &[C, X], &[]),
+        UP_0_2,
+    ),
+    // unknown names
+    (&[A, C], Role::Value, (Front::Plain, &[], &[Z]), E06_Z),
+    (&[A, C], Role::Value, (Front::Plain, &[], &[C, Z]), E06_Z),
+    (&[MAIN], Role::Value, (Front::Plain, &[], &[C]), E06_C),
+    // the class of a path
+    (&[MAIN], Role::Value, (Front::Own(OF_P), &[], &[]), UP_1_0),
+    (&[MAIN], Role::Value, (Front::Own(OF_P), &[], &[X]), UP_1_0),
+    (&[A, C], Role::Value, (Front::Own(THIS), &[], &[]), UP_0_0),
+    (&[A, C], Role::Value, (Front::Own(THIS), &[X], &[]), UP_0_0),
+    (&[MAIN], Role::Value, (Front::Own(OF_P), &[], &[Z]), E06_Z),
+    (&[MAIN], Role::Value, (Front::Own(OF_Q), &[], &[]), E14_RUN),
+    (&[MAIN], Role::Value, (Front::Own(OF_N), &[], &[]), E14_RUN),
+    (&[MAIN], Role::Value, (Front::Own(OF_Z), &[], &[]), E06_Z),
+    // the family of a path
+    (
+        &[MAIN],
+        Role::Value,
+        (Front::Prefix(&[A], OF_P), &[], &[D]),
+        UP_1_1,
+    ),
+    (
+        &[MAIN],
+        Role::Value,
+        (Front::Prefix(&[A, C], OF_P), &[], &[X]),
+        UP_1_0,
+    ),
+    (
+        &[MAIN],
+        Role::Value,
+        (Front::Prefix(&[A], OF_E), &[], &[C]),
+        UP_4_1,
+    ),
+    (
+        &[B, C],
+        Role::Value,
+        (Front::Prefix(&[A], THIS), &[], &[D]),
+        UP_0_1,
+    ),
+    (
+        &[MAIN],
+        Role::Value,
+        (Front::Prefix(&[A, C, X], OF_P), &[], &[X]),
+        E15_RUN,
+    ),
+    (
+        &[MAIN],
+        Role::Value,
+        (Front::Prefix(&[A, C, X], OF_P), &[], &[Z]),
+        E15_RUN,
+    ),
+    (
+        &[MAIN],
+        Role::Value,
+        (Front::Prefix(&[B], OF_P), &[], &[D]),
+        E15_RUN,
+    ),
+    (
+        &[MAIN],
+        Role::Value,
+        (Front::Prefix(&[B], OF_P), &[], &[Z]),
+        E06_Z,
+    ),
+    (
+        &[MAIN],
+        Role::Value,
+        (Front::Prefix(&[A], OF_Q), &[], &[Z]),
+        E14_RUN,
+    ),
+    (
+        &[MAIN],
+        Role::Value,
+        (Front::Prefix(&[A], OF_Z), &[], &[D]),
+        E06_Z,
+    ),
+    (
+        &[MAIN],
+        Role::Value,
+        (Front::Prefix(&[C], OF_Q), &[], &[D]),
+        E06_C,
+    ),
+    (
+        &[MAIN],
+        Role::Value,
+        (Front::Prefix(&[A], OF_P), &[], &[]),
+        E22_RUN,
+    ),
+    (
+        &[MAIN],
+        Role::Value,
+        (Front::Prefix(&[B], OF_P), &[], &[]),
+        E15_RUN,
+    ),
+    // packages
+    (&[MAIN], Role::Value, (Front::Plain, &[], &[A]), E22_RUN),
+    (&[MAIN], Role::Field, (Front::Plain, &[], &[A]), E22_RUN),
+    (&[MAIN], Role::Super, (Front::Plain, &[], &[A]), ROOT),
+    // a fixed family, before a class
+    (&[MAIN], Role::View, (Front::Plain, &[], &[A]), E15_RUN),
+    (&[MAIN], Role::View, (Front::Plain, &[], &[A, C]), E15_RUN),
+    (&[MAIN], Role::To, (Front::Plain, &[], &[A, C]), E15_RUN),
+    (&[MAIN], Role::From, (Front::Plain, &[], &[A, C]), ROOT),
+    (&[MAIN], Role::View, (Front::Plain, &[A], &[C]), ROOT),
+    (&[MAIN], Role::View, (Front::Plain, &[A], &[]), E22_RUN),
+    (&[A, C], Role::To, (Front::Plain, &[], &[D]), UP_0_1),
+    // what is made has a name
+    (&[MAIN], Role::New, (Front::Own(OF_P), &[], &[]), E15_RUN),
+    (
+        &[MAIN],
+        Role::New,
+        (Front::Prefix(&[A], OF_P), &[], &[D]),
+        UP_1_1,
+    ),
+    // `this` alone
+    (&[A, C], Role::Field, (Front::Own(THIS), &[], &[X]), UP_0_0),
+    (&[MAIN], Role::Field, (Front::Own(OF_P), &[], &[]), E14_RUN),
+    (&[MAIN], Role::Field, (Front::Own(OF_Z), &[], &[]), E14_RUN),
+    (&[MAIN], Role::From, (Front::Own(OF_P), &[], &[]), E14_RUN),
+    (
+        &[MAIN],
+        Role::To,
+        (Front::Prefix(&[A], OF_Z), &[], &[D]),
+        E14_RUN,
+    ),
+];
+
 #[test]
 fn terms_stand_for_atoms(rt: HostRuntime) -> Result<(), Fail> {
-    use Front::{Own, Plain, Prefix};
-    use Role::{Field, From, New, Super, To, Value, View};
-    let root = Told::Atom(Anchor::Root);
-    let up = |q: u32, k: u8| Told::Atom(Anchor::Up(q, k));
-    let rows: [TermRow; 53] = [
-        // at each level, and from an heir
-        (&[A, C, X], Value, (Plain, &[], &[X]), up(0, 1)),
-        (&[A, C, X], Value, (Plain, &[], &[C]), up(0, 2)),
-        (&[A, C, X], Value, (Plain, &[], &[C, X]), up(0, 2)),
-        (&[A, C, X], Value, (Plain, &[], &[A, C]), root),
-        (&[B, D, X], Value, (Plain, &[], &[D]), up(0, 2)),
-        (&[B, D], Value, (Plain, &[], &[X]), up(0, 0)),
-        (&[B, C], Value, (Plain, &[], &[C]), up(0, 1)),
-        (&[MAIN], Value, (Plain, &[], &[A, C]), root),
-        (&[MAIN], Value, (Plain, &[], &[MAIN]), root),
-        // exact to some name
-        (&[MAIN], Value, (Plain, &[A], &[C]), root),
-        (&[MAIN], Value, (Plain, &[A, C], &[]), root),
-        (&[A, C, X], Value, (Plain, &[C, X], &[]), up(0, 2)),
-        // unknown names
-        (&[A, C], Value, (Plain, &[], &[Z]), refused(Rule::E06, Z)),
-        (&[A, C], Value, (Plain, &[], &[C, Z]), refused(Rule::E06, Z)),
-        (&[MAIN], Value, (Plain, &[], &[C]), refused(Rule::E06, C)),
-        // the class of a path
-        (&[MAIN], Value, (Own(OF_P), &[], &[]), up(1, 0)),
-        (&[MAIN], Value, (Own(OF_P), &[], &[X]), up(1, 0)),
-        (&[A, C], Value, (Own(THIS), &[], &[]), up(0, 0)),
-        (&[A, C], Value, (Own(THIS), &[X], &[]), up(0, 0)),
-        (
-            &[MAIN],
-            Value,
-            (Own(OF_P), &[], &[Z]),
-            refused(Rule::E06, Z),
-        ),
-        (
-            &[MAIN],
-            Value,
-            (Own(OF_Q), &[], &[]),
-            refused(Rule::E14, RUN),
-        ),
-        (
-            &[MAIN],
-            Value,
-            (Own(OF_N), &[], &[]),
-            refused(Rule::E14, RUN),
-        ),
-        (&[MAIN], Value, (Own(OF_Z), &[], &[]), refused(Rule::E06, Z)),
-        // the family of a path
-        (&[MAIN], Value, (Prefix(&[A], OF_P), &[], &[D]), up(1, 1)),
-        (&[MAIN], Value, (Prefix(&[A, C], OF_P), &[], &[X]), up(1, 0)),
-        (&[MAIN], Value, (Prefix(&[A], OF_E), &[], &[C]), up(4, 1)),
-        (&[B, C], Value, (Prefix(&[A], THIS), &[], &[D]), up(0, 1)),
-        (
-            &[MAIN],
-            Value,
-            (Prefix(&[A, C, X], OF_P), &[], &[X]),
-            refused(Rule::E15, RUN),
-        ),
-        (
-            &[MAIN],
-            Value,
-            (Prefix(&[A, C, X], OF_P), &[], &[Z]),
-            refused(Rule::E15, RUN),
-        ),
-        (
-            &[MAIN],
-            Value,
-            (Prefix(&[B], OF_P), &[], &[D]),
-            refused(Rule::E15, RUN),
-        ),
-        (
-            &[MAIN],
-            Value,
-            (Prefix(&[B], OF_P), &[], &[Z]),
-            refused(Rule::E06, Z),
-        ),
-        (
-            &[MAIN],
-            Value,
-            (Prefix(&[A], OF_Q), &[], &[Z]),
-            refused(Rule::E14, RUN),
-        ),
-        (
-            &[MAIN],
-            Value,
-            (Prefix(&[A], OF_Z), &[], &[D]),
-            refused(Rule::E06, Z),
-        ),
-        (
-            &[MAIN],
-            Value,
-            (Prefix(&[C], OF_Q), &[], &[D]),
-            refused(Rule::E06, C),
-        ),
-        (
-            &[MAIN],
-            Value,
-            (Prefix(&[A], OF_P), &[], &[]),
-            refused(Rule::E22, RUN),
-        ),
-        (
-            &[MAIN],
-            Value,
-            (Prefix(&[B], OF_P), &[], &[]),
-            refused(Rule::E15, RUN),
-        ),
-        // packages
-        (&[MAIN], Value, (Plain, &[], &[A]), refused(Rule::E22, RUN)),
-        (&[MAIN], Field, (Plain, &[], &[A]), refused(Rule::E22, RUN)),
-        (&[MAIN], Super, (Plain, &[], &[A]), root),
-        // a fixed family, before a class
-        (&[MAIN], View, (Plain, &[], &[A]), refused(Rule::E15, RUN)),
-        (
-            &[MAIN],
-            View,
-            (Plain, &[], &[A, C]),
-            refused(Rule::E15, RUN),
-        ),
-        (&[MAIN], To, (Plain, &[], &[A, C]), refused(Rule::E15, RUN)),
-        (&[MAIN], From, (Plain, &[], &[A, C]), root),
-        (&[MAIN], View, (Plain, &[A], &[C]), root),
-        (&[MAIN], View, (Plain, &[A], &[]), refused(Rule::E22, RUN)),
-        (&[A, C], To, (Plain, &[], &[D]), up(0, 1)),
-        // what is made has a name
-        (&[MAIN], New, (Own(OF_P), &[], &[]), refused(Rule::E15, RUN)),
-        (&[MAIN], New, (Prefix(&[A], OF_P), &[], &[D]), up(1, 1)),
-        // `this` alone
-        (&[A, C], Field, (Own(THIS), &[], &[X]), up(0, 0)),
-        (
-            &[MAIN],
-            Field,
-            (Own(OF_P), &[], &[]),
-            refused(Rule::E14, RUN),
-        ),
-        (
-            &[MAIN],
-            Field,
-            (Own(OF_Z), &[], &[]),
-            refused(Rule::E14, RUN),
-        ),
-        (
-            &[MAIN],
-            From,
-            (Own(OF_P), &[], &[]),
-            refused(Rule::E14, RUN),
-        ),
-        (
-            &[MAIN],
-            To,
-            (Prefix(&[A], OF_Z), &[], &[D]),
-            refused(Rule::E14, RUN),
-        ),
-    ];
     let program = families(rt.alloc())?;
     let mut table = filled(rt.alloc(), &program)?;
     let vars = variables(rt.alloc())?;
-    for row in &rows {
+    for row in &TERMS {
         let told = term_told(rt.alloc(), &program, &mut table, &vars, row)?;
         assert_eq!(rt; told, row.3);
     }
@@ -504,96 +525,112 @@ fn terms_stand_for_atoms(rt: HostRuntime) -> Result<(), Fail> {
 }
 
 /// A class type at Main for a use, with its masks, and what it stands for.
-type TypeRow<'a> = (Role, &'a [Written], &'static [Name], Told);
+type TypeRow = (Role, &'static [Written], &'static [Name], Told);
+
+/// The places of a first mask, and of a second one.
+const MASK_1: Place = Place { line: 2, column: 1 };
+
+const MASK_2: Place = Place { line: 2, column: 2 };
+
+/// Types and what they stand for.
+const TYPES: [TypeRow; 13] = [
+    (
+        Role::Value,
+        &[(Front::Plain, &[], &[A, C])],
+        &[],
+        Told::Type(1, 0),
+    ),
+    (
+        Role::Value,
+        &[(Front::Plain, &[], &[A, C]), (Front::Plain, &[], &[A, D])],
+        &[],
+        Told::Type(2, 0),
+    ),
+    (
+        Role::Value,
+        &[(Front::Plain, &[], &[A, C])],
+        &[F],
+        Told::Type(1, 2),
+    ),
+    (
+        Role::Value,
+        &[(Front::Plain, &[], &[A, D])],
+        &[F, G],
+        Told::Type(1, 3),
+    ),
+    (
+        Role::Value,
+        &[(Front::Plain, &[], &[A, C]), (Front::Plain, &[], &[A, D])],
+        &[G],
+        Told::Type(2, 1),
+    ),
+    // one after the other
+    (
+        Role::Value,
+        &[(Front::Plain, &[], &[A]), (Front::Plain, &[], &[Z])],
+        &[],
+        E22_RUN,
+    ),
+    (
+        Role::Value,
+        &[(Front::Plain, &[], &[A, C]), (Front::Plain, &[], &[Z])],
+        &[],
+        Told::Refused(Rule::E06, SECOND, Z),
+    ),
+    // depths, before masks
+    (
+        Role::Value,
+        &[
+            (Front::Plain, &[], &[A, C]),
+            (Front::Plain, &[], &[A, C, X]),
+        ],
+        &[Z],
+        Told::Refused(Rule::E15, SECOND, RUN),
+    ),
+    (
+        Role::Field,
+        &[
+            (Front::Plain, &[], &[A, C]),
+            (Front::Plain, &[], &[A, C, X]),
+        ],
+        &[F],
+        Told::Refused(Rule::E15, SECOND, RUN),
+    ),
+    // masks
+    (
+        Role::Field,
+        &[(Front::Plain, &[], &[A, C])],
+        &[F],
+        Told::Refused(Rule::E15, MASK_1, RUN),
+    ),
+    (
+        Role::Value,
+        &[(Front::Plain, &[], &[A, C])],
+        &[F, Z],
+        Told::Refused(Rule::E27, MASK_2, Z),
+    ),
+    (
+        Role::Value,
+        &[(Front::Plain, &[], &[A, C])],
+        &[F, F],
+        Told::Refused(Rule::E27, MASK_2, F),
+    ),
+    (
+        Role::Value,
+        &[(Front::Plain, &[], &[A, C])],
+        &[G],
+        Told::Refused(Rule::E27, MASK_1, G),
+    ),
+];
 
 #[test]
 fn types_have_masks(rt: HostRuntime) -> Result<(), Fail> {
-    use Front::Plain;
-    let mask = |column: u32| Place { line: 2, column };
-    let rows: [TypeRow; 13] = [
-        (Role::Value, &[(Plain, &[], &[A, C])], &[], Told::Type(1, 0)),
-        (
-            Role::Value,
-            &[(Plain, &[], &[A, C]), (Plain, &[], &[A, D])],
-            &[],
-            Told::Type(2, 0),
-        ),
-        (
-            Role::Value,
-            &[(Plain, &[], &[A, C])],
-            &[F],
-            Told::Type(1, 2),
-        ),
-        (
-            Role::Value,
-            &[(Plain, &[], &[A, D])],
-            &[F, G],
-            Told::Type(1, 3),
-        ),
-        (
-            Role::Value,
-            &[(Plain, &[], &[A, C]), (Plain, &[], &[A, D])],
-            &[G],
-            Told::Type(2, 1),
-        ),
-        // one after the other
-        (
-            Role::Value,
-            &[(Plain, &[], &[A]), (Plain, &[], &[Z])],
-            &[],
-            refused(Rule::E22, RUN),
-        ),
-        (
-            Role::Value,
-            &[(Plain, &[], &[A, C]), (Plain, &[], &[Z])],
-            &[],
-            Told::Refused(Rule::E06, SECOND, Z),
-        ),
-        // depths, before masks
-        (
-            Role::Value,
-            &[(Plain, &[], &[A, C]), (Plain, &[], &[A, C, X])],
-            &[Z],
-            Told::Refused(Rule::E15, SECOND, RUN),
-        ),
-        (
-            Role::Field,
-            &[(Plain, &[], &[A, C]), (Plain, &[], &[A, C, X])],
-            &[F],
-            Told::Refused(Rule::E15, SECOND, RUN),
-        ),
-        // masks
-        (
-            Role::Field,
-            &[(Plain, &[], &[A, C])],
-            &[F],
-            Told::Refused(Rule::E15, mask(1), RUN),
-        ),
-        (
-            Role::Value,
-            &[(Plain, &[], &[A, C])],
-            &[F, Z],
-            Told::Refused(Rule::E27, mask(2), Z),
-        ),
-        (
-            Role::Value,
-            &[(Plain, &[], &[A, C])],
-            &[F, F],
-            Told::Refused(Rule::E27, mask(2), F),
-        ),
-        (
-            Role::Value,
-            &[(Plain, &[], &[A, C])],
-            &[G],
-            Told::Refused(Rule::E27, mask(1), G),
-        ),
-    ];
     let program = families(rt.alloc())?;
     let mut table = filled(rt.alloc(), &program)?;
     let vars = variables(rt.alloc())?;
     let masks = mask_names(rt.alloc(), &program)?;
     assert_eq!(rt; masks.as_slice(), [G, F].as_slice());
-    for row in &rows {
+    for row in &TYPES {
         let spot = spot(rt.alloc(), &[MAIN], row.0)?;
         let ty = class_type(rt.alloc(), row.1, row.2)?;
         let answer = resolve_type(rt.alloc(), &program, &mut table, &spot, &vars, &masks, &ty);
@@ -673,48 +710,52 @@ fn answer_of(alloc: Global, table: &Table, packages: &[Name]) -> Result<Least, A
     })
 }
 
+/// Ten families.
+const FAMILIES: [FamilyRow; 10] = [
+    (A, &[], (true, true)),
+    (B, &[A], (true, false)),
+    (E, &[A], (true, false)),
+    (N, &[A], (true, true)),
+    (D, &[A], (false, false)),
+    (G, &[B, E], (false, false)),
+    (P, &[B, E], (true, false)),
+    (Q, &[A, E, B], (false, false)),
+    (F, &[N, E, B], (false, false)),
+    (Z, &[D, B], (false, false)),
+];
+
+/// What is answered in them.
+const LEAST: [LeastRow; 15] = [
+    (RUN, A, &[A]),
+    (RUN, B, &[B]),
+    (RUN, D, &[A]),
+    (RUN, G, &[B, E]),
+    (RUN, P, &[P]),
+    // three declarations, of which two are least
+    (RUN, Q, &[B, E]),
+    // three of which each is least
+    (RUN, F, &[B, E]),
+    // a diamond
+    (RUN, Z, &[B]),
+    (RUN, N, &[N]),
+    (G, Z, &[]),
+    (F, A, &[A]),
+    (F, B, &[A]),
+    (F, N, &[A, N]),
+    (F, F, &[A, N]),
+    (RUN, MAIN, &[]),
+];
+
 #[test]
 fn least_declarations(rt: HostRuntime) -> Result<(), Fail> {
-    let families: [FamilyRow; 10] = [
-        (A, &[], (true, true)),
-        (B, &[A], (true, false)),
-        (E, &[A], (true, false)),
-        (N, &[A], (true, true)),
-        (D, &[A], (false, false)),
-        (G, &[B, E], (false, false)),
-        (P, &[B, E], (true, false)),
-        (Q, &[A, E, B], (false, false)),
-        (F, &[N, E, B], (false, false)),
-        (Z, &[D, B], (false, false)),
-    ];
-    let rows: [LeastRow; 15] = [
-        (RUN, A, &[A]),
-        (RUN, B, &[B]),
-        (RUN, D, &[A]),
-        (RUN, G, &[B, E]),
-        (RUN, P, &[P]),
-        // three declarations, of which two are least
-        (RUN, Q, &[B, E]),
-        // three of which each is least
-        (RUN, F, &[B, E]),
-        // a diamond
-        (RUN, Z, &[B]),
-        (RUN, N, &[N]),
-        (G, Z, &[]),
-        (F, A, &[A]),
-        (F, B, &[A]),
-        (F, N, &[A, N]),
-        (F, F, &[A, N]),
-        (RUN, MAIN, &[]),
-    ];
     let mut decls = Items::new(rt.alloc());
-    for one in &families {
+    for one in &FAMILIES {
         decls.push(family(rt.alloc(), one.0, one.1, one.2)?)?;
     }
     let program = program(rt.alloc(), decls)?;
     let table = filled(rt.alloc(), &program)?;
     let members = Members::build(rt.alloc(), &program, &table)?;
-    for row in &rows {
+    for row in &LEAST {
         let class = number(rt.alloc(), &table, &[row.1, C])?;
         let told = if row.0 == F {
             members.field(class, F)
