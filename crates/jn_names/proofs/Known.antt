@@ -1,9 +1,8 @@
 -- The paths that a filled table numbers are those of the universe, and the members are found so.
-use Rattle.std.proofs.Common.{◌≡◌, ◌↔◌, [], ◌∷◌, Some, slice_get, List, map, subst, sym, ap, ◌∙◌, reverse, ◌⊎◌, inl, inr, refl, ℕ, zero, suc, arith, Contains, Option, ◌<◌, ◌≤◌, ◌+◌, length, drop}
+use Rattle.std.proofs.Common.{◌≡◌, ◌↔◌, [], ◌∷◌, Some, slice_get, List, subst, sym, ◌⊎◌, inl, inr, refl, ℕ, zero, suc, arith, Contains, Option, ◌<◌, ◌≤◌, ◌+◌, length, drop}
 use Rattle.jn_base.specs.declared.tree.Name.{Name}
 use Rattle.jn_base.specs.declared.tree.Program.{Program}
-use Rattle.jn_base.specs.declared.path.Path.{Path as ShownPath}
-use Rattle.jn_base.specs.Paths.{Path, shown}
+use Rattle.jn_base.specs.Paths.{Path}
 use Rattle.jn_base.specs.Supers.{Direct, inherited, written, Sup, itself, above, Member}
 use Rattle.jn_base.specs.Universe.{IsNamespace, InUniverse}
 use Rattle.jn_base.proofs.Reaching.{stands_namespace, declared_in_universe, sup_in_universe}

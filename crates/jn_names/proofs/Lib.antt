@@ -11,3 +11,5 @@ pub mod Descent
 pub mod MemberProof
 pub mod MemberSays
 pub mod MemberRowProof
+pub mod FieldProof
+pub mod FieldOnce

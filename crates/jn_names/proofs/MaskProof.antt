@@ -1,8 +1,7 @@
 -- Masks: which have a name, which are fields, which stand twice, and the words of their set.
-use Rattle.std.proofs.Common.{◌≡◌, ◌≢◌, ◌<◌, ◌≤◌, ◌+◌, ◌*◌, ◌/◌, ◌%◌, ◌^◌, ℕ, zero, suc, List, [], ◌∷◌, ◌++◌, length, take, drop, map, reverse, get_or, slice_get, Some, None, Option, Bool, true, false, IsTrue, ◌↔◌, ◌⊎◌, inl, inr, refl, sym, ap, ◌∙◌, subst, arith, Contains, bit_or}
-use Rattle.std.specs.Prelude.{All}
+use Rattle.std.proofs.Common.{◌≡◌, ◌<◌, ◌≤◌, ◌+◌, ◌*◌, ◌/◌, ◌%◌, ◌^◌, ℕ, zero, suc, List, [], ◌∷◌, length, take, drop, map, reverse, get_or, slice_get, Some, None, Option, ◌↔◌, ◌⊎◌, inl, inr, refl, sym, ap, ◌∙◌, subst, arith, bit_or}
 use Rattle.std.specs.Int.{bit_at}
-use Rattle.std.proofs.lemmas.Bool.{cases_lt, cases_order}
+use Rattle.std.proofs.lemmas.Bool.{cases_lt}
 use Rattle.std.proofs.lemmas.List.{reverse-append}
 use Rattle.std.proofs.lemmas.Option.{slice_get_read}
 use Rattle.std.proofs.Math.ListN.{drop_of_length-le}
@@ -12,10 +11,7 @@ use Rattle.jn_reach.proofs.Searches.{NoneBefore, none_all}
 use Rattle.jn_base.specs.declared.tree.Name.{Name}
 use Rattle.jn_base.specs.declared.tree.Named.{Named}
 use Rattle.jn_base.specs.declared.tree.Program.{Program}
-use Rattle.jn_base.specs.declared.types.Masks.{Masks}
 use Rattle.jn_base.specs.Paths.{Path}
-use Rattle.jn_base.specs.Atoms.{HasMask}
-use Rattle.jn_base.specs.Duplicates.{has_name}
 use Rattle.jn_base.specs.ResolveTypes.{IsMask, MasksAre, IsFieldOfAny, MaskFits, FirstUnfit}
 use Rattle.jn_table.specs.Rows.{HasField}
 use Rattle.jn_names.specs.Masking.{name_of, seen_of, IsNamed}

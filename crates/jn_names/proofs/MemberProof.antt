@@ -1,34 +1,28 @@
 -- What the rows of members say of paths, and what follows for the least declaration of a method and the declaration of a field.
-use Rattle.std.proofs.Common.{◌≡◌, ◌<◌, ◌≤◌, ℕ, zero, suc, List, [], ◌∷◌, length, map, slice_get, Some, None, Option, refl, sym, ap, ◌∙◌, subst, ◌⊎◌, inl, inr, Contains, ◌↔◌, arith, nat_eq, Bool, true, false, eqb}
+use Rattle.std.proofs.Common.{◌≡◌, ◌<◌, ℕ, zero, suc, List, [], ◌∷◌, length, slice_get, Some, None, Option, refl, sym, ap, ◌∙◌, subst, ◌⊎◌, inl, inr, Contains, ◌↔◌, arith}
 use Rattle.std.proofs.lemmas.Bool.{cases_order}
 use Rattle.std.proofs.lemmas.Option.{slice_get_read}
-use Rattle.jn_reach.specs.Each.{Each}
 use Rattle.jn_reach.proofs.Eachs.{Each-at, Each-back}
 use Rattle.jn_reach.proofs.Searches.{same_some}
 use Rattle.jn_base.specs.declared.tree.Name.{Name}
 use Rattle.jn_base.specs.declared.tree.Program.{Program}
-use Rattle.jn_base.specs.declared.path.Path.{Path as ShownPath}
-use Rattle.jn_base.specs.Paths.{Path, shown}
+use Rattle.jn_base.specs.Paths.{Path}
 use Rattle.jn_base.specs.Supers.{Sup, itself}
-use Rattle.jn_base.specs.Universe.{InUniverse}
 use Rattle.jn_base.specs.Members.{Decls, Least as IsLeast, FieldDecls, IsField}
 use Rattle.jn_base.specs.ClassOrder.{class_cmp, Before, IsFirst}
 use Rattle.jn_base.proofs.ClassOrders.{before_irreflexive, before_chain}
 use Rattle.jn_base.proofs.NameTests.{in_cons, in_none, first, later}
-use Rattle.jn_base.proofs.Reaching.{declared_in_universe}
 use Rattle.jn_base.proofs.SuperLaws.{sup_joined}
 use Rattle.jn_table.specs.declared.class.ClassId.{ClassId}
 use Rattle.jn_table.specs.declared.table.Table.{Table}
 use Rattle.jn_table.specs.Exact.{MethodNamed, FieldNamed}
 use Rattle.jn_table.specs.Rows.{IsNumber, AreClasses}
-use Rattle.jn_table.specs.Tables.{IsFilled}
 use Rattle.jn_table.proofs.Shown.{number_path, path_number, classes_at, same_id}
-use Rattle.jn_table.proofs.Sorted.{InOrder, in_order, place_below}
+use Rattle.jn_table.proofs.Sorted.{in_order, place_below}
 use Rattle.jn_names.specs.declared.members.MemberRow.{MemberRow}
 use Rattle.jn_names.specs.declared.members.Members.{Members}
-use Rattle.jn_names.specs.MemberRows.{MethodAtRow, FieldAtRow, SupAtRow, LowerRow, HasLowerRow, PassedRow, PassedTo, IsLowRow, FirstLowRow, FieldlessRow, FieldlessTo, IsFieldRow, FirstFieldRow}
-use Rattle.jn_names.specs.Members.{IsMemberRow, RowAt, IsMembersOf, IsLow, AreFirstTwo}
-use Rattle.jn_names.proofs.Known.{among_at}
+use Rattle.jn_names.specs.MemberRows.{MethodAtRow, FieldAtRow, SupAtRow, HasLowerRow, PassedTo, IsLowRow, FirstLowRow, FieldlessTo, IsFieldRow, FirstFieldRow}
+use Rattle.jn_names.specs.Members.{IsMembersOf, IsLow}
 use Rattle.jn_names.proofs.Descent.{LowerIn, no_descent}
 
 -- numbers are one or two

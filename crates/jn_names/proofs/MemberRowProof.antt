@@ -1,6 +1,5 @@
 -- The rows of members, number by number.
-use Rattle.std.proofs.Common.{◌≡◌, ◌<◌, ◌≤◌, ◌+◌, ℕ, List, length, get_or, slice_get, Some, Option, refl, sym, ap, ◌∙◌, subst, ◌⊎◌, inl, inr, Contains, ◌↔◌, IsTrue, Bool, arith}
-use Rattle.std.specs.List.{Any}
+use Rattle.std.proofs.Common.{◌≡◌, ◌<◌, ◌≤◌, ◌+◌, ℕ, List, length, get_or, slice_get, Some, Option, refl, sym, subst, ◌⊎◌, inl, inr, Contains, ◌↔◌, IsTrue, Bool, arith}
 use Rattle.std.proofs.lemmas.Bool.{cases_lt}
 use Rattle.std.proofs.lemmas.List.{get_or_default}
 use Rattle.std.proofs.lemmas.Option.{slice_get_read}
@@ -8,7 +7,7 @@ use Rattle.jn_reach.proofs.Searches.{NoneBefore, none_more, none_all, same_some}
 use Rattle.jn_base.specs.declared.tree.Name.{Name}
 use Rattle.jn_table.specs.declared.class.ClassId.{ClassId}
 use Rattle.jn_names.specs.declared.members.MemberRow.{MemberRow}
-use Rattle.jn_names.specs.MemberRows.{MethodAtRow, FieldAtRow, SupAtRow, LowerRow, HasLowerRow, PassedRow, PassedTo, FieldlessRow, FieldlessTo}
+use Rattle.jn_names.specs.MemberRows.{MethodAtRow, SupAtRow, HasLowerRow, PassedRow, PassedTo, FieldlessRow, FieldlessTo}
 
 -- a fact of the row at a place
 pub of_row : {B : Type 0} (rows : List MemberRow) (i : ℕ) (row : MemberRow) (has : MemberRow → List B) (x : B) (b : Bool) (xs : List B)

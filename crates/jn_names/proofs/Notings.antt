@@ -1,6 +1,5 @@
 -- What is noted of a text, part by part.
 use Rattle.std.proofs.Common.{◌≡◌, ◌<◌, ◌≤◌, ◌+◌, ℕ, List, [], ◌∷◌, ◌++◌, map, length, drop, get_or, cond, not, Bool, true, false, ◌||◌, nat_eq, refl, sym, ap, ◌∙◌, subst, arith}
-use Rattle.std.specs.List.{list_any}
 use Rattle.std.proofs.lemmas.List.{append-nil, append_assoc}
 use Rattle.std.proofs.lemmas.List.Folds.{list_any-append}
 use Rattle.std.proofs.Math.ListN.{drop_of_length-le}
@@ -8,7 +7,7 @@ use Rattle.jn_base.specs.declared.tree.Name.{Name}
 use Rattle.jn_base.specs.declared.tree.Named.{Named}
 use Rattle.jn_base.specs.declared.tree.Term.{Term}
 use Rattle.jn_base.specs.Duplicates.{only_if, has_name}
-use Rattle.jn_base.specs.Forms.{Mention, Mentions, Shared, Adapted, Constrained, Viewed, Termed, Masked, all_of}
+use Rattle.jn_base.specs.Forms.{Mentions, Shared, Adapted, Constrained, Viewed, Termed, Masked, all_of}
 use Rattle.jn_base.specs.ResolveTypes.{masks_in, firsts}
 use Rattle.jn_names.specs.Noting.{added, adding, noted}
 use Rattle.jn_base.proofs.NameTests.{same_name}

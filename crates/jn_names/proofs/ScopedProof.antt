@@ -1,6 +1,5 @@
 -- The newest variable of a path, variable by variable.
-use Rattle.std.proofs.Common.{◌≡◌, ◌<◌, ◌≤◌, ◌+◌, ℕ, zero, suc, List, [], ◌∷◌, ◌++◌, map, reverse, take, slice_get, Some, None, Option, refl, sym, ap, ◌∙◌, subst, arith, add-one, cond, nat_eq, true, false, Bool, length, get_or}
-use Rattle.std.specs.Option.{MatchOption}
+use Rattle.std.proofs.Common.{◌≡◌, ◌<◌, ◌≤◌, ◌+◌, ℕ, zero, suc, List, [], ◌∷◌, ◌++◌, map, reverse, take, slice_get, Some, None, Option, refl, sym, ap, ◌∙◌, subst, arith, add-one, cond, nat_eq, true, false, Bool, length}
 use Rattle.std.specs.Prelude.{IfSome}
 use Rattle.std.proofs.lemmas.List.{reverse-append}
 use Rattle.std.proofs.lemmas.Bool.Decides.{nat_tests}
@@ -10,7 +9,7 @@ use Rattle.jn_base.specs.Paths.{Path}
 use Rattle.jn_base.specs.Atoms.{atoms_in, first_at}
 use Rattle.jn_base.specs.Scopes.{Scope, Bind, bound_of, this_bind}
 use Rattle.jn_base.specs.Resolve.{var_bind}
-use Rattle.jn_names.specs.Scoped.{scope_from, BoundAt, OuterBound, NewestTo}
+use Rattle.jn_names.specs.Scoped.{scope_from, NewestTo}
 
 take_at : {A : Type 0} (xs : List A) (i : ℕ) (x : A) → slice_get xs i ≡ Some x → take (suc i) xs ≡ take i xs ++ x ∷ []
 take_at [] i x e = absurd (cc e)

@@ -1,5 +1,5 @@
 -- The types of the declared fields, in source order.
-use Rattle.std.specs.Prelude.{◌≡◌, ◌≤◌, List, [], ◌∷◌, ◌++◌, map, length, Result, Ok, Err}
+use Rattle.std.specs.Prelude.{◌≡◌, List, [], ◌∷◌, ◌++◌, map, Result, Ok, Err}
 use Rattle.jn_base.specs.declared.tree.Decl.{Decl, fold-Decl}
 use Rattle.jn_base.specs.declared.tree.Field.{Field}
 use Rattle.jn_base.specs.declared.tree.Member.{Member, fold-Member}
@@ -11,10 +11,14 @@ use Rattle.jn_base.specs.declared.names.Vars.{Vars}
 use Rattle.jn_base.specs.declared.path.Path.{Path as ShownPath}
 use Rattle.jn_base.specs.declared.refusal.Refusal.{Refusal}
 use Rattle.jn_base.specs.declared.types.Ty.{Ty}
-use Rattle.jn_base.specs.Paths.{Path, shown, Declared}
+use Rattle.jn_base.specs.Paths.{Path, shown}
 use Rattle.jn_base.specs.ResolveTypes.{mask_names, ResolveType}
 use Rattle.jn_table.specs.declared.class.ClassId.{ClassId}
 use Rattle.jn_table.specs.declared.field_types.FieldTy.{FieldTy}
+use Rattle.jn_table.specs.declared.field_types.FieldTypes.{FieldTypes}
+use Rattle.jn_table.specs.declared.table.Table.{Table}
+use Rattle.jn_names.specs.declared.fault.NameFault.{NameFault}
+use Rattle.jn_names.specs.declared.fault.NameFault.TheVariants.{Refused, Memory}
 use Rattle.jn_table.specs.Rows.{IsNumber}
 
 -- a field with the path of the declaration that has it
@@ -74,6 +78,12 @@ pub data FieldsGive (p : Program) (known : List ShownPath) : List AtField → Re
       → FieldGives p x (Ok ty) → IsNumber known id x.class → FieldsGive p known xs others → o ≡ before_fields (typed id x ty) others
       → FieldsGive p known (x ∷ xs) o
 
--- no declaration is nested deeper than 8, as in each program that a source spells
-abbrev pub IsShallow : Program → Type 0
-IsShallow p = (R : Path) → Declared p R → length R ≤ 8
+-- what the declared fields of the program give
+abbrev pub AllFieldsGive : Program → Table → Result (List FieldTy) Refusal → Type 0
+AllFieldsGive p t = FieldsGive p t.known.items (declared_fields p)
+
+-- the answer is one of which T holds; of want of memory nothing is said
+abbrev pub FieldsTold : (Result (List FieldTy) Refusal → Type 0) → Result FieldTypes NameFault → Type 0
+FieldsTold T (Ok all) = T (Ok all.list.items)
+FieldsTold T (Err (Refused r)) = T (Err r)
+FieldsTold T (Err Memory) = Unit {0}

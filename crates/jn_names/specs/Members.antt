@@ -1,5 +1,5 @@
 -- What the least declaration of a method and the declaration of a field are, as `Members` tells them.
-use Rattle.std.specs.Prelude.{◌≡◌, ◌↔◌, ℕ, List, Contains, slice_get, Some}
+use Rattle.std.specs.Prelude.{◌≡◌, ◌↔◌, List, Contains, slice_get, Some}
 use Rattle.jn_base.specs.declared.tree.Name.{Name}
 use Rattle.jn_base.specs.declared.tree.Program.{Program}
 use Rattle.jn_base.specs.declared.path.Path.{Path as ShownPath}

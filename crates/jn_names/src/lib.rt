@@ -8,6 +8,7 @@
 mod before;
 mod bound;
 mod fault;
+mod fields;
 mod masks;
 mod members;
 mod numbering;
@@ -18,7 +19,11 @@ mod term;
 mod types;
 
 pub use fault::NameFault;
+pub use fields::field_types;
 pub use jn_base::names::{Resolved, Role, Spot, Var, Vars};
 pub use members::{Least, Members};
 pub use numbering::mask_names;
 pub use resolving::{resolve, resolve_type, resolve_view};
+
+#[cfg(test)]
+mod tests;

@@ -131,15 +131,10 @@ fn bound_gives(
         None => Err(refused(alloc, Rule::E15, term.at, spot, spot.owner)),
         Some(k) => {
             let left = v.without(alloc, k)?;
-            behind(
-                alloc,
-                t,
-                spot,
-                term,
-                front,
-                &left,
-                Anchor::Up(path, k as u8),
-            )
+            match up(path, k) {
+                Err(fault) => Err(fault),
+                Ok(anchor) => behind(alloc, t, spot, term, front, &left, anchor),
+            }
         }
     }
 }

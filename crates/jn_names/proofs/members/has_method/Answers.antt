@@ -1,4 +1,3 @@
-use Rattle.jn_reach.proofs.Searches.{iff_false}
 use Rattle.jn_names.specs.declared.members.MemberRow.{MemberRow}
 use Rattle.jn_names.proofs.MemberRowProof.{of_row}
 use Rattle.jn_names.proofs.members.has_method.Goals as goal

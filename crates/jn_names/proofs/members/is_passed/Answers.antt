@@ -1,4 +1,3 @@
-use Rattle.std.proofs.Common.{inl, inr}
 use Rattle.jn_reach.proofs.Searches.{not_when}
 use Rattle.jn_names.proofs.members.is_passed.Goals as goal
 

@@ -1,6 +1,4 @@
-use Rattle.std.proofs.Common.{◌≡◌}
-use Rattle.jn_base.specs.Forms.{all_of, of_member}
-use Rattle.jn_names.specs.Noting.{noted}
+use Rattle.jn_base.specs.Forms.{of_member}
 use Rattle.jn_names.proofs.Notings.{note_next, note_end}
 use Rattle.jn_names.proofs.numbering.+decl_masks.Goals as goal
 

@@ -1,6 +1,4 @@
-use Rattle.std.proofs.Common.{◌≡◌}
-use Rattle.jn_base.specs.Forms.{all_of, of_expr, of_link, of_suffix}
-use Rattle.jn_names.specs.Noting.{noted}
+use Rattle.jn_base.specs.Forms.{of_expr, of_link, of_suffix}
 use Rattle.jn_base.proofs.FormEquations.{at_link}
 use Rattle.jn_names.proofs.Notings.{note_next, note_end}
 use Rattle.jn_names.proofs.numbering.+expr_masks.Goals as goal

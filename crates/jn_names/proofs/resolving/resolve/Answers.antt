@@ -4,7 +4,6 @@ use Rattle.jn_base.specs.declared.types.Atom.{Atom}
 use Rattle.jn_base.specs.declared.refusal.Refusal.{Refusal}
 use Rattle.jn_base.specs.Resolve.{Resolve}
 use Rattle.jn_base.proofs.ResolveOnce.{term_once}
-use Rattle.jn_names.specs.Answers.{Told}
 use Rattle.jn_names.proofs.Answering.{of_one, only_one}
 use Rattle.jn_names.proofs.resolving.resolve.Goals as goal
 

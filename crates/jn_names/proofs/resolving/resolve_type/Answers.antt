@@ -4,7 +4,6 @@ use Rattle.jn_base.specs.declared.types.Ty.{Ty}
 use Rattle.jn_base.specs.declared.refusal.Refusal.{Refusal}
 use Rattle.jn_base.specs.ResolveTypes.{ResolveType}
 use Rattle.jn_base.proofs.ResolveOnce.{type_once}
-use Rattle.jn_names.specs.Answers.{Told}
 use Rattle.jn_names.proofs.Answering.{of_one, only_one}
 use Rattle.jn_names.proofs.resolving.resolve_type.Goals as goal
 

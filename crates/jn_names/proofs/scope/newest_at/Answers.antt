@@ -1,8 +1,6 @@
-use Rattle.std.proofs.Common.{◌≡◌, ◌<◌, ◌+◌, ◌≤◌, ℕ, Some, None, Option, sym, subst, ap, ◌∙◌, nat_eq, true, false, arith, refl, length, slice_get, get_or}
-use Rattle.std.specs.Prelude.{IfSome}
+use Rattle.std.proofs.Common.{◌≡◌, Some, sym, ap, ◌∙◌, refl, length, slice_get}
 use Rattle.std.proofs.lemmas.Option.{slice_get_read}
 use Rattle.jn_base.specs.declared.names.Var.{Var}
-use Rattle.jn_names.specs.Scoped.{NewestTo}
 use Rattle.jn_names.proofs.ScopedProof.{newest_none, found_here, found_before, within_all, newest_all}
 use Rattle.jn_names.proofs.scope.newest_at.Goals as goal
 use Rattle.jn_names.proofs.scope.newest_at.Goals.{then-vars-i, else-vars-i}

@@ -1,4 +1,4 @@
-use Rattle.std.proofs.Common.{◌≡◌, Some, subst, sym, List, drop, get_or, ◌∷◌, ◌+◌, Option}
+use Rattle.std.proofs.Common.{Some, subst, sym, List, drop, get_or, ◌∷◌, ◌+◌}
 use Rattle.jn_base.specs.declared.tree.Name.{Name}
 use Rattle.jn_base.specs.Paths.{Path}
 use Rattle.jn_base.specs.Universe.{InUniverse}

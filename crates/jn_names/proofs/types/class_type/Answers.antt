@@ -1,6 +1,4 @@
-use Rattle.std.proofs.Common.{◌∙◌, ap, length, List}
-use Rattle.jn_base.specs.declared.types.Atom.{Atom}
-use Rattle.jn_base.specs.ResolveTypes.{bounds_at}
+use Rattle.std.proofs.Common.{◌∙◌, ap, length}
 use Rattle.jn_names.proofs.TypeProof.{bounds_long}
 use Rattle.jn_names.proofs.types.class_type.Goals as goal
 

@@ -1,4 +1,4 @@
-use Rattle.std.proofs.Common.{Result, Ok, ◌∷◌, [], List, subst}
+use Rattle.std.proofs.Common.{Result, ◌∷◌, [], List, subst}
 use Rattle.jn_base.specs.declared.tree.Named.{Named}
 use Rattle.jn_base.specs.declared.tree.Program.{Program}
 use Rattle.jn_base.specs.declared.types.Atom.{Atom}

@@ -1,4 +1,4 @@
-use Rattle.std.proofs.Common.{◌≡◌, ◌↔◌, IsTrue, List, Contains, subst}
+use Rattle.std.proofs.Common.{◌↔◌, IsTrue, List, Contains, subst}
 use Rattle.jn_base.specs.declared.tree.Name.{Name}
 use Rattle.jn_reach.proofs.Searches.{iff_false}
 use Rattle.jn_names.proofs.Known.{none_known, field_known}

@@ -1,5 +1,4 @@
-use Rattle.std.proofs.Common.{◌≡◌, ◌∙◌, sym, ap, reverse, List}
-use Rattle.jn_base.specs.declared.tree.Name.{Name}
+use Rattle.std.proofs.Common.{◌≡◌, ◌∙◌, sym, ap, reverse}
 use Rattle.jn_names.proofs.Turned.{turned_same}
 use Rattle.jn_names.proofs.bound.Bound.is.Goals as goal
 

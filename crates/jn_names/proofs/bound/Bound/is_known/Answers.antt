@@ -1,4 +1,3 @@
-use Rattle.std.proofs.Common.{refl}
 use Rattle.jn_reach.proofs.Searches.{iff_true, iff_false}
 use Rattle.jn_names.proofs.Known.{numbered_known, none_known}
 use Rattle.jn_names.proofs.bound.Bound.is_known.Goals as goal

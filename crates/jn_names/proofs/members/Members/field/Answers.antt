@@ -1,4 +1,4 @@
-use Rattle.std.proofs.Common.{List, slice_get, Some, None, ◌≡◌, ◌∙◌, sym, ap}
+use Rattle.std.proofs.Common.{List, slice_get, ◌∙◌, sym, ap}
 use Rattle.jn_names.specs.declared.members.MemberRow.{MemberRow}
 use Rattle.jn_names.proofs.MemberSays.{field_absent, says_field}
 use Rattle.jn_names.proofs.members.Members.field.Goals as goal
