@@ -9,6 +9,7 @@ mod conjunct;
 mod rewriting;
 mod substitution;
 
+pub use conjunct::Conjunct;
 pub use substitution::{normal, subst};
 
 #[cfg(test)]
