@@ -102,10 +102,10 @@ fn substituted(
         Ty::Null => Ok(Ty::Null),
         Ty::Void => Ok(Ty::Void),
         Ty::Class(atoms, masks) => {
-            let all = normals(alloc, pool, scope, atoms.as_slice(), from, to)?;
-            let all = in_order(all)?;
-            let atoms = shown_atoms(alloc, all)?;
-            Ok(Ty::Class(atoms, *masks))
+            let forms = normals(alloc, pool, scope, atoms.as_slice(), from, to)?;
+            let sorted = in_order(forms)?;
+            let shown = shown_atoms(alloc, sorted)?;
+            Ok(Ty::Class(shown, *masks))
         }
     }
 }
