@@ -1,3 +1,4 @@
 pub mod Ordered
 pub mod Replacing
 pub mod Turning
+pub mod Fitting

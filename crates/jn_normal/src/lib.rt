@@ -7,6 +7,7 @@
 mod compare;
 mod conjunct;
 mod rewriting;
+pub mod rows;
 mod substitution;
 
 pub use conjunct::Conjunct;
