@@ -1,14 +1,13 @@
 -- A test of what fits, for scopes that are written out.
-use Rattle.std.proofs.Common.{◌≡◌, ◌<◌, ◌≤◌, ℕ, List, [], ◌∷◌, Bool, true, false, ◌&&◌, ◌||◌, nat_eq, nat_lt, nat_le, length, map, refl, sym, ap, ◌∙◌, subst, eqb-true, ltb-true, leb-true}
+use Rattle.std.proofs.Common.{◌≡◌, ℕ, List, [], ◌∷◌, Bool, true, false, ◌&&◌, ◌||◌, nat_eq, nat_lt, nat_le, length, map, refl, sym, eqb-true, ltb-true, leb-true}
 use Rattle.std.proofs.lemmas.Bool.{eqb-false}
 use Rattle.jn_base.specs.declared.types.Anchor.{Anchor}
 use Rattle.jn_base.specs.declared.types.Anchor.TheVariants.{Root, Up}
 use Rattle.jn_base.specs.declared.types.Ty.{Ty}
 use Rattle.jn_base.specs.declared.types.Ty.TheVariants as ty
-use Rattle.jn_base.specs.Paths.{Path}
-use Rattle.jn_base.specs.Atoms.{Atom, atom_of, atoms_in, Among, first, later}
-use Rattle.jn_base.specs.Scopes.{Bind, Scope, bound_of, bound, Binds, this_bind}
-use Rattle.jn_base.specs.Fits.{Anchored, AtomsFit, IsClass, TypeFits, BindsFit, ScopeFits}
+use Rattle.jn_base.specs.Atoms.{Atom, atom_of, Among, first, later}
+use Rattle.jn_base.specs.Scopes.{Bind, Scope, bound_of, bound, Binds}
+use Rattle.jn_base.specs.Fits.{Anchored, AtomsFit, TypeFits, BindsFit}
 
 -- the tests
 

@@ -2,3 +2,4 @@ pub mod Ordered
 pub mod Replacing
 pub mod Turning
 pub mod Fitting
+pub mod RowsFit

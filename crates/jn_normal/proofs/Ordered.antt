@@ -35,5 +35,5 @@ pub order_is : (xs ys zs : List Atom) → IsPermutation xs ys → IsSorted atom_
 order_is xs ys zs p s f =
     let same = deduped_same xs ys zs p f in
     sorted_once atom_total zs (in_order xs) (deduped_sorted ys zs s f) (order_sorted xs)
-        (λ x m. order_each xs x (among_of xs x ((same x).0 (contains_of zs x m))))
-        (λ x m. among_of zs x ((same x).1 (contains_of xs x (order_only xs x m))))
+    (λ x m. order_each xs x (among_of xs x ((same x).0 (contains_of zs x m))))
+    (λ x m. among_of zs x ((same x).1 (contains_of xs x (order_only xs x m))))

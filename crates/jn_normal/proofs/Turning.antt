@@ -1,5 +1,5 @@
 -- One turn of the loop from the newest bind back.
-use Rattle.std.proofs.Common.{◌≡◌, ◌<◌, ◌+◌, ◌-◌, ◌^◌, ℕ, List, length, map, reverse, drop, get_or, refl, sym, ap, ◌∙◌, subst, arith, ◌≤◌}
+use Rattle.std.proofs.Common.{◌≡◌, ◌<◌, ◌+◌, ◌-◌, ◌^◌, ℕ, List, length, map, reverse, drop, get_or, sym, ap, ◌∙◌, subst, arith}
 use Rattle.std.proofs.lemmas.List.{get_or-map, length-map}
 use Rattle.jn_base.specs.declared.types.Ty.{Ty}
 use Rattle.jn_base.specs.Atoms.{Atom, levels, Among}
@@ -9,7 +9,7 @@ use Rattle.jn_sem.specs.Normal.{rewritten, normal}
 use Rattle.jn_sem.proofs.Codes.{bind_among, normal_turn, levels_small}
 use Rattle.jn_sem.proofs.Levels.{rewritten_anchored}
 use Rattle.jn_intern.specs.declared.scope.Bind.{Bind}
-use Rattle.jn_intern.specs.Pools.{shown, bind_in}
+use Rattle.jn_intern.specs.Pools.{bind_in}
 
 -- the i-th bind from the newest, with its type
 abbrev pub turn : List Ty → List Bind → ℕ → Bind → TypeBind

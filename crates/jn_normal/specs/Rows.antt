@@ -7,7 +7,7 @@ use Rattle.jn_base.specs.declared.types.Ty.{Ty}
 use Rattle.jn_base.specs.declared.types.Ty.TheVariants as ty
 use Rattle.jn_base.specs.Atoms.{Atom, atom, shown_atom, no_masks}
 use Rattle.jn_base.specs.Scopes.{Bind, Scope, this_bind}
-use Rattle.jn_base.specs.Fits.{ScopeFits, TypeFits}
+use Rattle.jn_base.specs.Fits.{ScopeFits}
 use Rattle.jn_sem.specs.Normal.{normal, swapped, same_path}
 use Rattle.jn_sem.specs.NormalFunction.{subst_type}
 
@@ -70,6 +70,10 @@ in_c =
     ∷ bind 1 (exact A C ∷ [])
     ∷ this_bind (C ∷ A ∷ [])
     ∷ []
+
+-- a scope of `this` and p1 alone
+abbrev pub in_p : Scope
+in_p = bind 1 (exact A C ∷ []) ∷ this_bind (C ∷ A ∷ []) ∷ []
 
 -- ATOMS
 pub record AtomRows : Type 0 where

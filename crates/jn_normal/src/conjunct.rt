@@ -92,7 +92,11 @@ impl Conjunct {
         let had = z.exact.len();
         let kept = had.saturating_sub(taken);
         let rest = taken.saturating_sub(had);
-        let exact = joined(alloc, &z.exact.as_slice()[..kept], self.atom.exact.as_slice())?;
+        let exact = joined(
+            alloc,
+            &z.exact.as_slice()[..kept],
+            self.atom.exact.as_slice(),
+        )?;
         let names = Items::from_slice(alloc, self.atom.names.as_slice())?;
         let anchor = further(rest, z.anchor);
         Ok(Conjunct {

@@ -1,4 +1,4 @@
-use Rattle.std.proofs.Common.{◌≡◌, length, map, drop}
+use Rattle.std.proofs.Common.{◌≡◌, map, drop}
 use Rattle.std.specs.Ordering.{nat_cmp}
 use Rattle.std.specs.Cmp.Lexicographic.{slice_cmp}
 use Rattle.jn_sem.specs.Normal.{name_number}

@@ -1,9 +1,8 @@
-use Rattle.std.proofs.Common.{◌≡◌, ◌∙◌, ◌-◌, List, length, get_or, reverse, sym, ap}
+use Rattle.std.proofs.Common.{◌∙◌, ◌-◌, List, length, get_or, reverse, sym, ap}
 use Rattle.jn_base.specs.declared.types.Ty.{Ty}
 use Rattle.jn_base.specs.Scopes.{Bind as TypeBind}
 use Rattle.jn_intern.specs.declared.scope.Bind.{Bind}
-use Rattle.jn_intern.specs.declared.pool.TyId.{TyId}
-use Rattle.jn_normal.proofs.Turning.{turn, to_types, turn_small, turn_same, turn_anchored}
+use Rattle.jn_normal.proofs.Turning.{to_types, turn_small, turn_same, turn_anchored}
 use Rattle.jn_normal.proofs.rewriting.normal_atom.Goals as goal
 
 -- what is read where there is no bind

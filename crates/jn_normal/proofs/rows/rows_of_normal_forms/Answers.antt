@@ -1,16 +1,7 @@
-use Rattle.std.proofs.Common.{◌≡◌, [], ◌∷◌, refl}
-use Rattle.jn_base.specs.Atoms.{first, later}
-use Rattle.jn_base.specs.Fits.{ScopeFits}
-use Rattle.jn_normal.specs.Rows.{A, C, in_c, AtomRows, TypeRows, SubstRows}
-use Rattle.jn_normal.proofs.Fitting.{binds_fit_of}
+use Rattle.std.proofs.Common.{refl}
+use Rattle.jn_normal.specs.Rows.{AtomRows, TypeRows, SubstRows}
+use Rattle.jn_normal.proofs.RowsFit.{in_c_fits}
 use Rattle.jn_normal.proofs.rows.rows_of_normal_forms.Goals as goal
-
-in_c_fits : ScopeFits in_c
-in_c_fits = record {
-  binds = binds_fit_of in_c refl;
-  class_of_this = C ∷ A ∷ [];
-  this = later (later (later (later (later (later (later (later first)))))));
-}
 
 atoms : AtomRows
 atoms = record {

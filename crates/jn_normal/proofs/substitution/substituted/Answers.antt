@@ -1,6 +1,5 @@
-use Rattle.std.proofs.Common.{◌≡◌, ◌∙◌, ap, sym, subst, List, All, map}
+use Rattle.std.proofs.Common.{◌∙◌, ap, sym, subst, List, All, map}
 use Rattle.jn_base.specs.declared.types.Atom.{Atom as ShownAtom}
-use Rattle.jn_base.specs.declared.types.Ty.{Ty}
 use Rattle.jn_base.specs.Atoms.{Atom, atom_of}
 use Rattle.jn_base.specs.Fits.{Anchored}
 use Rattle.jn_sem.specs.Normal.{moved_anchor, swapped, MovedFits}
@@ -22,5 +21,5 @@ returns-in_ok-shown-in-Class c =
     let f = swapped c.args.from.now c.args.to.now in
     let form : List ShownAtom → List Atom = λ xs. map (moved_normal s f) (map atom_of xs) in
     shown_type s f c.in-Class.atoms c.in_ok-shown-in-Class.shown c.in-Class.masks
-        (c.in_ok-shown-in-Class.ensures ∙ c.in_ok-sorted-in-Class.ensures ∙ ap in_order c.in_ok-forms-in-Class.ensures ∙ ap (λ (xs : List ShownAtom). in_order (form xs)) c.as_slice.ensures)
+    (c.in_ok-shown-in-Class.ensures ∙ c.in_ok-sorted-in-Class.ensures ∙ ap in_order c.in_ok-forms-in-Class.ensures ∙ ap (λ (xs : List ShownAtom). in_order (form xs)) c.as_slice.ensures)
     ∙ ap (subst_type s f) (sym c.in-Class.is)
