@@ -1,11 +1,11 @@
 -- What a pool shows while it grows.
-use Rattle.std.proofs.Common.{◌≡◌, ◌<◌, ℕ, List, [], ◌∷◌, length, map, reverse, get_or, All, suc, refl, sym, ap, ◌∙◌, arith}
+use Rattle.std.proofs.Common.{◌≡◌, List, [], ◌∷◌, map, reverse, get_or, All, suc, refl, ap, ◌∙◌, arith}
 use Rattle.std.specs.List.{AllByRecursion}
 use Rattle.jn_base.specs.declared.types.Ty.{Ty}
-use Rattle.jn_base.specs.Scopes.{Bind as TypeBind, Scope as TypeScope}
+use Rattle.jn_base.specs.Scopes.{Bind as TypeBind}
 use Rattle.jn_intern.specs.declared.scope.Bind.{Bind}
 use Rattle.jn_intern.specs.declared.scope.Scope.{Scope}
-use Rattle.jn_intern.specs.Pools.{InPool, shown, Keeps, ScopeInPool, bind_in, scope_in}
+use Rattle.jn_intern.specs.Pools.{InPool, Keeps, ScopeInPool, bind_in, scope_in}
 
 pub keeps_same : (pool : List Ty) → Keeps pool pool
 keeps_same pool = record {

@@ -1,5 +1,5 @@
 -- What the numbers of a pool show, and how a scope of numbers is a scope of types.
-use Rattle.std.specs.Prelude.{◌≡◌, ◌<◌, ◌≤◌, List, length, map, reverse, get_or, All}
+use Rattle.std.specs.Prelude.{◌≡◌, ◌<◌, List, length, map, reverse, get_or, All}
 use Rattle.jn_base.specs.declared.types.Ty.{Ty}
 use Rattle.jn_base.specs.declared.types.Ty.TheVariants as ty
 use Rattle.jn_base.specs.Scopes.{Bind as TypeBind, Scope as TypeScope}

@@ -22,18 +22,21 @@ fn interns_and_compares(rt: HostRuntime) -> Result<(), Fail> {
     let of_one = of_names(rt.alloc(), &[Name(7)], 0)?;
     let masked = of_names(rt.alloc(), &[Name(7)], 1)?;
     let of_two = of_names(rt.alloc(), &[Name(7), Name(8)], 0)?;
-    let ids = [
-        pool.intern(&of_one)?,
-        pool.intern(&masked)?,
-        pool.intern(&of_two)?,
-        pool.intern(&Ty::Int)?,
-        pool.intern(&of_one)?,
-    ];
-    assert_eq!(rt; pool.len(), 5);
-    for (i, want) in [true, false, false, false, true].iter().enumerate() {
-        assert_eq!(rt; pool.same(ids[0], ids[i]), *want, "term {i}");
+    let first = pool.intern(&of_one)?;
+    let second = pool.intern(&masked)?;
+    let third = pool.intern(&of_two)?;
+    assert_eq!(rt; pool.len(), 3);
+    let again = pool.intern(&of_one)?;
+    for (id, want) in [
+        (first, true),
+        (second, false),
+        (third, false),
+        (again, true),
+    ] {
+        assert_eq!(rt; pool.same(first, id), want, "{id:?}");
     }
-    let shown = format!(in rt.alloc(); "{:?}", pool.show(ids[3]))?;
+    let number = pool.intern(&Ty::Int)?;
+    let shown = format!(in rt.alloc(); "{:?}", pool.show(number))?;
     assert_eq!(rt; shown.as_str(), "Int");
     Ok(())
 }

@@ -13,6 +13,7 @@ use sqlite_items::Items;
 use std::alloc::{AllocError, Global};
 
 /// What stands for the path `q`: `to[i]` where it is `from[i]`, else `q` itself.
+#[tactic(auto, using(crate::proofs::Replacing::swapped_next))]
 fn replacement(from: &[u32], to: &[u32], q: u32) -> u32
     requires { length from.now ≡ length to.now }
     ensures { result ≡ swapped from.now to.now q }
