@@ -1,0 +1,5 @@
+pub mod Ordered
+pub mod Replacing
+pub mod Turning
+pub mod Fitting
+pub mod RowsFit
