@@ -244,3 +244,12 @@ fn families_in_a_chain(rt: HostRuntime) -> Result<(), Fail> {
     assert_eq!(rt; known, 256);
     Ok(())
 }
+
+#[test]
+fn chains_of_families(rt: HostRuntime) -> Result<(), Fail> {
+    let families = chain(rt.alloc(), 1_024, &STEPS)?;
+    let (told, known, _) = answer(rt.alloc(), &families)?;
+    assert_eq!(rt; told, "Ok");
+    assert_eq!(rt; known, 4_096);
+    Ok(())
+}
