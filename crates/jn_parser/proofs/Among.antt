@@ -1,5 +1,5 @@
 -- All keywords, and all marks.
-use Rattle.std.proofs.Common.{◌≡◌, List, [], ◌∷◌, refl, sym, ◌∙◌, subst}
+use Rattle.std.proofs.Common.{◌≡◌, List, [], ◌∷◌, subst}
 use Rattle.jn_base.specs.declared.word.Keyword.{Keyword}
 use Rattle.jn_base.specs.declared.word.Keyword.TheVariants as keyword_
 use Rattle.jn_base.specs.declared.word.Mark.{Mark}

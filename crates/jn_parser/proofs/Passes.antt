@@ -1,12 +1,11 @@
 -- The pass over the words with a set of the masks' names is that of the grammar.
-use Rattle.std.proofs.Common.{◌≡◌, ℕ, zero, suc, ◌+◌, ◌<◌, ◌≤◌, Bool, true, false, not, ◌||◌, ◌&&◌, List, [], ◌∷◌, ◌++◌, length, Option, Some, None, refl, sym, ◌∙◌, ap, subst, arith, length-append, eqb, if◌then◌else◌}
+use Rattle.std.proofs.Common.{◌≡◌, ℕ, suc, Bool, true, false, not, ◌||◌, ◌&&◌, List, [], ◌∷◌, ◌++◌, length, Option, Some, None, refl, sym, ◌∙◌, ap, subst, arith, length-append, eqb, if◌then◌else◌}
 use Rattle.std.specs.Prelude.{nat_eq, nat_le}
 use Rattle.std.specs.Set.{is_member}
 use Rattle.std.proofs.Math.Bool.{or_assoc}
 use Rattle.std.proofs.lemmas.Bool.Decides.{Decides-eqb}
 use Rattle.jn_base.specs.declared.refusal.Limit.{Limit}
 use Rattle.jn_base.specs.declared.refusal.Limit.TheVariants.{Masks}
-use Rattle.jn_base.specs.declared.word.Word.{Word}
 use Rattle.jn_base.specs.declared.word.Word.TheVariants as word
 use Rattle.jn_base.specs.declared.word.Mark.TheVariants.{Backslash}
 use Rattle.jn_base.specs.declared.word.Lexeme.{Lexeme}

@@ -1,5 +1,5 @@
 -- Places, byte by byte.
-use Rattle.std.proofs.Common.{◌≡◌, ℕ, suc, ◌+◌, ◌-◌, ◌≤◌, ◌==◌, Bool, true, false, not, List, [], ◌∷◌, ◌++◌, length, take, drop, min, reverse, cond, refl, sym, ◌∙◌, ap, append_assoc, arith, if◌then◌else◌, length-drop, length-append}
+use Rattle.std.proofs.Common.{◌≡◌, ℕ, ◌+◌, ◌-◌, ◌≤◌, ◌==◌, Bool, true, false, not, List, [], ◌∷◌, ◌++◌, length, take, drop, min, reverse, cond, refl, sym, ◌∙◌, ap, append_assoc, arith, if◌then◌else◌, length-drop}
 use Rattle.std.specs.List.{after_last, suffix_len, prefix_len, count_by}
 use Rattle.std.proofs.lemmas.List.{append-nil, length-take, reverse-append}
 use Rattle.std.proofs.lemmas.Grind.{common_steps}

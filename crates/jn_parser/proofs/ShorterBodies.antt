@@ -1,5 +1,5 @@
 -- What the items of rows leave is shorter: statements and the parts of declarations.
-use Rattle.std.proofs.Common.{◌≡◌, ℕ, suc, ◌≤◌, ◌<◌, true, List, [], ◌∷◌, ◌++◌, length, Ok, ap, ◌∙◌, length-append, arith}
+use Rattle.std.proofs.Common.{◌≡◌, ℕ, ◌≤◌, ◌<◌, true, List, ◌∷◌, ◌++◌, length, Ok, ap, ◌∙◌, length-append, arith}
 use Rattle.jn_base.specs.declared.tree.Named.{Named}
 use Rattle.jn_base.specs.declared.tree.Kind.{Kind}
 use Rattle.jn_base.specs.declared.tree.Param.{Param}
@@ -13,7 +13,7 @@ use Rattle.jn_base.specs.declared.word.Lexeme.{Lexeme}
 use Rattle.jn_base.specs.Words.{lexeme}
 use Rattle.jn_base.specs.Parts.{Part, mark}
 use Rattle.jn_base.specs.GrammarTypes.{IsView}
-use Rattle.jn_base.specs.GrammarStmt.{IsStmt, block, local, assign, set_field, act, choice, turns, leave, give, print, print_text}
+use Rattle.jn_base.specs.GrammarStmt.{block, local, assign, set_field, act, choice, turns, leave, give, print, print_text}
 use Rattle.jn_base.specs.GrammarDecl.{IsParam, IsRel, rel, IsInner, inner, IsMember, declared, slot, method, IsTop, top}
 use Rattle.jn_grammar.specs.Begins.{begins, behind}
 use Rattle.jn_grammar.specs.ReadStmts.{stmt_in, stmts_of}

@@ -1,5 +1,5 @@
 -- The verdict on a source's text: what is given, what is refused, and that both are one.
-use Rattle.std.proofs.Common.{◌≡◌, true, ℕ, zero, suc, ◌+◌, ◌<◌, ◌≤◌, List, [], ◌∷◌, ◌++◌, length, take, map, Option, Some, None, Result, Ok, Err, IfOk, refl, sym, ◌∙◌, ap, subst, arith}
+use Rattle.std.proofs.Common.{◌≡◌, true, ℕ, suc, ◌+◌, ◌≤◌, List, [], ◌∷◌, length, map, Option, Some, None, Result, Ok, Err, IfOk, refl, sym, ◌∙◌, ap, subst, arith}
 use Rattle.std.specs.Str.{IsUtf8, IsValidUpTo}
 use Rattle.std.proofs.lemmas.Str.{utf8_valid_len-IsValidUpTo}
 use Rattle.std.proofs.Math.Seq.{take-length}
@@ -11,14 +11,12 @@ use Rattle.jn_base.specs.declared.tree.Program.{Program}
 use Rattle.jn_base.specs.declared.refusal.Limit.{Limit}
 use Rattle.jn_base.specs.declared.refusal.Refusal.{Refusal}
 use Rattle.jn_base.specs.declared.refusal.Rule.TheVariants.{E03}
-use Rattle.jn_base.specs.declared.word.Word.TheVariants as word
 use Rattle.jn_base.specs.declared.word.Lexeme.{Lexeme}
 use Rattle.jn_base.specs.Places.{place_of}
 use Rattle.jn_base.specs.Words.{last_word, AreWordsOf}
 use Rattle.jn_base.specs.Parts.{Part, lexeme_of}
 use Rattle.jn_base.specs.Spelling.{SourceSpells, limit_of, IsFirstRefused, refusal, greatest_source, IsTextRefused, too_long, not_utf8, word_refused, IsTextOf}
 use Rattle.jn_grammar.specs.declared.fault.Fault.{Fault}
-use Rattle.jn_grammar.specs.Begins.{lexemes}
 use Rattle.jn_grammar.specs.Answers.{Answer}
 use Rattle.jn_grammar.specs.ReadWhole.{program_in}
 use Rattle.jn_grammar.specs.TokenLimits.{left_of, rule_of, limit_shown, place_left, checked_in, IsLast, the_end, no_word}

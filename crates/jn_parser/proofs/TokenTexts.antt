@@ -1,10 +1,9 @@
 -- What the texts of tokens are, as bytes.
-use Rattle.std.proofs.Common.{◌≡◌, ℕ, zero, suc, ◌+◌, ◌-◌, ◌<◌, ◌≤◌, Bool, true, false, not, ◌||◌, ◌&&◌, ◌==◌, List, [], ◌∷◌, ◌++◌, length, take, drop, map, get_or, Option, Some, None, refl, sym, ◌∙◌, ap, subst, arith, append_assoc, length-append}
+use Rattle.std.proofs.Common.{◌≡◌, ℕ, suc, ◌+◌, ◌-◌, ◌<◌, ◌≤◌, Bool, true, false, not, ◌||◌, ◌&&◌, List, [], ◌∷◌, ◌++◌, length, take, drop, map, get_or, Option, refl, sym, ◌∙◌, ap, subst, arith, append_assoc, length-append}
 use Rattle.std.specs.Prelude.{nat_lt, nat_le}
 use Rattle.std.specs.Char.{is_ascii_digit, encode_utf8}
 use Rattle.std.specs.List.{AllPass, list_any, list_all}
-use Rattle.std.specs.Str.{bytes_eq, encode_utf8_all, all_scalars}
-use Rattle.std.proofs.lemmas.Bool.{eqb-true}
+use Rattle.std.specs.Str.{bytes_eq, encode_utf8_all}
 use Rattle.std.proofs.lemmas.Bool.Decides.{nat_tests}
 use Rattle.std.proofs.lemmas.Slice.Eq.{bytes_eq-Decides}
 use Rattle.std.proofs.lemmas.Str.{encode_ascii, encodes-append, inside_one}
@@ -17,9 +16,9 @@ use Rattle.jn_base.specs.declared.word.Keyword.{Keyword}
 use Rattle.jn_base.specs.declared.word.Keyword.TheVariants as keyword_
 use Rattle.jn_base.specs.declared.word.Mark.{Mark}
 use Rattle.jn_base.specs.declared.word.Mark.TheVariants as mark_
-use Rattle.jn_base.specs.Tokens.{quote, backslash, line_feed, carriage_return, letter_n, ends_line, is_plain, is_escape, is_keyword, keywords, is_mark, marks, is_good_number, has_leading_zero, digits_value, greatest_number, width, IsInText, no_more, plain, escape, IsToken, name, keyword, number, text, mark, Lexes, at_end, fault, blank, comment, token, TokensOf}
+use Rattle.jn_base.specs.Tokens.{quote, backslash, is_plain, is_escape, is_keyword, is_mark, is_good_number, has_leading_zero, digits_value, greatest_number, width, IsInText, no_more, plain, escape, IsToken, name, keyword, number, text, mark, Lexes, at_end, fault, blank, comment, token, TokensOf}
 use Rattle.jn_base.specs.Words.{keyword_text, mark_text, text_of}
-use Rattle.jn_parser.specs.Wording.{IsDigits, IsQuoted, IsTextFor, HaveTexts}
+use Rattle.jn_parser.specs.Wording.{IsDigits, IsTextFor, HaveTexts}
 
 -- ---- characters of ASCII
 

@@ -1,5 +1,5 @@
 -- A source has one list of words, and one list of names and of texts by their numbers.
-use Rattle.std.proofs.Common.{◌≡◌, ℕ, zero, suc, ◌+◌, ◌<◌, ◌≤◌, Bool, true, false, not, ◌||◌, ◌==◌, List, [], ◌∷◌, ◌++◌, length, Option, Some, None, refl, sym, ◌∙◌, ap, subst, arith, pos, if◌then◌else◌}
+use Rattle.std.proofs.Common.{◌≡◌, ℕ, suc, ◌+◌, ◌<◌, Bool, true, false, not, ◌||◌, ◌==◌, List, [], ◌∷◌, ◌++◌, length, Option, Some, refl, sym, ◌∙◌, ap, subst, arith, pos, if◌then◌else◌}
 use Rattle.std.specs.Prelude.{slice_get, filter_map}
 use Rattle.std.specs.Str.{bytes_eq}
 use Rattle.std.proofs.lemmas.Bool.{eqb-true}
@@ -18,8 +18,8 @@ use Rattle.jn_base.specs.declared.word.Word.{Word}
 use Rattle.jn_base.specs.declared.word.Word.TheVariants as word
 use Rattle.jn_base.specs.declared.word.Lexeme.{Lexeme}
 use Rattle.jn_base.specs.Places.{place_of}
-use Rattle.jn_base.specs.Tokens.{quote, backslash, letter_n, line_feed, is_plain, ends_line, digits_value}
-use Rattle.jn_base.specs.Words.{keyword_text, mark_text, text, text_of, lexeme, Reads, nothing, plain, escaped_quote, escaped_backslash, escaped_line_feed, IsWord, a_name, a_keyword, a_number, a_text, a_mark, AreWords, no_word, then_word, name_number, text_number, AreByMention, all_mentioned, again, first, AreNumbered, last_word, AreWordsOf}
+use Rattle.jn_base.specs.Tokens.{quote, backslash, line_feed, is_plain, ends_line, digits_value}
+use Rattle.jn_base.specs.Words.{keyword_text, mark_text, text, lexeme, Reads, nothing, plain, escaped_quote, escaped_backslash, escaped_line_feed, IsWord, a_name, a_keyword, a_number, a_text, a_mark, AreWords, no_word, then_word, name_number, text_number, AreByMention, all_mentioned, again, first, AreNumbered, last_word, AreWordsOf}
 use Rattle.jn_lexer.proofs.Answer.{same_tokens}
 use Rattle.jn_parser.specs.Wording.{unescaped}
 

@@ -352,20 +352,14 @@ fn shaped<'a>(
             let names = path(alloc, first.name, parts.as_slice())?;
             path_local(alloc, left, used, first.at, names, ts)
         }
-        Shape::Call => {
-            if !starts(Mark::Semicolon, ts) {
-                return Err(syntax(ts));
-            }
+        Shape::Call if starts(Mark::Semicolon, ts) => {
             let e = posted(alloc, first.at, e, parts)?.into_inner();
             Ok((Stmt::Do(e), used, rest))
         }
-        Shape::Part => {
-            if !starts(Mark::Equals, ts) {
-                return Err(syntax(ts));
-            }
+        Shape::Part if starts(Mark::Equals, ts) => {
             set(alloc, left, used, first.at, e, parts, rest)
         }
-        Shape::Bare => Err(syntax(ts)),
+        Shape::Call | Shape::Part | Shape::Bare => Err(syntax(ts)),
     }
 }
 

@@ -1,8 +1,6 @@
 use Rattle.std.proofs.Common.{◌∙◌, ap, sym, subst}
-use Rattle.jn_base.specs.Spelling.{IsTextRefused}
 use Rattle.jn_grammar.specs.TokenLimits.{checked_in}
 use Rattle.jn_parser.specs.Giving.{FailsAs}
-use Rattle.jn_parser.specs.Parsing.{refusal_of}
 use Rattle.jn_parser.proofs.Sources.{given_of, refused_of}
 use Rattle.jn_parser.proofs.parse_text.Goals as goal
 

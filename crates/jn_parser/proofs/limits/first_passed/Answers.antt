@@ -1,4 +1,4 @@
-use Rattle.std.proofs.Common.{◌≡◌, Some, None, sym, ◌∙◌, subst, false}
+use Rattle.std.proofs.Common.{sym, ◌∙◌, subst, false}
 use Rattle.jn_parser.proofs.Passes.{Passing, passing_starts, stops_at, goes_behind, passing_ends}
 use Rattle.jn_parser.proofs.limits.first_passed.Goals as goal
 

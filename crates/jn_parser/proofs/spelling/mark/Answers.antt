@@ -1,7 +1,7 @@
-use Rattle.std.proofs.Common.{◌≡◌, true, false, refl, sym, ◌∙◌, ap}
+use Rattle.std.proofs.Common.{◌≡◌, true, false, sym, ◌∙◌, ap}
 use Rattle.std.proofs.lemmas.Slice.Eq.{bytes_eq-Decides}
 use Rattle.jn_base.specs.Words.{mark_text}
-use Rattle.jn_parser.proofs.Among.{Among, among_others, among_none, mark_among}
+use Rattle.jn_parser.proofs.Among.{among_others, among_none, mark_among}
 use Rattle.jn_parser.proofs.spelling.mark.Goals as goal
 
 pub mark-init : goal.mark-init

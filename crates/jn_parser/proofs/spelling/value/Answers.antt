@@ -1,4 +1,4 @@
-use Rattle.std.proofs.Common.{◌≡◌, ◌+◌, ◌*◌, ◌-◌, ◌∙◌, sym, ap, subst, arith}
+use Rattle.std.proofs.Common.{◌+◌, ◌*◌, ◌∙◌, ap, arith}
 use Rattle.jn_base.specs.Tokens.{digits_value}
 use Rattle.jn_parser.proofs.Values.{value_from, value_step, value_fits, digits_left}
 use Rattle.jn_parser.proofs.spelling.value.Goals as goal

@@ -1,5 +1,3 @@
-use Rattle.std.proofs.Common.{◌≡◌, ◌∙◌, ap, refl}
-use Rattle.jn_grammar.specs.ReadStmts.{but_last, last_name}
 use Rattle.jn_parser.proofs.Parts.{front_is, last_is}
 use Rattle.jn_parser.proofs.stmt.split_last.Goals as goal
 

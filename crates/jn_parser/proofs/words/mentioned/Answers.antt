@@ -1,5 +1,5 @@
-use Rattle.std.proofs.Common.{◌≡◌, ◌∙◌, ℕ, Vec, Global, sym, arith}
-use Rattle.jn_parser.proofs.Mentioning.{mentioning_starts, order_here, text_here, names_few, mapped_grown, goes_on, mentioning_ends}
+use Rattle.std.proofs.Common.{ℕ, Vec, Global, arith}
+use Rattle.jn_parser.proofs.Mentioning.{mentioning_starts, order_here, names_few, mapped_grown, goes_on}
 use Rattle.jn_parser.proofs.words.mentioned.Goals as goal
 
 pub token-init : goal.token-init

@@ -1,8 +1,4 @@
-use Rattle.std.proofs.Common.{◌≡◌, ◌+◌, ◌≤◌, List, ◌++◌, length, map}
-use Rattle.jn_base.specs.declared.token.Token.{Token}
-use Rattle.jn_base.specs.Places.{place_of}
-use Rattle.jn_lexer.specs.Lexing.{AreInOrder}
-use Rattle.jn_parser.specs.Wording.{HaveTexts}
+use Rattle.std.proofs.Common.{length, map}
 use Rattle.jn_parser.proofs.Mentioning.{Mentioning}
 use Rattle.jn_parser.proofs.words.mentioned.Given as goal
 

@@ -1,6 +1,5 @@
-use Rattle.std.proofs.Common.{◌≡◌, ℕ, Vec, Global, refl, sym, subst, map}
+use Rattle.std.proofs.Common.{ℕ, Vec, Global, refl}
 use Rattle.std.specs.Str.{bytes_eq}
-use Rattle.jn_parser.specs.Wording.{Numbers}
 use Rattle.jn_parser.proofs.Numbering.{numbers_is}
 use Rattle.jn_parser.proofs.words.number.Goals as goal
 

@@ -1,4 +1,4 @@
-use Rattle.std.proofs.Common.{◌≡◌, ◌∙◌, ℕ, List, Vec, Global, map, ap}
+use Rattle.std.proofs.Common.{◌∙◌, ℕ, List, Vec, Global, map, ap}
 use Rattle.jn_base.specs.Words.{text}
 use Rattle.jn_parser.proofs.TokenTexts.{have_texts}
 use Rattle.jn_parser.proofs.Mentioning.{words_are}
