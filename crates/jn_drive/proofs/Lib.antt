@@ -10,3 +10,5 @@ pub mod Spelled
 pub mod Housing
 pub mod Unknowns
 pub mod Checking
+pub mod Bridge
+pub mod ShownAgain

@@ -6,6 +6,7 @@ mod code;
 mod halt;
 mod homes;
 mod job;
+pub mod laws;
 mod machine;
 mod plain;
 mod put;
