@@ -59,7 +59,7 @@ fn listed(alloc: Global, names: &[Name]) -> Result<Items<Named>, AllocError> {
     let mut column = 1;
     for name in names {
         all.push(named(*name, 2, column))?;
-        column += 1;
+        column = column.wrapping_add(1);
     }
     Ok(all)
 }
@@ -142,7 +142,7 @@ fn class_type(alloc: Global, terms: &[Written], masks: &[Name]) -> Result<TypeTe
     let mut column = 1;
     for written in terms {
         all.push(term(alloc, written, column)?)?;
-        column += 1;
+        column = column.wrapping_add(1);
     }
     Ok(TypeTerm::Class(all, listed(alloc, masks)?))
 }
@@ -361,7 +361,7 @@ const UP_1_1: Told = Told::Atom(Anchor::Up(1, 1));
 const UP_4_1: Told = Told::Atom(Anchor::Up(4, 1));
 
 /// Terms and what they stand for.
-const TERMS: [TermRow; 54] = [
+static TERMS: [TermRow; 54] = [
     // at each level, and from an heir
     (&[A, C, X], Role::Value, (Front::Plain, &[], &[X]), UP_0_1),
     (&[A, C, X], Role::Value, (Front::Plain, &[], &[C]), UP_0_2),
@@ -533,7 +533,7 @@ const MASK_1: Place = Place { line: 2, column: 1 };
 const MASK_2: Place = Place { line: 2, column: 2 };
 
 /// Types and what they stand for.
-const TYPES: [TypeRow; 13] = [
+static TYPES: [TypeRow; 13] = [
     (
         Role::Value,
         &[(Front::Plain, &[], &[A, C])],
@@ -711,7 +711,7 @@ fn answer_of(alloc: Global, table: &Table, packages: &[Name]) -> Result<Least, A
 }
 
 /// Ten families.
-const FAMILIES: [FamilyRow; 10] = [
+static FAMILIES: [FamilyRow; 10] = [
     (A, &[], (true, true)),
     (B, &[A], (true, false)),
     (E, &[A], (true, false)),
@@ -725,7 +725,7 @@ const FAMILIES: [FamilyRow; 10] = [
 ];
 
 /// What is answered in them.
-const LEAST: [LeastRow; 15] = [
+static LEAST: [LeastRow; 15] = [
     (RUN, A, &[A]),
     (RUN, B, &[B]),
     (RUN, D, &[A]),
