@@ -11,7 +11,7 @@ use Rattle.jn_base.specs.Forms.{Mentions, Shared, Adapted, Constrained, Viewed, 
 use Rattle.jn_base.specs.ResolveTypes.{masks_in, firsts}
 use Rattle.jn_names.specs.Noting.{added, adding, noted}
 use Rattle.jn_base.proofs.NameTests.{same_name}
-use Rattle.jn_names.proofs.Turned.{at_index, at_place}
+use Rattle.jn_bounds.proofs.Turned.{at_index, at_place}
 
 masks_both : (ms ns : Mentions) → masks_in (ms ++ ns) ≡ masks_in ms ++ masks_in ns
 masks_both [] ns = refl

@@ -1,4 +1,3 @@
-pub mod Bounds
 pub mod Seeking
 pub mod Answers
 pub mod Before

@@ -6,7 +6,6 @@
 #![tactic(auto)]
 
 mod before;
-mod bound;
 mod fault;
 mod fields;
 mod masks;

@@ -7,9 +7,9 @@ ghost use Rattle.jn_table.specs.Rows.{HasField};
 ghost use Rattle.jn_table.specs.Tables.{IsFilled};
 ghost use Rattle.jn_names.specs.Masking.{seen_of, IsNamed};
 
-use crate::bound::{Bound, is_name};
 use jn_base::tree::{Name, Named};
 use jn_base::types::Masks;
+use jn_bounds::{Bound, is_name};
 use jn_table::Table;
 
 /// Whether one of the masks has the name.

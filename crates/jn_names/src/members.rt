@@ -3,8 +3,8 @@ ghost use Rattle.jn_base.specs.TableRules.{IsCycle, NoneIs};
 ghost use Rattle.jn_table.specs.Tables.{IsFilled};
 ghost use Rattle.jn_names.specs.MemberRows.{MethodAtRow, FieldAtRow, SupAtRow, LowerRow, HasLowerRow, PassedRow, PassedTo, IsLowRow, FirstLowRow, FieldlessRow, FieldlessTo, IsFieldRow, FirstFieldRow, LeastRow, FieldRow};
 
-use crate::bound::{has, is_name};
 use jn_base::tree::{Name, Program};
+use jn_bounds::{has, is_name};
 use jn_table::{ClassId, Table};
 use sqlite_items::at;
 use std::alloc::{AllocError, Global};

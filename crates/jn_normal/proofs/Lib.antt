@@ -1,4 +1,5 @@
 pub mod Ordered
+pub mod Replaced
 pub mod Replacing
 pub mod Turning
 pub mod Fitting

@@ -4,7 +4,7 @@ ghost use Rattle.std.proofs.Common.{rules};
 ghost use Rattle.std.specs.Cmp.{partial_equiv_from_equiv, eq_by_cmp_equiv, partial_order_from_total};
 ghost use Rattle.std.specs.Cmp.Rules.{comparing};
 ghost use Rattle.std.specs.Ordering.{as_partial_cmp, eq_by_cmp};
-ghost use Rattle.jn_sem.specs.Widening.{reduced};
+ghost use Rattle.jn_sem.specs.Widening.{reduced, replaced};
 ghost use Rattle.jn_sem.specs.Normal.{atom_cmp, atom_total};
 
 use crate::compare::{anchor_order, names_order};
@@ -41,7 +41,7 @@ fn joined(alloc: Global, front: &[Name], back: &[Name]) -> Result<Items<Name>, A
 }
 
 /// The anchor without `n` more names.
-fn further(n: usize, a: Anchor) -> Anchor
+pub fn further(n: usize, a: Anchor) -> Anchor
     requires { levels (lifted n a) < 2 ^ 8 }
     ensures { result ≡ lifted n a }
 {
@@ -56,8 +56,20 @@ impl Conjunct {
     pub fn at(alloc: Global, anchor: Anchor, x: &Atom) -> Result<Conjunct, AllocError>
         ensures { IfOk result (λ y. y ≡ atom anchor (reverse x.now.exact) (reverse x.now.names)) }
     {
-        let exact = Items::from_slice(alloc, x.exact.as_slice())?;
-        let names = Items::from_slice(alloc, x.names.as_slice())?;
+        Conjunct::of(alloc, anchor, x.exact.as_slice(), x.names.as_slice())
+    }
+
+    /// The atom of these parts, the outermost name first in both lists.
+    pub fn of(
+        alloc: Global,
+        anchor: Anchor,
+        exact: &[Name],
+        names: &[Name],
+    ) -> Result<Conjunct, AllocError>
+        ensures { IfOk result (λ y. y ≡ atom anchor (reverse exact.now) (reverse names.now)) }
+    {
+        let exact = Items::from_slice(alloc, exact)?;
+        let names = Items::from_slice(alloc, names)?;
         Ok(Conjunct {
             atom: Atom {
                 anchor,
@@ -71,6 +83,20 @@ impl Conjunct {
         ensures { result ≡ self.now.anchor }
     {
         self.atom.anchor
+    }
+
+    /// The exact names, the outermost first.
+    pub fn exact(&self) -> &[Name]
+        ensures { reverse result.now ≡ self.now.exact }
+    {
+        self.atom.exact.as_slice()
+    }
+
+    /// The inexact names, the outermost first.
+    pub fn names(&self) -> &[Name]
+        ensures { reverse result.now ≡ self.now.names }
+    {
+        self.atom.names.as_slice()
     }
 
     /// The atom as the tree has it, the outermost name first.
@@ -102,6 +128,29 @@ impl Conjunct {
         Ok(Conjunct {
             atom: Atom {
                 anchor,
+                exact,
+                names,
+            },
+        })
+    }
+
+    /// What any atom `z` of the path's type makes of this one. Where z has more than `k` inexact names, that is z's anchor and exact
+    /// names, with z's inexact names but for the last `k`, and then this one's exact and inexact names, as inexact ones.
+    pub fn replaced(&self, alloc: Global, z: &Atom, k: usize) -> Result<Conjunct, AllocError>
+        requires small { levels (replaced (atom_of z.now) k self.now).anchor < 2 ^ 8 }
+        ensures { IfOk result (λ y. y ≡ replaced (atom_of z.now) k self.now) }
+    {
+        if z.names.len() <= k {
+            return self.reduced(alloc, z, k);
+        }
+        let kept = z.names.len() - k;
+        let front = &z.names.as_slice()[..kept];
+        let outer = joined(alloc, front, self.atom.exact.as_slice())?;
+        let names = joined(alloc, outer.as_slice(), self.atom.names.as_slice())?;
+        let exact = Items::from_slice(alloc, z.exact.as_slice())?;
+        Ok(Conjunct {
+            atom: Atom {
+                anchor: z.anchor,
                 exact,
                 names,
             },

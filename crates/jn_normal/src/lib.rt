@@ -10,7 +10,7 @@ mod rewriting;
 pub mod rows;
 mod substitution;
 
-pub use conjunct::Conjunct;
+pub use conjunct::{Conjunct, further};
 pub use substitution::{normal, subst};
 
 #[cfg(test)]

@@ -253,3 +253,121 @@ fn chains_of_families(rt: HostRuntime) -> Result<(), Fail> {
     assert_eq!(rt; known, 4_096);
     Ok(())
 }
+
+/// `package A { class C { } class D extends C { } }`
+const PAIR: Top = Top {
+    shape: (PACKAGE, 0, &[]),
+    inner: &[(CLASS, 3, &[]), (CLASS, 4, &[3])],
+};
+
+/// `package B extends A { }`
+const HEIR: Top = Top {
+    shape: (PACKAGE, 1, &[0]),
+    inner: &[],
+};
+
+fn path(alloc: Global, names: &[Name]) -> Result<Path, AllocError> {
+    let names = Items::from_slice(alloc, names)?;
+    Ok(Path { names })
+}
+
+/// What the row of a path has beside the path; nothing where it has no number.
+fn row_text(alloc: Global, table: &Table, path: &Path) -> Result<String, AllocError> {
+    match table.find(path) {
+        None => format!(in alloc; "none"),
+        Some(id) => {
+            let row = table.row(id);
+            let (kind, up) = (row.kind, row.up);
+            let (direct, sups, members) = (&row.direct, &row.sups, &row.members);
+            format!(in alloc; "{kind:?} {up:?} {direct:?} {sups:?} {members:?}")
+        }
+    }
+}
+
+/// Numbers are in class order: A, B, A.C, A.D, B.C, B.D.
+#[test]
+fn rows_of_two_families(rt: HostRuntime) -> Result<(), Fail> {
+    let program = program(rt.alloc(), &NAMES, &[PAIR, HEIR])?;
+    let mut table = Table::new(rt.alloc(), &program)?;
+    assert!(rt; table.ask_all().is_ok());
+    let rows: [(&[Name], &str); 7] = [
+        (
+            &[Name(0)],
+            "Package None [] [ClassId(0)] [RowMember { name: Name(3), id: ClassId(2) }, RowMember { name: Name(4), id: ClassId(3) }]",
+        ),
+        (
+            &[Name(1)],
+            "Package None [ClassId(0)] [ClassId(0), ClassId(1)] [RowMember { name: Name(3), id: ClassId(4) }, RowMember { name: Name(4), id: ClassId(5) }]",
+        ),
+        (
+            &[Name(0), Name(3)],
+            "Class Some(ClassId(0)) [] [ClassId(2)] []",
+        ),
+        (
+            &[Name(0), Name(4)],
+            "Class Some(ClassId(0)) [ClassId(2)] [ClassId(2), ClassId(3)] []",
+        ),
+        (
+            &[Name(1), Name(3)],
+            "Class Some(ClassId(1)) [ClassId(2)] [ClassId(2), ClassId(4)] []",
+        ),
+        (
+            &[Name(1), Name(4)],
+            "Class Some(ClassId(1)) [ClassId(3), ClassId(4)] [ClassId(2), ClassId(3), ClassId(4), ClassId(5)] []",
+        ),
+        (&[Name(1), Name(5)], "none"),
+    ];
+    for (names, want) in rows {
+        let text = row_text(rt.alloc(), &table, &path(rt.alloc(), names)?)?;
+        assert_eq!(rt; text.as_str(), want);
+    }
+    Ok(())
+}
+
+/// Whether the second path is a super of the first, and whether the first comes before it.
+fn compared(table: &Table, a: &Path, b: &Path) -> Option<(bool, bool)> {
+    match table.find(a) {
+        None => None,
+        Some(a) => match table.find(b) {
+            None => None,
+            Some(b) => Some((table.sup(a, b), table.before(a, b))),
+        },
+    }
+}
+
+#[test]
+fn two_paths(rt: HostRuntime) -> Result<(), Fail> {
+    let program = program(rt.alloc(), &NAMES, &[PAIR, HEIR])?;
+    let mut table = Table::new(rt.alloc(), &program)?;
+    assert!(rt; table.ask_all().is_ok());
+    let rows: [(&[Name], &[Name], Option<(bool, bool)>); 6] = [
+        // B.D and A.C, both ways
+        (
+            &[Name(1), Name(4)],
+            &[Name(0), Name(3)],
+            Some((true, false)),
+        ),
+        (
+            &[Name(0), Name(3)],
+            &[Name(1), Name(4)],
+            Some((false, true)),
+        ),
+        // A.D and B.C
+        (
+            &[Name(0), Name(4)],
+            &[Name(1), Name(3)],
+            Some((false, true)),
+        ),
+        // a path and itself
+        (&[Name(1)], &[Name(1)], Some((true, false))),
+        // a shorter path comes first
+        (&[Name(1)], &[Name(0), Name(3)], Some((false, true))),
+        (&[Name(1)], &[Name(6)], None),
+    ];
+    for (a, b, want) in rows {
+        let a = path(rt.alloc(), a)?;
+        let b = path(rt.alloc(), b)?;
+        assert_eq!(rt; compared(&table, &a, &b), want);
+    }
+    Ok(())
+}
