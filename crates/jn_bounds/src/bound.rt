@@ -228,8 +228,8 @@ pub fn is_name(a: Name, b: Name) -> bool
     a.0 == b.0
 }
 
-/// Whether two lists have the same names.
-fn same(names: &[Name], others: &[Name]) -> bool
+/// Whether two lists have the same names, in their order.
+pub fn same(names: &[Name], others: &[Name]) -> bool
     ensures { IsTrue result ↔ (names.now ≡ others.now) }
 {
     if names.len() != others.len() {

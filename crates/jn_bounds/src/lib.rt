@@ -7,7 +7,7 @@
 
 mod bound;
 
-pub use bound::{Bound, has, is_name};
+pub use bound::{Bound, has, is_name, same};
 
 #[cfg(test)]
 mod tests;

@@ -1,247 +1,21 @@
+//! What terms, types, views and members stand for in small programs.
+
+mod build;
+
 use crate::{
-    Least, Members, NameFault, Role, Spot, Var, Vars, field_types, mask_names, resolve,
-    resolve_type, resolve_view,
+    Least, Members, NameFault, Role, field_types, mask_names, resolve, resolve_type, resolve_view,
 };
-use jn_base::path::Path;
+use build::{
+    A, B, C, D, E, F, Front, G, MAIN, N, P, Q, RUN, Setting, Written, X, Z, class_type, filled,
+    number, set_up, spot, ten_families, term, view,
+};
 use jn_base::refusal::Rule;
-use jn_base::tree::{
-    Decl, Field, Head, Kind, Member, Method, Name, Named, Param, Place, Program, Ref, Term,
-    TypeTerm, ViewTerm,
-};
-use jn_base::types::{Anchor, Atom, Masks, Ty};
-use jn_table::{ClassId, Table};
-use sqlite_items::Items;
+use jn_base::tree::{Name, Place, Program, Ref};
+use jn_base::types::{Anchor, Atom, Ty};
+use jn_table::{ClassId, FieldTypes, Table};
 use std::alloc::{AllocError, Global};
+use std::process::Abort;
 use std::test::Fail;
-
-const A: Name = Name(0);
-
-const C: Name = Name(1);
-
-const X: Name = Name(2);
-
-const D: Name = Name(3);
-
-const F: Name = Name(4);
-
-const B: Name = Name(5);
-
-const MAIN: Name = Name(6);
-
-const RUN: Name = Name(7);
-
-const G: Name = Name(8);
-
-const Z: Name = Name(9);
-
-const P: Name = Name(10);
-
-const Q: Name = Name(11);
-
-const N: Name = Name(12);
-
-const E: Name = Name(13);
-
-/// The names by number.
-const TEXTS: [&str; 14] = [
-    "a", "C", "X", "D", "f", "b", "Main", "run", "g", "z", "p", "q", "n", "e",
-];
-
-fn named(name: Name, line: u32, column: u32) -> Named {
-    Named {
-        name,
-        at: Place { line, column },
-    }
-}
-
-fn listed(alloc: Global, names: &[Name]) -> Result<Items<Named>, AllocError> {
-    let mut all = Items::new(alloc);
-    let mut column = 1;
-    for name in names {
-        all.push(named(*name, 2, column))?;
-        column = column.wrapping_add(1);
-    }
-    Ok(all)
-}
-
-fn decl(
-    alloc: Global,
-    kind: Kind,
-    name: Name,
-    extends: &[Name],
-    members: Items<Member>,
-) -> Result<Decl, AllocError> {
-    Ok(Decl {
-        kind,
-        name: named(name, 1, 1),
-        extends: listed(alloc, extends)?,
-        shares: Items::new(alloc),
-        adapts: Items::new(alloc),
-        members,
-    })
-}
-
-/// A method without parameters, result or statements.
-fn body(alloc: Global, name: Name) -> Member {
-    Member::Body(Method {
-        result: None,
-        name: named(name, 1, 1),
-        params: Items::new(alloc),
-        sharing: Items::new(alloc),
-        body: Items::new(alloc),
-    })
-}
-
-fn slot(name: Name, ty: TypeTerm) -> Member {
-    Member::Slot(Field {
-        ty,
-        name: named(name, 1, 1),
-    })
-}
-
-fn program(alloc: Global, decls: Items<Decl>) -> Result<Program, AllocError> {
-    let mut names = Items::new(alloc);
-    for text in TEXTS {
-        let bytes = Items::from_slice(alloc, text.as_bytes())?;
-        names.push(jn_base::tree::Text { bytes })?;
-    }
-    Ok(Program {
-        names,
-        texts: Items::new(alloc),
-        decls,
-    })
-}
-
-/// The front of a term.
-#[derive(Clone, Copy)]
-enum Front {
-    Plain,
-    Own(Ref),
-    Prefix(&'static [Name], Ref),
-}
-
-/// A term: its front, its names up to a `!`, and the others.
-type Written = (Front, &'static [Name], &'static [Name]);
-
-fn term(alloc: Global, written: &Written, column: u32) -> Result<Term, AllocError> {
-    let head = match written.0 {
-        Front::Plain => Head::Plain,
-        Front::Own(before) => Head::Own(before),
-        Front::Prefix(names, before) => Head::Prefix(Items::from_slice(alloc, names)?, before),
-    };
-    Ok(Term {
-        head,
-        exact: Items::from_slice(alloc, written.1)?,
-        names: Items::from_slice(alloc, written.2)?,
-        at: Place { line: 1, column },
-    })
-}
-
-fn class_type(alloc: Global, terms: &[Written], masks: &[Name]) -> Result<TypeTerm, AllocError> {
-    let mut all = Items::new(alloc);
-    let mut column = 1;
-    for written in terms {
-        all.push(term(alloc, written, column)?)?;
-        column = column.wrapping_add(1);
-    }
-    Ok(TypeTerm::Class(all, listed(alloc, masks)?))
-}
-
-/// `package a { class C { class X { } int f; } class D extends C { C g; } }`
-fn base(alloc: Global) -> Result<Decl, AllocError> {
-    let inner = decl(alloc, Kind::Class, X, &[], Items::new(alloc))?;
-    let mut members = Items::new(alloc);
-    members.push(Member::Inner(inner))?;
-    members.push(slot(F, TypeTerm::Int))?;
-    let first = decl(alloc, Kind::Class, C, &[], members)?;
-    let mut members = Items::new(alloc);
-    members.push(slot(G, class_type(alloc, &[(Front::Plain, &[], &[C])], &[])?))?;
-    let second = decl(alloc, Kind::Class, D, &[C], members)?;
-    let mut members = Items::new(alloc);
-    members.push(Member::Inner(first))?;
-    members.push(Member::Inner(second))?;
-    decl(alloc, Kind::Package, A, &[], members)
-}
-
-/// `class Main { void run(a.D\g\f p) { } }`
-fn main_class(alloc: Global) -> Result<Decl, AllocError> {
-    let mut params = Items::new(alloc);
-    params.push(Param {
-        fixed: false,
-        ty: class_type(alloc, &[(Front::Plain, &[], &[A, D])], &[G, F])?,
-        name: named(P, 1, 1),
-    })?;
-    let run = Method {
-        result: None,
-        name: named(RUN, 1, 1),
-        params,
-        sharing: Items::new(alloc),
-        body: Items::new(alloc),
-    };
-    let mut members = Items::new(alloc);
-    members.push(Member::Body(run))?;
-    decl(alloc, Kind::Class, MAIN, &[], members)
-}
-
-/// The package a, `package b extends a { class C { } }`, Main and `class X { }`.
-fn families(alloc: Global) -> Result<Program, AllocError> {
-    let inner = decl(alloc, Kind::Class, C, &[], Items::new(alloc))?;
-    let mut members = Items::new(alloc);
-    members.push(Member::Inner(inner))?;
-    let mut decls = Items::new(alloc);
-    decls.push(base(alloc)?)?;
-    decls.push(decl(alloc, Kind::Package, B, &[A], members)?)?;
-    decls.push(main_class(alloc)?)?;
-    decls.push(decl(alloc, Kind::Class, X, &[], Items::new(alloc))?)?;
-    program(alloc, decls)
-}
-
-fn variable(
-    alloc: Global,
-    name: Name,
-    path: u32,
-    fixed: bool,
-    class: &[Name],
-) -> Result<Var, AllocError> {
-    let mut atoms = Items::new(alloc);
-    atoms.push(Atom {
-        anchor: Anchor::Root,
-        exact: Items::new(alloc),
-        names: Items::from_slice(alloc, class)?,
-    })?;
-    Ok(Var {
-        name,
-        path,
-        fixed,
-        ty: Ty::Class(atoms, Masks([0; 4])),
-    })
-}
-
-/// `a.C e, final a.C p, a.C q, final int n, final b.D e`, of which the newest `e` counts.
-fn variables(alloc: Global) -> Result<Vars, AllocError> {
-    let mut list = Items::new(alloc);
-    list.push(variable(alloc, E, 5, false, &[A, C])?)?;
-    list.push(variable(alloc, P, 1, true, &[A, C])?)?;
-    list.push(variable(alloc, Q, 2, false, &[A, C])?)?;
-    list.push(Var {
-        name: N,
-        path: 3,
-        fixed: true,
-        ty: Ty::Int,
-    })?;
-    list.push(variable(alloc, E, 4, true, &[B, D])?)?;
-    Ok(Vars { list })
-}
-
-fn spot(alloc: Global, class: &[Name], role: Role) -> Result<Spot, AllocError> {
-    Ok(Spot {
-        class: Path {
-            names: Items::from_slice(alloc, class)?,
-        },
-        owner: RUN,
-        role,
-    })
-}
 
 /// What is answered of a term or a type.
 #[derive(Clone, Copy, Debug, PartialEq, Eq)]
@@ -278,22 +52,8 @@ fn answer_told(answer: &Result<Ty, NameFault>) -> Told {
     }
 }
 
-/// The table of a program whose universe can be filled.
-fn filled(alloc: Global, program: &Program) -> Result<Table, AllocError> {
-    let mut table = Table::new(alloc, program)?;
-    match table.ask_all() {
-        Ok(()) => Ok(table),
-        Err(_) => Err(AllocError),
-    }
-}
-
-/// The number of a path, or one that no path has.
-fn number(alloc: Global, table: &Table, names: &[Name]) -> Result<ClassId, AllocError> {
-    let names = Items::from_slice(alloc, names)?;
-    Ok(match table.find(&Path { names }) {
-        None => ClassId(u16::MAX),
-        Some(id) => id,
-    })
+fn assert_told(rt: &impl Abort, told: Told, want: Told) {
+    assert_eq!(rt; told, want);
 }
 
 const THIS: Ref = Ref::This;
@@ -316,24 +76,30 @@ const SECOND: Place = Place { line: 1, column: 2 };
 /// A term at a class for a use, and what it stands for.
 type TermRow = (&'static [Name], Role, Written, Told);
 
-/// What is answered of a term whose names are kept as they are written.
-fn term_told(
-    alloc: Global,
-    program: &Program,
-    table: &mut Table,
-    vars: &Vars,
-    row: &TermRow,
-) -> Result<Told, AllocError> {
+/// What an atom stands for, if its names are kept as they are written.
+fn atom_told(atom: &Atom, written: &Written) -> Told {
+    if atom.exact.as_slice() != written.1 || atom.names.as_slice() != written.2 {
+        return Told::Memory;
+    }
+    Told::Atom(atom.anchor)
+}
+
+fn term_told(alloc: Global, s: &mut Setting, row: &TermRow) -> Result<Told, AllocError> {
     let spot = spot(alloc, row.0, row.1)?;
     let written = term(alloc, &row.2, 1)?;
-    Ok(
-        match resolve(alloc, program, table, &spot, vars, &written) {
-            Err(fault) => fault_told(&fault),
-            Ok(atom) if atom.exact.as_slice() != row.2.1 => Told::Memory,
-            Ok(atom) if atom.names.as_slice() != row.2.2 => Told::Memory,
-            Ok(atom) => Told::Atom(atom.anchor),
-        },
-    )
+    match &resolve(alloc, &s.program, &mut s.table, &spot, &s.vars, &written) {
+        Err(fault) => Ok(fault_told(fault)),
+        Ok(atom) => Ok(atom_told(atom, &row.2)),
+    }
+}
+
+fn assert_terms(rt: &impl Abort, alloc: Global, rows: &[TermRow]) -> Result<(), AllocError> {
+    let mut s = set_up(alloc)?;
+    for row in rows {
+        let told = term_told(alloc, &mut s, row)?;
+        assert_told(rt, told, row.3);
+    }
+    Ok(())
 }
 
 const E06_C: Told = Told::Refused(Rule::E06, FIRST, C);
@@ -360,8 +126,8 @@ const UP_1_1: Told = Told::Atom(Anchor::Up(1, 1));
 
 const UP_4_1: Told = Told::Atom(Anchor::Up(4, 1));
 
-/// Terms and what they stand for.
-static TERMS: [TermRow; 54] = [
+/// Names alone.
+static TERMS_OF_NAMES: [TermRow; 16] = [
     // at each level, and from an heir
     (&[A, C, X], Role::Value, (Front::Plain, &[], &[X]), UP_0_1),
     (&[A, C, X], Role::Value, (Front::Plain, &[], &[C]), UP_0_2),
@@ -391,7 +157,15 @@ static TERMS: [TermRow; 54] = [
     (&[A, C], Role::Value, (Front::Plain, &[], &[Z]), E06_Z),
     (&[A, C], Role::Value, (Front::Plain, &[], &[C, Z]), E06_Z),
     (&[MAIN], Role::Value, (Front::Plain, &[], &[C]), E06_C),
-    // the class of a path
+];
+
+#[test]
+fn terms_of_names(rt: HostRuntime) -> Result<(), Fail> {
+    Ok(assert_terms(&rt, rt.alloc(), &TERMS_OF_NAMES)?)
+}
+
+/// The class of a path.
+static CLASSES_OF_PATHS: [TermRow; 8] = [
     (&[MAIN], Role::Value, (Front::Own(OF_P), &[], &[]), UP_1_0),
     (&[MAIN], Role::Value, (Front::Own(OF_P), &[], &[X]), UP_1_0),
     (&[A, C], Role::Value, (Front::Own(THIS), &[], &[]), UP_0_0),
@@ -400,7 +174,15 @@ static TERMS: [TermRow; 54] = [
     (&[MAIN], Role::Value, (Front::Own(OF_Q), &[], &[]), E14_RUN),
     (&[MAIN], Role::Value, (Front::Own(OF_N), &[], &[]), E14_RUN),
     (&[MAIN], Role::Value, (Front::Own(OF_Z), &[], &[]), E06_Z),
-    // the family of a path
+];
+
+#[test]
+fn classes_of_paths(rt: HostRuntime) -> Result<(), Fail> {
+    Ok(assert_terms(&rt, rt.alloc(), &CLASSES_OF_PATHS)?)
+}
+
+/// The family of a path.
+static FAMILIES_OF_PATHS: [TermRow; 13] = [
     (
         &[MAIN],
         Role::Value,
@@ -479,6 +261,15 @@ static TERMS: [TermRow; 54] = [
         (Front::Prefix(&[B], OF_P), &[], &[]),
         E15_RUN,
     ),
+];
+
+#[test]
+fn families_of_paths(rt: HostRuntime) -> Result<(), Fail> {
+    Ok(assert_terms(&rt, rt.alloc(), &FAMILIES_OF_PATHS)?)
+}
+
+/// Packages, and a fixed family, which comes before a class.
+static PACKAGES_AND_VIEWS: [TermRow; 10] = [
     // packages
     (&[MAIN], Role::Value, (Front::Plain, &[], &[A]), E22_RUN),
     (&[MAIN], Role::Field, (Front::Plain, &[], &[A]), E22_RUN),
@@ -491,6 +282,15 @@ static TERMS: [TermRow; 54] = [
     (&[MAIN], Role::View, (Front::Plain, &[A], &[C]), ROOT),
     (&[MAIN], Role::View, (Front::Plain, &[A], &[]), E22_RUN),
     (&[A, C], Role::To, (Front::Plain, &[], &[D]), UP_0_1),
+];
+
+#[test]
+fn packages_and_views(rt: HostRuntime) -> Result<(), Fail> {
+    Ok(assert_terms(&rt, rt.alloc(), &PACKAGES_AND_VIEWS)?)
+}
+
+/// Where not every path may stand.
+static OTHER_USES: [TermRow; 7] = [
     // what is made has a name
     (&[MAIN], Role::New, (Front::Own(OF_P), &[], &[]), E15_RUN),
     (
@@ -513,15 +313,8 @@ static TERMS: [TermRow; 54] = [
 ];
 
 #[test]
-fn terms_stand_for_atoms(rt: HostRuntime) -> Result<(), Fail> {
-    let program = families(rt.alloc())?;
-    let mut table = filled(rt.alloc(), &program)?;
-    let vars = variables(rt.alloc())?;
-    for row in &TERMS {
-        let told = term_told(rt.alloc(), &program, &mut table, &vars, row)?;
-        assert_eq!(rt; told, row.3);
-    }
-    Ok(())
+fn other_uses(rt: HostRuntime) -> Result<(), Fail> {
+    Ok(assert_terms(&rt, rt.alloc(), &OTHER_USES)?)
 }
 
 /// A class type at Main for a use, with its masks, and what it stands for.
@@ -623,77 +416,103 @@ static TYPES: [TypeRow; 13] = [
     ),
 ];
 
+/// The masks by number.
+const MASKS: [Name; 2] = [G, F];
+
+fn assert_masks(rt: &impl Abort, alloc: Global, program: &Program) -> Result<(), AllocError> {
+    let masks = mask_names(alloc, program)?;
+    assert_eq!(rt; masks.as_slice(), MASKS.as_slice());
+    Ok(())
+}
+
 #[test]
-fn types_have_masks(rt: HostRuntime) -> Result<(), Fail> {
-    let program = families(rt.alloc())?;
-    let mut table = filled(rt.alloc(), &program)?;
-    let vars = variables(rt.alloc())?;
-    let masks = mask_names(rt.alloc(), &program)?;
-    assert_eq!(rt; masks.as_slice(), [G, F].as_slice());
-    for row in &TYPES {
-        let spot = spot(rt.alloc(), &[MAIN], row.0)?;
-        let ty = class_type(rt.alloc(), row.1, row.2)?;
-        let answer = resolve_type(rt.alloc(), &program, &mut table, &spot, &vars, &masks, &ty);
-        assert_eq!(rt; answer_told(&answer), row.3);
+fn masks_have_numbers(rt: HostRuntime) -> Result<(), Fail> {
+    let s = set_up(rt.alloc())?;
+    Ok(assert_masks(&rt, rt.alloc(), &s.program)?)
+}
+
+fn class_told(alloc: Global, s: &mut Setting, row: &TypeRow) -> Result<Told, AllocError> {
+    let spot = spot(alloc, &[MAIN], row.0)?;
+    let ty = class_type(alloc, row.1, row.2)?;
+    let answer = resolve_type(alloc, &s.program, &mut s.table, &spot, &s.vars, &MASKS, &ty);
+    Ok(answer_told(&answer))
+}
+
+fn assert_types(rt: &impl Abort, alloc: Global, rows: &[TypeRow]) -> Result<(), AllocError> {
+    let mut s = set_up(alloc)?;
+    for row in rows {
+        let told = class_told(alloc, &mut s, row)?;
+        assert_told(rt, told, row.3);
     }
     Ok(())
 }
 
 #[test]
-fn views_and_field_types(rt: HostRuntime) -> Result<(), Fail> {
-    let program = families(rt.alloc())?;
-    let mut table = filled(rt.alloc(), &program)?;
-    let vars = variables(rt.alloc())?;
-    let view = ViewTerm {
-        term: term(rt.alloc(), &(Front::Plain, &[A], &[C]), 1)?,
-        masks: listed(rt.alloc(), &[F])?,
-    };
-    let spot = spot(rt.alloc(), &[MAIN], Role::View)?;
+fn types_have_masks(rt: HostRuntime) -> Result<(), Fail> {
+    Ok(assert_types(&rt, rt.alloc(), &TYPES)?)
+}
+
+/// What is answered of the view `(view a!.C\f)` at Main.
+fn view_told(alloc: Global, s: &mut Setting) -> Result<Told, AllocError> {
+    let spot = spot(alloc, &[MAIN], Role::View)?;
+    let view = view(alloc, &(Front::Plain, &[A], &[C]), &[F])?;
     let answer = resolve_view(
-        rt.alloc(),
-        &program,
-        &mut table,
+        alloc,
+        &s.program,
+        &mut s.table,
         &spot,
-        &vars,
-        &[G, F],
+        &s.vars,
+        &MASKS,
         &view,
     );
-    assert_eq!(rt; answer_told(&answer), Told::Type(1, 2));
-    let mut told = Vec::new(rt.alloc());
-    if let Ok(types) = field_types(rt.alloc(), &program, &mut table) {
-        for one in &types.list {
-            told.push((one.class, one.field, type_told(&one.ty)))?;
-        }
+    Ok(answer_told(&answer))
+}
+
+#[test]
+fn views_have_masks(rt: HostRuntime) -> Result<(), Fail> {
+    let mut s = set_up(rt.alloc())?;
+    let told = view_told(rt.alloc(), &mut s)?;
+    assert_told(&rt, told, Told::Type(1, 2));
+    Ok(())
+}
+
+/// A declared field: its class, its name, and what its type stands for.
+type FieldRow = (ClassId, Name, Told);
+
+fn listed_fields(alloc: Global, types: &FieldTypes) -> Result<Vec<FieldRow>, AllocError> {
+    let mut told = Vec::new(alloc);
+    for one in &types.list {
+        told.push((one.class, one.field, type_told(&one.ty)))?;
     }
-    let first = number(rt.alloc(), &table, &[A, C])?;
-    let second = number(rt.alloc(), &table, &[A, D])?;
-    let want = [(first, F, Told::Number), (second, G, Told::Type(1, 0))];
+    Ok(told)
+}
+
+/// The declared fields; none where their types are refused.
+fn fields_told(alloc: Global, s: &mut Setting) -> Result<Vec<FieldRow>, AllocError> {
+    match &field_types(alloc, &s.program, &mut s.table) {
+        Ok(types) => listed_fields(alloc, types),
+        Err(_) => Ok(Vec::new(alloc)),
+    }
+}
+
+fn fields_wanted(alloc: Global, table: &Table) -> Result<[FieldRow; 2], AllocError> {
+    let first = number(alloc, table, &[A, C])?;
+    let second = number(alloc, table, &[A, D])?;
+    Ok([(first, F, Told::Number), (second, G, Told::Type(1, 0))])
+}
+
+fn assert_fields(rt: &impl Abort, alloc: Global, s: &mut Setting) -> Result<(), AllocError> {
+    let told = fields_told(alloc, s)?;
+    let want = fields_wanted(alloc, &s.table)?;
     assert_eq!(rt; told.as_slice(), want.as_slice());
     Ok(())
 }
 
-/// A package of these parents with a class C, which has the method `run` and the field `f` where it is told so.
-fn family(
-    alloc: Global,
-    name: Name,
-    extends: &[Name],
-    own: (bool, bool),
-) -> Result<Decl, AllocError> {
-    let mut members = Items::new(alloc);
-    if own.0 {
-        members.push(body(alloc, RUN))?;
-    }
-    if own.1 {
-        members.push(slot(F, TypeTerm::Int))?;
-    }
-    let class = decl(alloc, Kind::Class, C, &[], members)?;
-    let mut members = Items::new(alloc);
-    members.push(Member::Inner(class))?;
-    decl(alloc, Kind::Package, name, extends, members)
+#[test]
+fn types_of_fields(rt: HostRuntime) -> Result<(), Fail> {
+    let mut s = set_up(rt.alloc())?;
+    Ok(assert_fields(&rt, rt.alloc(), &mut s)?)
 }
-
-/// A package's name, its parents, and whether its class C has `run` and `f`.
-type FamilyRow = (Name, &'static [Name], (bool, bool));
 
 /// A name, the package whose class C is asked for it, and the packages whose classes are answered.
 type LeastRow = (Name, Name, &'static [Name]);
@@ -710,21 +529,7 @@ fn answer_of(alloc: Global, table: &Table, packages: &[Name]) -> Result<Least, A
     })
 }
 
-/// Ten families.
-static FAMILIES: [FamilyRow; 10] = [
-    (A, &[], (true, true)),
-    (B, &[A], (true, false)),
-    (E, &[A], (true, false)),
-    (N, &[A], (true, true)),
-    (D, &[A], (false, false)),
-    (G, &[B, E], (false, false)),
-    (P, &[B, E], (true, false)),
-    (Q, &[A, E, B], (false, false)),
-    (F, &[N, E, B], (false, false)),
-    (Z, &[D, B], (false, false)),
-];
-
-/// What is answered in them.
+/// What is answered in the ten families.
 static LEAST: [LeastRow; 15] = [
     (RUN, A, &[A]),
     (RUN, B, &[B]),
@@ -746,24 +551,46 @@ static LEAST: [LeastRow; 15] = [
     (RUN, MAIN, &[]),
 ];
 
+fn least_told(
+    alloc: Global,
+    table: &Table,
+    members: &Members,
+    row: &LeastRow,
+) -> Result<Least, AllocError> {
+    let class = number(alloc, table, &[row.1, C])?;
+    if row.0 == F {
+        return Ok(members.field(class, F));
+    }
+    Ok(members.least(class, row.0))
+}
+
+/// The first row that is answered otherwise.
+fn first_wrong(
+    alloc: Global,
+    table: &Table,
+    members: &Members,
+    rows: &[LeastRow],
+) -> Result<Option<usize>, AllocError> {
+    for i in 0..rows.len() {
+        let told = least_told(alloc, table, members, &rows[i])?;
+        if told != answer_of(alloc, table, rows[i].2)? {
+            return Ok(Some(i));
+        }
+    }
+    Ok(None)
+}
+
+/// The first of all rows that is answered otherwise.
+fn first_wrong_of_all(alloc: Global) -> Result<Option<usize>, AllocError> {
+    let program = ten_families(alloc)?;
+    let table = filled(alloc, &program)?;
+    let members = Members::build(alloc, &program, &table)?;
+    first_wrong(alloc, &table, &members, &LEAST)
+}
+
 #[test]
 fn least_declarations(rt: HostRuntime) -> Result<(), Fail> {
-    let mut decls = Items::new(rt.alloc());
-    for one in &FAMILIES {
-        decls.push(family(rt.alloc(), one.0, one.1, one.2)?)?;
-    }
-    let program = program(rt.alloc(), decls)?;
-    let table = filled(rt.alloc(), &program)?;
-    let members = Members::build(rt.alloc(), &program, &table)?;
-    for row in &LEAST {
-        let class = number(rt.alloc(), &table, &[row.1, C])?;
-        let told = if row.0 == F {
-            members.field(class, F)
-        } else {
-            members.least(class, row.0)
-        };
-        let want = answer_of(rt.alloc(), &table, row.2)?;
-        assert_eq!(rt; told, want);
-    }
+    let wrong = first_wrong_of_all(rt.alloc())?;
+    assert_eq!(rt; wrong, None);
     Ok(())
 }

@@ -6,6 +6,7 @@ pub mod RootClosure
 pub mod Normal
 pub mod Search
 pub mod Sharing
+pub mod NotFamily
 pub mod Terms
 pub mod Slots
 pub mod Holds

@@ -1,0 +1,9 @@
+pub mod Exact
+pub mod Making
+pub mod Names
+pub mod PairsFound
+pub mod Partners
+pub mod Reading
+pub mod Refusing
+pub mod Relating
+pub mod Walk

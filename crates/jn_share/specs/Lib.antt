@@ -1,0 +1,4 @@
+pub mod Groups
+pub mod Listing
+pub mod Pairing
+pub mod Rows

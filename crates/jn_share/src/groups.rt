@@ -1,0 +1,128 @@
+ghost use Rattle.std.specs.Prelude.{◌↔◌, ◌≡◌, Contains, ℕ, length, map, IsTrue, IfOk, IfSome, IfNone};
+ghost use Rattle.jn_reach.specs.Pairs.{AreBelow};
+ghost use Rattle.jn_base.specs.declared.tree.Program.{Program};
+ghost use Rattle.jn_base.specs.declared.refusal.Refusal.{Refusal};
+ghost use Rattle.jn_table.specs.Tables.{IsFilled};
+ghost use Rattle.jn_table.specs.declared.class.ClassId.{ClassId as AClassId};
+ghost use Rattle.jn_sem.specs.NotFamily.{IsFirstNotFamily, listed_names};
+ghost use Rattle.jn_share.specs.Groups.{HasGroup, HasCounterpart, AreGroups};
+ghost use Rattle.jn_share.specs.Listing.{listed_of};
+ghost use Rattle.jn_share.specs.Pairing.{ArePairs};
+ghost use Rattle.jn_share.specs.Rows.{LinkFirsts};
+
+use crate::families::check;
+use crate::fault::ShareFault;
+use crate::listed::{ListedName, listed_names};
+use crate::pairs::pairs_of;
+use crate::rows::{GroupRow, Partner, rows_of};
+use jn_base::tree::Program;
+use jn_reach::class_firsts;
+use jn_table::{ClassId, Table};
+use sqlite_items::at;
+use std::alloc::{AllocError, Global};
+
+/// The groups of a program's classes.
+#[derive(Drop)]
+pub struct Groups {
+    rows: Vec<GroupRow>,
+}
+
+/// The group of the number, where it has one.
+fn group(rows: &[GroupRow], id: ClassId) -> Option<usize>
+    ensures some { IfSome result (λ f. HasGroup rows.now id f) }
+    ensures none { IfNone result ((f : ℕ) → HasGroup rows.now id f → ⊥) }
+{
+    match at(rows, id.0 as usize) {
+        None => None,
+        Some(row) => row.group,
+    }
+}
+
+/// Whether both are one number.
+fn is_id(a: ClassId, b: ClassId) -> bool
+    ensures { IsTrue result ↔ (a ≡ b) }
+{
+    a.0 == b.0
+}
+
+/// The first one in the family.
+fn first_in(list: &[Partner], family: ClassId) -> Option<ClassId>
+    ensures some { IfSome result (λ w. Contains list.now (record { family = family; class = w })) }
+    ensures none { IfNone result ((w : AClassId) → Contains list.now (record { family = family; class = w }) → ⊥) }
+{
+    for x in list {
+        if is_id(x.family, family) {
+            return Some(x.class);
+        }
+    }
+    None
+}
+
+/// The counterpart of the number in the family.
+fn counterpart(rows: &[GroupRow], id: ClassId, family: ClassId) -> Option<ClassId>
+    ensures some { IfSome result (λ w. HasCounterpart rows.now id family w) }
+    ensures none { IfNone result ((w : AClassId) → HasCounterpart rows.now id family w → ⊥) }
+{
+    match at(rows, id.0 as usize) {
+        None => None,
+        Some(row) => first_in(&row.counterparts, family),
+    }
+}
+
+/// The first number of the group of each number, by the pairs of the listed names.
+fn firsts_of(alloc: Global, t: &Table, pairs: &[(usize, usize)]) -> Result<Vec<usize>, AllocError>
+    requires { AreBelow (length t.now.known.items) pairs.now }
+    ensures long { IfOk result (λ firsts. length firsts.items ≡ length t.now.known.items) }
+    ensures links { IfOk result (λ firsts. (p : Program) → IsFilled p t.now → ArePairs p t.now.known.items (listed_names p) pairs.now → LinkFirsts p t.now.known.items firsts.items) }
+{
+    class_firsts(alloc, t.known().len(), pairs)
+}
+
+/// The groups of the listed names.
+fn groups_of(alloc: Global, t: &Table, names: &[ListedName]) -> Result<Groups, AllocError>
+    ensures { IfOk result (λ groups. (p : Program) → IsFilled p t.now → map listed_of names.now ≡ listed_names p → AreGroups p t.now.known.items groups) }
+{
+    let pairs = pairs_of(alloc, t, names)?;
+    let firsts = firsts_of(alloc, t, &pairs)?;
+    let rows = rows_of(alloc, t, &firsts)?;
+    Ok(Groups { rows })
+}
+
+impl Groups {
+    ghost use Rattle.jn_share.specs.Groups.{SaysRelated, SaysCounterpart, GroupsGive, RefusedOr};
+
+    /// The groups of a program by a table in which its universe is filled, or the refusal of the first listed name that is refused.
+    pub fn build(alloc: Global, p: &Program, t: &Table) -> Result<Groups, ShareFault>
+        ensures gives { IsFilled p.now t.now → GroupsGive p.now t.now.known.items result }
+        ensures refused { IsFilled p.now t.now → (r : Refusal) → IsFirstNotFamily p.now r → RefusedOr r result }
+    {
+        let names = listed_names(alloc, p)?;
+        match check(alloc, t, &names) {
+            Err(fault) => Err(fault),
+            Ok(()) => {
+                let groups = groups_of(alloc, t, &names)?;
+                Ok(groups)
+            }
+        }
+    }
+
+    /// Whether the classes of two numbers are related. A package is related to nothing.
+    pub fn related(&self, a: ClassId, b: ClassId) -> bool
+        ensures { SaysRelated self.now a b result }
+    {
+        match group(&self.rows, a) {
+            None => false,
+            Some(f) => match group(&self.rows, b) {
+                None => false,
+                Some(g) => f == g,
+            },
+        }
+    }
+
+    /// The counterpart of a class in a family, both by their numbers, where it has one there.
+    pub fn counterpart(&self, a: ClassId, family: ClassId) -> Option<ClassId>
+        ensures { SaysCounterpart self.now a family result }
+    {
+        counterpart(&self.rows, a, family)
+    }
+}
