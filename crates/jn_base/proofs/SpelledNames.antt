@@ -25,7 +25,7 @@ use Rattle.jn_base.specs.Parts.{Part, Role, Declares, lexeme_of, name, named, ne
 use Rattle.jn_base.specs.GrammarDecl.{IsInner, IsMember, IsMembers, IsTop, IsProgram}
 use Rattle.jn_base.specs.Spelling.{SourceSpells}
 use Rattle.jn_base.specs.Paths.{Path, StandsIn, StandsAt, nested, fields, methods, and_nested, and_field, and_method}
-use Rattle.jn_table.specs.Rows.{IsNamed}
+use Rattle.jn_base.specs.ProgramNames.{IsNamed}
 use Rattle.jn_base.proofs.NameTests.{in_cons, in_none, first, later}
 
 -- ---- the names among the words
@@ -102,7 +102,7 @@ nested_named n k a l _ _ (IsMembers.then_member {v = v} {w = w} {ts = ts} (IsMem
     ]
 nested_named n k a l _ _ (IsMembers.then_member {v = v} {w = w} {ts = ts} (IsMember.slot {x = x} p s {t = ty} is_type) more) all d c =
     nested_named n _ a l w ts more (named_right n v w all) d (as_nested ts d (member.Slot (record { ty = ty; name = named x p })) _ (outs-Slot (record { ty = ty; name = named x p })) c)
-nested_named n k a l _ _ (IsMembers.then_member {v = v} {w = w} {ts = ts} (IsMember.method {x = x} p o c' b e {res = res} {ts = ps} {cs = cs} {ss = ss} is_res params sharing stmts) more) all d c =
+nested_named n k a l _ _ (IsMembers.then_member {v = v} {w = w} {ts = ts} (IsMember.method {x = x} p o c' b e {res = res} {ts = ps} {cs = cs} {ss = ss} is_res are_params are_rels stmts) more) all d c =
     nested_named n _ a l w ts more (named_right n v w all) d (as_nested ts d (member.Body (record { result = res; name = named x p; params = ps; sharing = cs; body = ss })) _ (outs-Body (record { result = res; name = named x p; params = ps; sharing = cs; body = ss })) c)
 
 -- a name behind these words is one of them
@@ -118,7 +118,7 @@ field_named n k a l _ _ (IsMembers.then_member {v = v} {w = w} {ts = ts} (IsMemb
       | inl is ↦ subst (λ (y : Field). y.name.name.0 < n) is (name_behind n u v w x p (mark Semicolon s ∷ []) refl all)
       | inr h ↦ field_named n _ a l w ts more (named_right n v w all) f h
     ]
-field_named n k a l _ _ (IsMembers.then_member {v = v} {w = w} {ts = ts} (IsMember.method {x = x} p o c' b e {res = res} {ts = ps} {cs = cs} {ss = ss} is_res params sharing stmts) more) all f c =
+field_named n k a l _ _ (IsMembers.then_member {v = v} {w = w} {ts = ts} (IsMember.method {x = x} p o c' b e {res = res} {ts = ps} {cs = cs} {ss = ss} is_res are_params are_rels stmts) more) all f c =
     field_named n _ a l w ts more (named_right n v w all) f (as_field ts f (member.Body (record { result = res; name = named x p; params = ps; sharing = cs; body = ss })) _ (outs-Body (record { result = res; name = named x p; params = ps; sharing = cs; body = ss })) c)
 
 method_named : (n : ℕ) (k : Kind) (a l : ℕ) (w : List Part) (ms : List Member) → IsMembers k a l w ms → AllNamed n w → (m : Method) → Contains (methods ms) m → m.name.name.0 < n
@@ -126,7 +126,7 @@ method_named n k a l _ _ IsMembers.no_member all m c = absurd (in_none m c)
 method_named n k a l _ _ (IsMembers.then_member {v = v} {w = w} {ts = ts} (IsMember.declared {t = t} i) more) all m c = method_named n k a l w ts more (named_right n v w all) m (as_method ts m (member.Inner t) _ (outs-Inner t) c)
 method_named n k a l _ _ (IsMembers.then_member {v = v} {w = w} {ts = ts} (IsMember.slot {x = x} p s {t = ty} is_type) more) all m c =
     method_named n _ a l w ts more (named_right n v w all) m (as_method ts m (member.Slot (record { ty = ty; name = named x p })) _ (outs-Slot (record { ty = ty; name = named x p })) c)
-method_named n k a l _ _ (IsMembers.then_member {v = v} {w = w} {ts = ts} (IsMember.method {x = x} p o c' b e {r = r} {res = res} {ts = ps} {cs = cs} {ss = ss} is_res params sharing stmts) more) all m c =
+method_named n k a l _ _ (IsMembers.then_member {v = v} {w = w} {ts = ts} (IsMember.method {x = x} p o c' b e {r = r} {res = res} {ts = ps} {cs = cs} {ss = ss} is_res are_params are_rels stmts) more) all m c =
     elim (in_cons (record { result = res; name = named x p; params = ps; sharing = cs; body = ss }) (methods ts) m (as_method ts m (member.Body (record { result = res; name = named x p; params = ps; sharing = cs; body = ss })) _ (outs-Body (record { result = res; name = named x p; params = ps; sharing = cs; body = ss })) c)) [
       | inl is ↦ subst (λ (y : Method). y.name.name.0 < n) is (name_behind n r v w x p _ refl all)
       | inr h ↦ method_named n _ a l w ts more (named_right n v w all) m h
