@@ -12,6 +12,7 @@ mod RefutedProof
 pub mod FindingLaws
 pub mod SharedLaws
 pub mod SlotLaws
+pub mod StoredValues
 pub mod HeapLaws
 pub mod FieldAnchors
 pub mod Under

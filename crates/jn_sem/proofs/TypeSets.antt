@@ -28,10 +28,10 @@ types_below f r _ _ V booleans i = i
 types_below f r _ _ V nulls i = absurd i
 types_below f r _ _ V (classes {xs = xs} {ys = ys} {m = m} {n = n} b w) i = below_in f r (atoms_in (ty.Class xs m)) (atoms_in (ty.Class ys n)) V b i
 
-masked_more : {names : List Name} {m n : Masks} {f : Name} → MasksWithin m n → Masked names m f → Masked names n f
+pub masked_more : {names : List Name} {m n : Masks} {f : Name} → MasksWithin m n → Masked names m f → Masked names n f
 masked_more w h = record { number = h.number; has = w h.number h.has; name = h.name }
 
-filled_more : (p : Program) (names : List Name) (Filled : Name → Type 0) (m n : Masks) (V : Path) → MasksWithin m n
+pub filled_more : (p : Program) (names : List Name) (Filled : Name → Type 0) (m n : Masks) (V : Path) → MasksWithin m n
     → FieldsFilled p names Filled m V → FieldsFilled p names Filled n V
 filled_more p names Filled m n V w h f has free = h f has (λ i. free (masked_more w i))
 
