@@ -14,7 +14,7 @@ use Rattle.jn_sem.specs.Sharing.{family_of}
 use Rattle.jn_sem.specs.Sets.{Views}
 use Rattle.jn_sem.specs.Values.{Value, Number, Truth, Null, Reference, number, truth, null, no_object, object}
 use Rattle.jn_sem.specs.Slots.{Slot}
-use Rattle.jn_sem.specs.Asks.{OnOnly, found, missing, OnTest, holds, fails, OnSome, OnIf, OnFirst, It}
+use Rattle.jn_sem.specs.Asks.{OnOnly, found, not_found, OnTest, holds, fails, OnSome, OnIf, OnFirst, It}
 use Rattle.jn_sem.specs.Acts.{Act, Push, Read, This, Invert, Negate, Operate, Decide, Get, Call, Make, Super, View, Bind, Assign, Put, Choose, Repeat, Return, Print, PrintText, Begin, Open, Todo}
 use Rattle.jn_sem.specs.State.{Stored, Object, Heap, stored_value, with_stored, slot_value, with_object, with_slot, HasValue, IsIn, Frame, variable, is_null_path, has_null_path}
 use Rattle.jn_sem.specs.Does.{Ending, Entry, Did, Body, Way, Made, Gives, Fails, kept, waiting, on_one, on_two, args_of, on_args, on_number, on_truth, on_object, on_made, result_of, on_entry, calls, on_cells, constructs, makes, on_viewed, on_read, decided, bound_to, binds, returns, returns_none, prints_value, Does}
@@ -103,7 +103,7 @@ keeps_only : {h : Heap} {A : Type 0} {Is : A → Type 0} {Else : Way} {Go : A �
 keeps_only {h} {A} {Is} {Else} {Go} s t = record { each = at } where
   at : (d : Did) → OnOnly Is Else Go d → LaterDid h d
   at d (found a x g) = (t a).each d g
-  at d (missing n e) = s.each d e
+  at d (not_found n e) = s.each d e
 
 keeps_test : {h : Heap} {Is : Type 0} {Else Go : Way} → Keeps h Else → Keeps h Go → Keeps h (OnTest Is Else Go)
 keeps_test {h} {Is} {Else} {Go} s t = record { each = at } where

@@ -9,7 +9,7 @@ use Rattle.jn_base.specs.declared.types.Ty.TheVariants as ty
 use Rattle.jn_base.specs.Paths.{Path}
 use Rattle.jn_base.specs.Atoms.{Atom, atoms_in}
 use Rattle.jn_base.specs.Scopes.{Scope}
-use Rattle.jn_base.specs.Fits.{IsClass, BindsFit}
+use Rattle.jn_base.specs.Fits.{IsClassType, BindsFit}
 use Rattle.jn_sem.specs.Sets.{Views, AnchorSeen, no_views, eval, Inside, InAtom, InType, Respects}
 use Rattle.jn_sem.specs.Values.{Value, ValueIn, number, truth, null, no_object, object, FieldsFilled, Masked}
 use Rattle.jn_sem.specs.Below.{Below, ints, booleans, nulls, classes, MasksWithin}
@@ -74,7 +74,7 @@ classes_subst {p} {s} {v} r f ty.Null u V seen i = subst (λ (t : Ty). ⊥ ↔ I
 classes_subst {p} {s} {v} r f ty.Void u V seen i = subst (λ (t : Ty). ⊥ ↔ InType p v t V) (sym i) (λ h. h, λ h. h)
 
 -- of a type without classes the views don't matter
-plain_value : {p : Program} {names : List Name} {Filled : ℕ → Path → Name → Type 0} (v w : Views) (t : Ty) (value : Value) → (IsClass t → ⊥)
+plain_value : {p : Program} {names : List Name} {Filled : ℕ → Path → Name → Type 0} (v w : Views) (t : Ty) (value : Value) → (IsClassType t → ⊥)
     → ValueIn p names v Filled t value → ValueIn p names w Filled t value
 plain_value v w _ _ h number = number
 plain_value v w _ _ h truth = truth

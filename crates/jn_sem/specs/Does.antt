@@ -388,5 +388,5 @@ Does p capacity Begin f h = OnOnly (IsSpelled p (codes "Main")) missing (λ n. m
 Does p capacity Open f h =
     on_one f (λ r vs. on_object r (λ o V. OnOnly (IsSpelled p (codes "main")) missing (λ n. calls p V n r [] (waiting false f vs) h)))
 
--- Examples: the rows of operators (OperatorsExample), and a whole run (TwoPrints). `e.m()` with e null is Null, whatever m is.
+-- Examples: `e.m()` with e null is Null, whatever m is.
 -- `s.show()` runs the body at the view of s: where s is (view shower!.Exp) e, that of shower.

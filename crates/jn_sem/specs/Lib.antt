@@ -21,11 +21,6 @@ pub mod LawsOfFinding
 pub mod LawsOfSharing
 pub mod LawsOfSlots
 pub mod LawsOfHeaps
-pub mod OperatorsExample
 pub mod LawsOfActs
-pub mod TwoPrints
-pub mod SlotsExample
 pub mod LawsOfTypes
-pub mod BelowExample
 pub mod NormalFunction
-pub mod TypesExample

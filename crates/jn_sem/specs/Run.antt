@@ -163,5 +163,5 @@ pub record Run (p : Program) (b a d : ℕ) (result : Outcome) (output : List ℕ
   pub outcome : result ≡ outcome_of ending
   pub reports : Reports (Charge p a d) shown b (On start) (record { outcome = ending; output = output })
 
--- Example (TwoPrints): `class Main { void main() { print(1); print(2); } }` ends with six charges and has printed 1 and 2; with
+-- Example: `class Main { void main() { print(1); print(2); } }` ends with six charges and has printed 1 and 2; with
 -- five it has printed 1, and the outcome is More.

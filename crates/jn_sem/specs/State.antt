@@ -74,7 +74,7 @@ pub record HasValue (p : Program) (h : Heap) (object : ℕ) (V : Path) (f : Name
 abbrev pub IsIn : Program → Views → Heap → Ty → Value → Type 0
 IsIn p v h t value = ValueIn p (mask_names p) v (HasValue p h) t value
 
--- Example: a new base.Lit (SlotsExample) has 0 in the slot of v, and the slot of tag has no value. So a reference to it with
+-- Example: a new base.Lit has 0 in the slot of v, and the slot of tag has no value. So a reference to it with
 -- the view disp.Lit is in the type disp.Lit\tag, and not yet in disp.Lit.
 
 -- ---- frames
