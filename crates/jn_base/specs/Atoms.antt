@@ -70,3 +70,7 @@ HasMask m i = bit_at (get_or m.0 (i / 64) 0) (i % 64) ≡ 1
 
 abbrev pub no_masks : Masks
 no_masks = record { 0 = 0 ∷ 0 ∷ 0 ∷ 0 ∷ [] }
+
+-- each mask of m is one of n
+abbrev pub MasksWithin : Masks → Masks → Type 0
+MasksWithin m n = (i : ℕ) → HasMask m i → HasMask n i

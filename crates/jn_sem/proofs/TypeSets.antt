@@ -7,12 +7,12 @@ use Rattle.jn_base.specs.declared.types.Masks.{Masks}
 use Rattle.jn_base.specs.declared.types.Ty.{Ty}
 use Rattle.jn_base.specs.declared.types.Ty.TheVariants as ty
 use Rattle.jn_base.specs.Paths.{Path}
-use Rattle.jn_base.specs.Atoms.{Atom, atoms_in}
+use Rattle.jn_base.specs.Atoms.{Atom, atoms_in, MasksWithin}
 use Rattle.jn_base.specs.Scopes.{Scope}
 use Rattle.jn_base.specs.Fits.{IsClassType, BindsFit}
 use Rattle.jn_sem.specs.Sets.{Views, AnchorSeen, no_views, eval, Inside, InAtom, InType, Respects}
 use Rattle.jn_sem.specs.Values.{Value, ValueIn, number, truth, null, no_object, object, FieldsFilled, Masked}
-use Rattle.jn_sem.specs.Below.{Below, ints, booleans, nulls, classes, MasksWithin}
+use Rattle.jn_sem.specs.Below.{Below, ints, booleans, nulls, classes}
 use Rattle.jn_sem.specs.RootClosure.{Opens, closed, through, InRootClosure}
 use Rattle.jn_sem.specs.Normal.{after, TypeSubst}
 use Rattle.jn_sem.specs.LawsOfTypes.{TypeSeen}

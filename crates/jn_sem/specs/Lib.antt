@@ -14,7 +14,6 @@ pub mod Asks
 pub mod Acts
 pub mod State
 pub mod Does
-pub mod Reports
 pub mod Run
 pub mod LawsOfRuns
 pub mod LawsOfFinding

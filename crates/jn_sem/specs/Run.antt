@@ -15,7 +15,7 @@ use Rattle.jn_sem.specs.Acts.{Begin, Open, Todo, todo, stmts_acts}
 use Rattle.jn_sem.specs.State.{Heap, Variable, Frame, frame_views, IsIn, with_values, has_null_path}
 use Rattle.jn_sem.specs.Does.{Ending, Ends, AtNull, Zero, Arena, Depth, Stuck, Entry, Did, kept, Does}
 use Rattle.jn_sem.specs.Asks.{OnTest, OnIf, It}
-use Rattle.jn_sem.specs.Reports.{Reports}
+use Rattle.jn_steps.specs.Reports.{Reports}
 
 -- The list of frames, the one at work first and then the latest of those that wait; the heap; and what was printed.
 abbrev pub Running : Type 0
@@ -39,8 +39,8 @@ abbrev pub ended : Option TypeTerm → List ℕ → Then → Then
 ended None out below = below
 ended (Some t) out below = over (Stuck why.Kind) out
 
--- A body has ended, and `below` is what the frames below it do then. Where the first of them waits for a result that is kept,
--- and there is none, the run is Stuck instead.
+-- A body has ended, with a result or without, and `below` is what the frames below it do then. Where there is no result, and
+-- the first of them waits for one that is kept, the run is Stuck instead.
 abbrev pub resumed : Option Value → List Frame → List ℕ → Then → Then
 resumed (Some v) fs out below = below
 resumed None [] out below = below

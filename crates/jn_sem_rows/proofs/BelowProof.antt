@@ -12,7 +12,7 @@ use Rattle.jn_base.specs.declared.types.Anchor.TheVariants.{Root, Up}
 use Rattle.jn_base.specs.Paths.{Path}
 use Rattle.jn_base.specs.Supers.{Sup, itself}
 use Rattle.jn_base.specs.Universe.{InUniverse}
-use Rattle.jn_base.specs.Atoms.{Atom, atom, Among, first, later, HasMask, no_masks}
+use Rattle.jn_base.specs.Atoms.{Atom, atom, Among, first, later, HasMask, MasksWithin, no_masks}
 use Rattle.jn_base.specs.Scopes.{Bind, Scope, Binds, this_bind, bound}
 use Rattle.jn_base.specs.Fits.{Anchored, AtomsFit, ScopeFits}
 use Rattle.jn_base.specs.FamiliesExample.{families, base, both, Exp, Lit, Add}
@@ -20,7 +20,7 @@ use Rattle.jn_base.proofs.SuperLaws.{sup_namespace}
 use Rattle.jn_base.proofs.ExampleTools.{inner_above}
 use Rattle.jn_base.proofs.FamiliesProof.{lit_supers, both_has}
 use Rattle.jn_sem.specs.Widening.{Widens, loosened, raised, opened, widened}
-use Rattle.jn_sem.specs.Below.{classes, BelowAtoms, MasksWithin}
+use Rattle.jn_sem.specs.Below.{classes, BelowAtoms}
 use Rattle.jn_sem_rows.specs.BelowExample.{in_add, class_of, exact_class_of, class_of_p, lit_of_p, lit_without_v, IsBelow}
 
 -- masks

@@ -1,5 +1,5 @@
 -- The rows of operators.
-use Rattle.std.proofs.Common.{◌≡◌, refl}
+use Rattle.std.proofs.Common.{refl}
 use Rattle.jn_sem_rows.specs.OperatorsExample.{OperatorRows}
 
 pub operator_rows : OperatorRows
