@@ -76,3 +76,7 @@ pub record MasksOf (T : ℕ → Type 0) (m : Masks) : Type 0 where
 
 abbrev pub no_masks : Masks
 no_masks = record { 0 = 0 ∷ 0 ∷ 0 ∷ 0 ∷ [] }
+
+-- each mask of m is one of n
+abbrev pub MasksWithin : Masks → Masks → Type 0
+MasksWithin m n = (i : ℕ) → HasMask m i → HasMask n i

@@ -21,16 +21,16 @@ pub record AtomsFit (s : Scope) (xs : List Atom) : Type 0 where
   pub depth : (x : Atom) → Among xs x → length (bound s x) ≡ length (bound s one)
   pub shallow : length (bound s one) ≤ 255
 
-abbrev pub IsClass : Ty → Type 0
-IsClass (ty.Class xs m) = Unit {0}
-IsClass ty.Int = ⊥
-IsClass ty.Bool = ⊥
-IsClass ty.Null = ⊥
-IsClass ty.Void = ⊥
+abbrev pub IsClassType : Ty → Type 0
+IsClassType (ty.Class xs m) = Unit {0}
+IsClassType ty.Int = ⊥
+IsClassType ty.Bool = ⊥
+IsClassType ty.Null = ⊥
+IsClassType ty.Void = ⊥
 
 -- a type fits where its atoms do, if it is a class type
 pub record TypeFits (s : Scope) (t : Ty) : Type 0 where
-  pub atoms : IsClass t → AtomsFit s (atoms_in t)
+  pub atoms : IsClassType t → AtomsFit s (atoms_in t)
 
 -- the paths are distinct, and each type fits the binds before its own
 abbrev pub BindsFit : Scope → Type 0

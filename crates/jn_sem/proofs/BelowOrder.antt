@@ -5,11 +5,11 @@ use Rattle.jn_base.specs.declared.tree.Program.{Program}
 use Rattle.jn_base.specs.declared.types.Ty.{Ty}
 use Rattle.jn_base.specs.declared.types.Ty.TheVariants as ty
 use Rattle.jn_base.specs.Scopes.{Scope}
-use Rattle.jn_base.specs.Fits.{IsClass}
+use Rattle.jn_base.specs.Fits.{IsClassType}
 use Rattle.jn_sem.specs.Widening.{Widens}
 use Rattle.jn_sem.specs.Below.{Below, ints, booleans, nulls, classes}
 
-pub below_itself : {p : Program} {s : Scope} (t : Ty) → IsClass t → Below p s t t
+pub below_itself : {p : Program} {s : Scope} (t : Ty) → IsClassType t → Below p s t t
 below_itself (ty.Class xs m) c = classes (λ y a. record { from = y; among = a; chain = here }) (λ i h. h)
 below_itself ty.Int c = absurd c
 below_itself ty.Bool c = absurd c

@@ -1,8 +1,7 @@
 -- A run only adds.
 use Rattle.std.proofs.Common.{◌≡◌, ℕ, zero, suc, ◌+◌, List, [], ◌∷◌, ◌++◌, length, Option, Some, None, Bool, true, false, refl, sym, ◌∙◌, subst, arith}
 use Rattle.std.specs.Prelude.{ℤ, cond, not, nat_eq, nat_le, nat_lt, slice_get, slice_set, IsSome}
-use Rattle.std.specs.Option.{option_map, option_and_then}
-use Rattle.std.specs.List.{find}
+use Rattle.std.specs.Option.{option_and_then}
 use Rattle.jn_steps.specs.Steps.{Goes, Enters, Leaves, Falls, Faults}
 use Rattle.jn_base.specs.declared.tree.Name.{Name}
 use Rattle.jn_base.specs.declared.tree.Expr.{Expr}
@@ -15,22 +14,23 @@ use Rattle.jn_sem.specs.Sharing.{family_of}
 use Rattle.jn_sem.specs.Sets.{Views}
 use Rattle.jn_sem.specs.Values.{Value, Number, Truth, Null, Reference, number, truth, null, no_object, object}
 use Rattle.jn_sem.specs.Slots.{Slot}
-use Rattle.jn_sem.specs.Asks.{OnOnly, found, missing, OnTest, holds, fails, OnSome, OnIf, OnFirst, It}
+use Rattle.jn_sem.specs.Asks.{OnOnly, found, not_found, OnTest, holds, fails, OnSome, OnIf, OnFirst, It}
 use Rattle.jn_sem.specs.Acts.{Act, Push, Read, This, Invert, Negate, Operate, Decide, Get, Call, Make, Super, View, Bind, Assign, Put, Choose, Repeat, Return, Print, PrintText, Begin, Open, Todo}
-use Rattle.jn_sem.specs.State.{Stored, Object, Heap, same_slot, stored_value, slot_value, with_object, with_slot, HasValue, IsIn, Frame, variable, is_null_path, has_null_path}
+use Rattle.jn_sem.specs.State.{Stored, Object, Heap, stored_value, with_stored, slot_value, with_object, with_slot, HasValue, IsIn, Frame, variable, is_null_path, has_null_path}
 use Rattle.jn_sem.specs.Does.{Ending, Entry, Did, Body, Way, Made, Gives, Fails, kept, waiting, on_one, on_two, args_of, on_args, on_number, on_truth, on_object, on_made, result_of, on_entry, calls, on_cells, constructs, makes, on_viewed, on_read, decided, bound_to, binds, returns, returns_none, prints_value, Does}
-use Rattle.jn_sem.specs.Run.{Then, ended, settled_at, settled, given_first, frame_of, enters, proceeds, acting, charged, frames_charged}
+use Rattle.jn_sem.specs.Run.{Then, over, ended, resumed, settled_at, settled, given_first, frame_of, enters, proceeds, acting, charged, frames_charged}
 use Rattle.jn_sem.specs.LawsOfHeaps.{Grows, GrownAt, Later, LaterThen, HeapLaws}
+use Rattle.jn_sem.proofs.StoredValues.{one_stored, same_slots, stored_with, size_kept}
 
 -- ---- heaps
 
-later_itself : (h : Heap) → Later h h
+pub later_itself : (h : Heap) → Later h h
 later_itself h = record {
   objects = λ o x e. record { object = x; at = e; grows = record { made = refl; values = λ s v. v } };
   used = omega arith;
 }
 
-later_joined : (h i j : Heap) → Later h i → Later i j → Later h j
+pub later_joined : (h i j : Heap) → Later h i → Later i j → Later h j
 later_joined h i j f g = record {
   objects = λ o x e.
       let one = f.objects o x e in
@@ -51,23 +51,13 @@ got_append [] y o x e = absurd (nothing o x e) where
 got_append (z ∷ xs) y zero x e = e
 got_append (z ∷ xs) y (suc o) x e = got_append xs y o x e
 
-later_object : (h : Heap) (size : ℕ) (y : Object) → Later h (with_object h size y)
+pub later_object : (h : Heap) (size : ℕ) (y : Object) → Later h (with_object h size y)
 later_object h size y = record {
   objects = λ o x e. record { object = x; at = got_append h.objects y o x e; grows = record { made = refl; values = λ s v. v } };
   used = omega arith;
 }
 
 -- one more value
-abbrev value_in : Stored → Value
-value_in x = x.value
-
-either_way : (b : Bool) (x : Stored) (o : Option Stored) → IsSome (option_map value_in o) → IsSome (option_map value_in (cond b (Some x) o))
-either_way true x o h = refl
-either_way false x o h = h
-
-one_stored : (s t : Slot) (v : Value) (xs : List Stored) → IsSome (stored_value xs t) → IsSome (stored_value (record { slot = s; value = v } ∷ xs) t)
-one_stored s t v xs h = either_way (same_slot s t) (record { slot = s; value = v }) (find (λ (x : Stored). same_slot x.slot t) xs) h
-
 some_object : (x y : Object) → Some x ≡ Some y → x ≡ y
 some_object x y e = cc
 
@@ -84,10 +74,10 @@ set_grows (u ∷ xs) zero y z e g (suc o) x h = (x, h, record { made = refl; val
 set_grows (u ∷ xs) (suc i) y z e g zero x h = (x, h, record { made = refl; values = λ s v. v })
 set_grows (u ∷ xs) (suc i) y z e g (suc o) x h = set_grows xs i y z e g o x h
 
-later_slot : (h : Heap) (i : ℕ) (y : Object) (s : Slot) (v : Value) → slice_get h.objects i ≡ Some y → Later h (with_slot h i y s v)
+pub later_slot : (h : Heap) (i : ℕ) (y : Object) (s : Slot) (v : Value) → slice_get h.objects i ≡ Some y → Later h (with_slot h i y s v)
 later_slot h i y s v e = record {
   objects = λ o x k.
-      let r = set_grows h.objects i y (record y { stored = record { slot = s; value = v } ∷ y.stored }) e
+      let r = set_grows h.objects i y (record y { stored = with_stored y.stored s v }) e
       (record { made = refl; values = λ t w. one_stored s t v y.stored w }) o x k in
       record { object = r.0; at = r.1; grows = r.2 };
   used = omega arith;
@@ -113,7 +103,7 @@ keeps_only : {h : Heap} {A : Type 0} {Is : A → Type 0} {Else : Way} {Go : A �
 keeps_only {h} {A} {Is} {Else} {Go} s t = record { each = at } where
   at : (d : Did) → OnOnly Is Else Go d → LaterDid h d
   at d (found a x g) = (t a).each d g
-  at d (missing n e) = s.each d e
+  at d (not_found n e) = s.each d e
 
 keeps_test : {h : Heap} {Is : Type 0} {Else Go : Way} → Keeps h Else → Keeps h Go → Keeps h (OnTest Is Else Go)
 keeps_test {h} {Is} {Else} {Go} s t = record { each = at } where
@@ -265,6 +255,15 @@ module _ (h : Heap) where
 
 -- ---- charges
 
+later_cond : (g : Heap) (b : Bool) (why : Ending) (out : List ℕ) (below : Then) → LaterThen g below → LaterThen g (cond b (over why out) below)
+later_cond g true why out below k = tt
+later_cond g false why out below k = k
+
+later_resumed : (g : Heap) (v : Option Value) (fs : List Frame) (out : List ℕ) (below : Then) → LaterThen g below → LaterThen g (resumed v fs out below)
+later_resumed g (Some v) fs out below k = k
+later_resumed g None [] out below k = k
+later_resumed g None (f ∷ fs) out below k = later_cond g f.keeps _ out below k
+
 later_end : (g : Heap) (t : Option TypeTerm) (out : List ℕ) (below : Then) → LaterThen g below → LaterThen g (ended t out below)
 later_end g None out below k = k
 later_end g (Some t) out below k = tt
@@ -276,7 +275,8 @@ later_at g h l (t ∷ ts) f fs out below k = l
 
 later_settled : (g h : Heap) → Later g h → (fs : List Frame) (out : List ℕ) → LaterThen g (settled fs h out)
 later_settled g h l [] out = tt
-later_settled g h l (f ∷ fs) out = later_at g h l f.todo f fs out (settled fs h out) (later_settled g h l fs out)
+later_settled g h l (f ∷ fs) out =
+    later_at g h l f.todo f fs out (resumed None fs out (settled fs h out)) (later_resumed g None fs out (settled fs h out) (later_settled g h l fs out))
 
 later_it : (g : Heap) (x y : Then) → LaterThen g x → y ≡ x → LaterThen g y
 later_it g x y l e = subst (LaterThen g) (sym e) l
@@ -302,7 +302,8 @@ later_proceeds : (p : Program) (depth : ℕ) (g : Heap) (d : Did) (fs : List Fra
 later_proceeds p depth g (Goes f h bytes) fs out x l k = later_it g _ x (later_settled g h l (f ∷ fs) (out ++ bytes)) k
 later_proceeds p depth g (Enters e args f h) fs out x l k =
     later_if g (nat_lt (length fs) depth) _ _ x (λ y. later_it g _ y tt) (λ y. later_enters p g h l e args (f ∷ fs) out y) k
-later_proceeds p depth g (Leaves v h) fs out x l k = later_it g _ x (later_settled g h l (given_first v fs) out) k
+later_proceeds p depth g (Leaves v h) fs out x l k =
+    later_it g _ x (later_resumed g v fs out (settled (given_first v fs) h out) (later_settled g h l (given_first v fs) out)) k
 later_proceeds p depth g Falls fs out x l k = later_it g _ x tt k
 later_proceeds p depth g (Faults o) fs out x l k = later_it g _ x tt k
 
@@ -322,18 +323,18 @@ found_later : (i : Heap) (o : ℕ) (s : Slot) (x : Object) → GrownAt i o x →
 found_later i o s x g v =
     subst (λ (y : Option Object). IsSome (option_and_then (λ (z : Object). stored_value z.stored s) y)) (sym g.at) (g.grows.values s v)
 
-slot_later : (h i : Heap) (o : ℕ) (s : Slot) → Later h i → IsSome (slot_value h o s) → IsSome (slot_value i o s)
+pub slot_later : (h i : Heap) (o : ℕ) (s : Slot) → Later h i → IsSome (slot_value h o s) → IsSome (slot_value i o s)
 slot_later h i o s l v = at (slice_get h.objects o) refl v where
   at : (y : Option Object) → slice_get h.objects o ≡ y → IsSome (option_and_then (λ (z : Object). stored_value z.stored s) y) → IsSome (slot_value i o s)
   at None e w = absurd (not_none w) where
-    not_none : IsSome (option_map value_in None) → ⊥
+    not_none : IsSome (let x : Option Value = None in x) → ⊥
     not_none k = cc
   at (Some x) e w = found_later i o s x (l.objects o x e) w
 
-filled_later : (p : Program) (h i : Heap) (o : ℕ) (V : Path) (f : Name) → Later h i → HasValue p h o V f → HasValue p i o V f
+pub filled_later : (p : Program) (h i : Heap) (o : ℕ) (V : Path) (f : Name) → Later h i → HasValue p h o V f → HasValue p i o V f
 filled_later p h i o V f l k = record { slot = k.slot; is_slot = k.is_slot; has = slot_later h i o k.slot l k.has }
 
-types_later : (p : Program) (v : Views) (h i : Heap) (t : Ty) (value : Value) → Later h i → IsIn p v h t value → IsIn p v i t value
+pub types_later : (p : Program) (v : Views) (h i : Heap) (t : Ty) (value : Value) → Later h i → IsIn p v h t value → IsIn p v i t value
 types_later p v h i _ _ l number = number
 types_later p v h i _ _ l truth = truth
 types_later p v h i _ _ l null = null
@@ -341,9 +342,14 @@ types_later p v h i _ _ l no_object = no_object
 types_later p v h i _ _ l (object {o = o} {V = V} c f) = object c (λ g has n. filled_later p h i o V g l (f g has n))
 
 pub heap_laws : HeapLaws
-heap_laws p = record {
-  itself = later_itself;
-  joined = later_joined;
-  charge = λ a d s x k. later_frames p a d s.frames s.heap s.output x k;
-  types = types_later p;
+heap_laws = record {
+  heaps = λ p. record {
+    itself = later_itself;
+    joined = later_joined;
+    object = later_object;
+    slot = later_slot;
+    charge = λ a d s x k. later_frames p a d s.frames s.heap s.output x k;
+    types = types_later p;
+  };
+  values = record { same = same_slots; stored = stored_with; size = size_kept };
 }

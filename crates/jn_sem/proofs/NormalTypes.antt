@@ -17,7 +17,7 @@ use Rattle.jn_base.specs.declared.types.Ty.{Ty}
 use Rattle.jn_base.specs.declared.types.Ty.TheVariants as ty
 use Rattle.jn_base.specs.Atoms.{Atom, atom, atom_of, shown_atom, atoms_in, Among, first, later}
 use Rattle.jn_base.specs.Scopes.{Bind, Scope, bound}
-use Rattle.jn_base.specs.Fits.{Anchored, IsClass, AtomsFit, TypeFits, BindsFit}
+use Rattle.jn_base.specs.Fits.{Anchored, IsClassType, AtomsFit, TypeFits, BindsFit}
 use Rattle.jn_sem.specs.Normal.{normal, rewritten, moved_anchor, moved, same_path, atom_total, IsSubst, TypeSubst, NormalType, MovedFits, EndsWith}
 use Rattle.jn_sem.proofs.Normals.{Turns, turned, left, rewritten_is, normal_ends}
 use Rattle.jn_sem.specs.NormalFunction.{moved_normal, subst_atoms, subst_type}
@@ -174,8 +174,8 @@ subst_fits {s} {f} {xs} {ys} g a i =
             ap (λ (z : Atom). length (bound s z)) r.2 ∙ normal_depth s g (moved f r.0) h ∙ a.depth (moved f r.0) b,
           )
 
-no_class_fits : {s : Scope} (t u : Ty) → (IsClass t → ⊥) → u ≡ t → TypeFits s u
-no_class_fits t u n e = record { atoms = λ c. absurd (n (subst IsClass e c)) }
+no_class_fits : {s : Scope} (t u : Ty) → (IsClassType t → ⊥) → u ≡ t → TypeFits s u
+no_class_fits t u n e = record { atoms = λ c. absurd (n (subst IsClassType e c)) }
 
 pub type_subst_fits : (s : Scope) (f : ℕ → ℕ) (t u : Ty) → BindsFit s → MovedFits s f t → TypeSubst s f t u → TypeFits s u
 type_subst_fits s f (ty.Class xs m) (ty.Class ys n) g a i = record { atoms = λ c. subst_fits g (a tt) i.0 }

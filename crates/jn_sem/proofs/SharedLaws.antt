@@ -1,4 +1,4 @@
--- Families, related classes and counterparts; and the rows of operators.
+-- Families, related classes and counterparts.
 use Rattle.std.proofs.Common.{◌≡◌, [], ◌∷◌, Some, None, refl, sym, ap, ◌∙◌}
 use Rattle.jn_reach.specs.Equivalent as link
 use Rattle.jn_base.specs.declared.tree.Name.{Name}
@@ -6,7 +6,6 @@ use Rattle.jn_base.specs.declared.tree.Program.{Program}
 use Rattle.jn_base.specs.Paths.{Path}
 use Rattle.jn_sem.specs.Sharing.{IsClass, family_of, in_family, Related}
 use Rattle.jn_sem.specs.LawsOfSharing.{SharingLaws}
-use Rattle.jn_sem.specs.OperatorsExample.{OperatorRows}
 
 none_some : (X : Name) → None ≡ Some X → ⊥
 none_some X e = cc
@@ -58,18 +57,4 @@ sharing_laws p = record {
     is = l.is ∙ ap (in_family Z) k.is ∙ twice Y Z R;
     related = record { one = k.related.one; other = l.related.other; linked = link.joined k.related.linked l.related.linked };
   };
-}
-
-pub operator_rows : OperatorRows
-operator_rows V W = record {
-  one_object = refl;
-  two_objects = refl;
-  unequal = refl;
-  nulls = refl;
-  no_null = refl;
-  less = refl;
-  no_less = refl;
-  two_kinds = refl;
-  remainder = refl;
-  by_zero = refl;
 }

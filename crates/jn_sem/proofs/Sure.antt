@@ -1,6 +1,6 @@
 -- Each way allows one step, and one alone.
 use Rattle.std.proofs.Common.{◌≡◌, List, [], ◌∷◌, Option, Some, None, Bool, true, false, refl, sym, ◌∙◌, subst}
-use Rattle.jn_sem.specs.Asks.{OnOnly, found, missing, OnTest, holds, fails, OnSome, OnIf, OnFirst, It}
+use Rattle.jn_sem.specs.Asks.{OnOnly, found, not_found, OnTest, holds, fails, OnSome, OnIf, OnFirst, It}
 
 pub record Sure {D : Type 0} (W : D → Type 0) : Type 0 where
   pub one : (d e : D) → W d → W e → d ≡ e
@@ -12,15 +12,15 @@ sure_it x = record { one = λ d e h g. h ∙ sym g; there = λ no. no x refl }
 only_one : {A D : Type 0} (Is : A → Type 0) (Else : D → Type 0) (Go : A → D → Type 0) → Sure Else → ((a : A) → Sure (Go a))
     → (d e : D) → OnOnly Is Else Go d → OnOnly Is Else Go e → d ≡ e
 only_one Is Else Go s t d e (found a x g) (found b y h) = (t a).one d e g (subst (λ c. Go c e) (x.one b y.is) h)
-only_one Is Else Go s t d e (found a x g) (missing n h) = absurd (n a x)
-only_one Is Else Go s t d e (missing n g) (found b y h) = absurd (n b y)
-only_one Is Else Go s t d e (missing n g) (missing m h) = s.one d e g h
+only_one Is Else Go s t d e (found a x g) (not_found n h) = absurd (n a x)
+only_one Is Else Go s t d e (not_found n g) (found b y h) = absurd (n b y)
+only_one Is Else Go s t d e (not_found n g) (not_found m h) = s.one d e g h
 
 pub sure_only : {A D : Type 0} {Is : A → Type 0} {Else : D → Type 0} {Go : A → D → Type 0} → Sure Else → ((a : A) → Sure (Go a))
     → Sure (OnOnly Is Else Go)
 sure_only {A} {D} {Is} {Else} {Go} s t = record {
   one = only_one Is Else Go s t;
-  there = λ no. s.there (λ d e. no d (missing (λ a x. (t a).there (λ d g. no d (found a x g))) e));
+  there = λ no. s.there (λ d e. no d (not_found (λ a x. (t a).there (λ d g. no d (found a x g))) e));
 }
 
 test_one : {D : Type 0} (Is : Type 0) (Else Go : D → Type 0) → Sure Else → Sure Go

@@ -1,6 +1,6 @@
 -- Each charge leads to one state, and one alone; and it keeps what was printed.
 use Rattle.std.proofs.Common.{◌≡◌, ℕ, List, [], ◌∷◌, ◌++◌, length, Option, Some, None, Bool, true, false, sym, ◌∙◌, subst}
-use Rattle.std.specs.Prelude.{not, nat_lt}
+use Rattle.std.specs.Prelude.{not, cond, nat_lt}
 use Rattle.std.proofs.lemmas.List.{append-nil, append_assoc}
 use Rattle.jn_steps.specs.Runs.{On, End}
 use Rattle.jn_steps.specs.Steps.{Goes, Enters, Leaves, Falls, Faults}
@@ -10,9 +10,9 @@ use Rattle.jn_base.specs.declared.tree.Program.{Program}
 use Rattle.jn_sem.specs.Values.{Value}
 use Rattle.jn_sem.specs.Acts.{Todo}
 use Rattle.jn_sem.specs.State.{Heap, Frame, has_null_path}
-use Rattle.jn_sem.specs.Does.{Entry, Did}
+use Rattle.jn_sem.specs.Does.{Ending, Entry, Did}
 use Rattle.jn_sem.specs.Asks.{OnTest, holds, fails, OnIf}
-use Rattle.jn_sem.specs.Run.{Running, Then, ended, settled_at, settled, given_first, frame_of, begins, enters, proceeds, acting, charged, frames_charged, Charge, shown}
+use Rattle.jn_sem.specs.Run.{Running, Then, over, ended, resumed, settled_at, settled, given_first, frame_of, begins, enters, proceeds, acting, charged, frames_charged, Charge, shown}
 use Rattle.jn_sem.proofs.Sure.{Sure, sure_it, sure_test, sure_if}
 use Rattle.jn_sem.proofs.SureActs.{sure_does}
 
@@ -58,6 +58,16 @@ at_end : (t : Option TypeTerm) (out : List ℕ) (below : Then) → KeepsOutput s
 at_end None out below k = k
 at_end (Some t) out below k = kept_whole out
 
+at_cond : (b : Bool) (why : Ending) (out : List ℕ) (below : Then) → KeepsOutput shown out below → KeepsOutput shown out (cond b (over why out) below)
+at_cond true why out below k = kept_whole out
+at_cond false why out below k = k
+
+at_resumed : (v : Option Value) (fs : List Frame) (out : List ℕ) (below : Then) → KeepsOutput shown out below
+    → KeepsOutput shown out (resumed v fs out below)
+at_resumed (Some v) fs out below k = k
+at_resumed None [] out below k = k
+at_resumed None (f ∷ fs) out below k = at_cond f.keeps _ out below k
+
 at_todo : (todo : List Todo) (f : Frame) (fs : List Frame) (h : Heap) (out : List ℕ) (below : Then) → KeepsOutput shown out below
     → KeepsOutput shown out (settled_at todo f fs h out below)
 at_todo [] f fs h out below k = at_end f.method.result out below k
@@ -65,7 +75,8 @@ at_todo (t ∷ ts) f fs h out below k = kept_whole out
 
 settled_keeps : (fs : List Frame) (h : Heap) (out : List ℕ) → KeepsOutput shown out (settled fs h out)
 settled_keeps [] h out = kept_whole out
-settled_keeps (f ∷ fs) h out = at_todo f.todo f fs h out (settled fs h out) (settled_keeps fs h out)
+settled_keeps (f ∷ fs) h out =
+    at_todo f.todo f fs h out (resumed None fs out (settled fs h out)) (at_resumed None fs out (settled fs h out) (settled_keeps fs h out))
 
 prefix_of : (a b c : List ℕ) → IsPrefix (a ++ b) c → IsPrefix a c
 prefix_of a b c h = (b ++ h.0, sym (append_assoc a b h.0) ∙ h.1)
@@ -99,7 +110,8 @@ proceeds_keeps p depth (Goes f h bytes) fs out x g =
     it_keeps out _ x (then_keeps out bytes (settled (f ∷ fs) h (out ++ bytes)) (settled_keeps (f ∷ fs) h (out ++ bytes))) g
 proceeds_keeps p depth (Enters e args f h) fs out x g =
     if_keeps (nat_lt (length fs) depth) _ _ out x (λ y. it_keeps out _ y (kept_whole out)) (λ y. enters_keeps p e args (f ∷ fs) h out y) g
-proceeds_keeps p depth (Leaves v h) fs out x g = it_keeps out _ x (settled_keeps (given_first v fs) h out) g
+proceeds_keeps p depth (Leaves v h) fs out x g =
+    it_keeps out _ x (at_resumed v fs out (settled (given_first v fs) h out) (settled_keeps (given_first v fs) h out)) g
 proceeds_keeps p depth Falls fs out x g = it_keeps out _ x (kept_whole out) g
 proceeds_keeps p depth (Faults o) fs out x g = it_keeps out _ x (kept_whole out) g
 

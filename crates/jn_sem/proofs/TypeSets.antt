@@ -7,12 +7,12 @@ use Rattle.jn_base.specs.declared.types.Masks.{Masks}
 use Rattle.jn_base.specs.declared.types.Ty.{Ty}
 use Rattle.jn_base.specs.declared.types.Ty.TheVariants as ty
 use Rattle.jn_base.specs.Paths.{Path}
-use Rattle.jn_base.specs.Atoms.{Atom, atoms_in}
+use Rattle.jn_base.specs.Atoms.{Atom, atoms_in, MasksWithin}
 use Rattle.jn_base.specs.Scopes.{Scope}
-use Rattle.jn_base.specs.Fits.{IsClass, BindsFit}
+use Rattle.jn_base.specs.Fits.{IsClassType, BindsFit}
 use Rattle.jn_sem.specs.Sets.{Views, AnchorSeen, no_views, eval, Inside, InAtom, InType, Respects}
 use Rattle.jn_sem.specs.Values.{Value, ValueIn, number, truth, null, no_object, object, FieldsFilled, Masked}
-use Rattle.jn_sem.specs.Below.{Below, ints, booleans, nulls, classes, MasksWithin}
+use Rattle.jn_sem.specs.Below.{Below, ints, booleans, nulls, classes}
 use Rattle.jn_sem.specs.RootClosure.{Opens, closed, through, InRootClosure}
 use Rattle.jn_sem.specs.Normal.{after, TypeSubst}
 use Rattle.jn_sem.specs.LawsOfTypes.{TypeSeen}
@@ -28,10 +28,10 @@ types_below f r _ _ V booleans i = i
 types_below f r _ _ V nulls i = absurd i
 types_below f r _ _ V (classes {xs = xs} {ys = ys} {m = m} {n = n} b w) i = below_in f r (atoms_in (ty.Class xs m)) (atoms_in (ty.Class ys n)) V b i
 
-masked_more : {names : List Name} {m n : Masks} {f : Name} → MasksWithin m n → Masked names m f → Masked names n f
+pub masked_more : {names : List Name} {m n : Masks} {f : Name} → MasksWithin m n → Masked names m f → Masked names n f
 masked_more w h = record { number = h.number; has = w h.number h.has; name = h.name }
 
-filled_more : (p : Program) (names : List Name) (Filled : Name → Type 0) (m n : Masks) (V : Path) → MasksWithin m n
+pub filled_more : (p : Program) (names : List Name) (Filled : Name → Type 0) (m n : Masks) (V : Path) → MasksWithin m n
     → FieldsFilled p names Filled m V → FieldsFilled p names Filled n V
 filled_more p names Filled m n V w h f has free = h f has (λ i. free (masked_more w i))
 
@@ -74,7 +74,7 @@ classes_subst {p} {s} {v} r f ty.Null u V seen i = subst (λ (t : Ty). ⊥ ↔ I
 classes_subst {p} {s} {v} r f ty.Void u V seen i = subst (λ (t : Ty). ⊥ ↔ InType p v t V) (sym i) (λ h. h, λ h. h)
 
 -- of a type without classes the views don't matter
-plain_value : {p : Program} {names : List Name} {Filled : ℕ → Path → Name → Type 0} (v w : Views) (t : Ty) (value : Value) → (IsClass t → ⊥)
+plain_value : {p : Program} {names : List Name} {Filled : ℕ → Path → Name → Type 0} (v w : Views) (t : Ty) (value : Value) → (IsClassType t → ⊥)
     → ValueIn p names v Filled t value → ValueIn p names w Filled t value
 plain_value v w _ _ h number = number
 plain_value v w _ _ h truth = truth

@@ -11,7 +11,7 @@ use Rattle.jn_base.specs.Supers.{Sup, itself}
 use Rattle.jn_base.specs.Universe.{IsNamespace}
 use Rattle.jn_base.specs.Atoms.{Atom, atoms_in, anchor_at, first_at, Among, first, later}
 use Rattle.jn_base.specs.Scopes.{Bind, Scope, bound_of, bound, Binds}
-use Rattle.jn_base.specs.Fits.{Anchored, AtomsFit, IsClass, TypeFits, BindsFit}
+use Rattle.jn_base.specs.Fits.{Anchored, AtomsFit, IsClassType, TypeFits, BindsFit}
 use Rattle.jn_base.proofs.SuperLaws.{sup_level, sup_up, sup_joined, sup_inherited, heir_by_one}
 use Rattle.jn_sem.specs.Sets.{Views, Seen, AnchorSeen, view_at, eval, InAtoms, InType, Respects}
 
@@ -58,7 +58,7 @@ under_anchor s v (Up r k) seen h = under_drop k (h r k refl seen)
 
 -- types that fit
 
-pub class_with_atom : (t : Ty) (x : Atom) → Among (atoms_in t) x → IsClass t
+pub class_with_atom : (t : Ty) (x : Atom) → Among (atoms_in t) x → IsClassType t
 class_with_atom (ty.Class xs m) x a = tt
 class_with_atom ty.Int x a = elim a [ ]
 class_with_atom ty.Bool x a = elim a [ ]
@@ -157,7 +157,7 @@ bound_shallow (b ∷ s) f q = at (nat_eq q b.path) (first_shallow s (atoms_in b.
   at false g h = h
 
 -- a class is in class types alone, and there in each atom
-pub type_atoms : {p : Program} {v : Views} {V : Path} (t : Ty) → InType p v t V → IsClass t × InAtoms p v (atoms_in t) V
+pub type_atoms : {p : Program} {v : Views} {V : Path} (t : Ty) → InType p v t V → IsClassType t × InAtoms p v (atoms_in t) V
 type_atoms (ty.Class xs m) i = (tt, i)
 type_atoms ty.Int i = absurd i
 type_atoms ty.Bool i = absurd i

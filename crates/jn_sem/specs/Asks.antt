@@ -12,7 +12,7 @@ pub record Only {A : Type 0} (Is : A → Type 0) (a : A) : Type 0 where
 -- the one thing that is so, where there is exactly one
 pub data OnOnly {A D : Type 0} (Is : A → Type 0) (Else : D → Type 0) (Go : A → D → Type 0) (d : D) : Type 0 where
   found : (a : A) → Only Is a → Go a d → OnOnly Is Else Go d
-  missing : ((a : A) → Only Is a → ⊥) → Else d → OnOnly Is Else Go d
+  not_found : ((a : A) → Only Is a → ⊥) → Else d → OnOnly Is Else Go d
 
 -- whether it is so
 pub data OnTest {D : Type 0} (Is : Type 0) (Else Go : D → Type 0) (d : D) : Type 0 where

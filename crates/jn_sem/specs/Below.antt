@@ -1,12 +1,12 @@
 -- Which types are below which.
-use Rattle.std.specs.Prelude.{ℕ, List}
+use Rattle.std.specs.Prelude.{List}
 use Rattle.jn_reach.specs.Chain.{Chain}
 use Rattle.jn_base.specs.declared.tree.Program.{Program}
 use Rattle.jn_base.specs.declared.types.Atom.{Atom as ShownAtom}
 use Rattle.jn_base.specs.declared.types.Masks.{Masks}
 use Rattle.jn_base.specs.declared.types.Ty.{Ty}
 use Rattle.jn_base.specs.declared.types.Ty.TheVariants as ty
-use Rattle.jn_base.specs.Atoms.{Atom, atoms_in, Among, HasMask}
+use Rattle.jn_base.specs.Atoms.{Atom, atoms_in, Among, MasksWithin}
 use Rattle.jn_base.specs.Scopes.{Scope}
 use Rattle.jn_sem.specs.Widening.{Widens}
 
@@ -19,9 +19,6 @@ pub record ReachedFrom (p : Program) (s : Scope) (xs : List Atom) (y : Atom) : T
 -- each atom of ys is the end of a chain of widening steps from an atom of xs
 abbrev pub BelowAtoms : Program → Scope → List Atom → List Atom → Type 0
 BelowAtoms p s xs ys = (y : Atom) → Among ys y → ReachedFrom p s xs y
-
-abbrev pub MasksWithin : Masks → Masks → Type 0
-MasksWithin m n = (i : ℕ) → HasMask m i → HasMask n i
 
 -- S is below T where both are int, or both boolean, or S is the null type and T a class type, or each atom of T is the end
 -- of a chain of widening steps from an atom of S and the masks of S are within those of T.

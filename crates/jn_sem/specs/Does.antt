@@ -355,38 +355,38 @@ prints_value f (Reference o V) vs h = wrong_kind
 
 -- What an act does, where f is the frame without it. `capacity` is the arena's.
 abbrev pub Does : Program → (capacity : ℕ) → Act → Frame → Heap → Way
-Does p m (Push v) f h = goes f (v ∷ f.vals) h
-Does p m (Read x) f h = OnSome (variable f.vars x) missing (λ y. goes f (y.value ∷ f.vals) h)
-Does p m This f h = goes f (f.this ∷ f.vals) h
-Does p m Invert f h = on_one f (λ v vs. on_truth v (λ b. goes f (Truth (not b) ∷ vs) h))
-Does p m Negate f h = on_one f (λ v vs. on_number v (λ z. goes f (Number (negation_of z) ∷ vs) h))
-Does p m (Operate o) f h = on_two f (λ a b vs. on_made (result_of o a b) (λ v. goes f (v ∷ vs) h))
-Does p m (Decide and e) f h = on_one f (λ v vs. on_truth v (λ b. decided f e vs h b (same_truth and b)))
-Does p m (Get field) f h =
+Does p capacity (Push v) f h = goes f (v ∷ f.vals) h
+Does p capacity (Read x) f h = OnSome (variable f.vars x) missing (λ y. goes f (y.value ∷ f.vals) h)
+Does p capacity This f h = goes f (f.this ∷ f.vals) h
+Does p capacity Invert f h = on_one f (λ v vs. on_truth v (λ b. goes f (Truth (not b) ∷ vs) h))
+Does p capacity Negate f h = on_one f (λ v vs. on_number v (λ z. goes f (Number (negation_of z) ∷ vs) h))
+Does p capacity (Operate o) f h = on_two f (λ a b vs. on_made (result_of o a b) (λ v. goes f (v ∷ vs) h))
+Does p capacity (Decide and e) f h = on_one f (λ v vs. on_truth v (λ b. decided f e vs h b (same_truth and b)))
+Does p capacity (Get field) f h =
     on_one f (λ r vs. on_object r (λ o V. OnOnly (FieldType p V field) missing (λ t. OnOnly (IsSlot p V field) missing (λ s. OnSome (slot_value h o s) masked (λ v. on_read p V t v (λ w. goes f (w ∷ vs) h))))))
-Does p m (Call name n keeps) f h =
+Does p capacity (Call name n keeps) f h =
     on_args n f (λ args rest. OnFirst rest missing (λ r vs. on_object r (λ o V. calls p V name r args (waiting keeps f vs) h)))
-Does p m (Make t n keeps) f h =
-    on_args n f (λ args vs. OnOnly (IsNewClass p f t) missing (λ V. makes p m V args keeps f vs h))
-Does p m (Super t name n keeps) f h =
+Does p capacity (Make t n keeps) f h =
+    on_args n f (λ args vs. OnOnly (IsNewClass p f t) missing (λ V. makes p capacity V args keeps f vs h))
+Does p capacity (Super t name n keeps) f h =
     on_args n f (λ args vs. OnOnly (SuperBound p (site_of f) t) missing (λ B. calls p B name f.this args (waiting keeps f vs) h))
-Does p m (View t) f h =
+Does p capacity (View t) f h =
     on_one f (λ v vs. OnOnly (IsTargetFamily p f t) missing (λ Y. on_viewed p Y v (λ w. goes f (w ∷ vs) h)))
-Does p m (Bind fixed t x path) f h =
+Does p capacity (Bind fixed t x path) f h =
     on_one f (λ v vs. OnOnly (TypeIs p (site_of f) t) missing (λ t. binds p f h (var x path fixed t) v vs))
-Does p m (Assign x) f h =
+Does p capacity (Assign x) f h =
     on_one f (λ v vs. OnSome (variable f.vars x) missing (λ y. on_typed p f h y.var.ty v (It (Goes (record f { vals = vs; vars = assigned f.vars x v }) h []))))
-Does p m (Put field) f h =
+Does p capacity (Put field) f h =
     on_two f (λ r v vs. on_object r (λ o V. OnOnly (FieldType p V field) missing (λ t. OnOnly (IsSlot p V field) missing (λ s. OnSome (slice_get h.objects o) missing (λ x. OnTest (IsIn p (this_viewed V) h t v) foreign (goes f vs (with_slot h o x s v)))))))
-Does p m (Choose path one other) f h = on_one f (λ v vs. on_truth v (λ b. goes_with f vs (chosen f path one other b) h))
-Does p m (Repeat path e body) f h = on_one f (λ v vs. on_truth v (λ b. goes_with f vs (repeated f path e body b) h))
-Does p m (Return true) f h = on_one f (λ v vs. returns p f h f.method.result v)
-Does p m (Return false) f h = returns_none f.method.result h
-Does p m Print f h = on_one f (λ v vs. prints_value f v vs h)
-Does p m (PrintText t) f h = OnSome (slice_get p.texts t) missing (λ x. prints f f.vals h (line_of x.bytes))
-Does p m Begin f h = OnOnly (IsSpelled p (codes "Main")) missing (λ n. makes p m (n ∷ []) [] true f f.vals h)
-Does p m Open f h =
+Does p capacity (Choose path one other) f h = on_one f (λ v vs. on_truth v (λ b. goes_with f vs (chosen f path one other b) h))
+Does p capacity (Repeat path e body) f h = on_one f (λ v vs. on_truth v (λ b. goes_with f vs (repeated f path e body b) h))
+Does p capacity (Return true) f h = on_one f (λ v vs. returns p f h f.method.result v)
+Does p capacity (Return false) f h = returns_none f.method.result h
+Does p capacity Print f h = on_one f (λ v vs. prints_value f v vs h)
+Does p capacity (PrintText t) f h = OnSome (slice_get p.texts t) missing (λ x. prints f f.vals h (line_of x.bytes))
+Does p capacity Begin f h = OnOnly (IsSpelled p (codes "Main")) missing (λ n. makes p capacity (n ∷ []) [] true f f.vals h)
+Does p capacity Open f h =
     on_one f (λ r vs. on_object r (λ o V. OnOnly (IsSpelled p (codes "main")) missing (λ n. calls p V n r [] (waiting false f vs) h)))
 
--- Examples: the rows of operators (OperatorsExample), and a whole run (TwoPrints). `e.m()` with e null is Null, whatever m is.
+-- Examples: `e.m()` with e null is Null, whatever m is.
 -- `s.show()` runs the body at the view of s: where s is (view shower!.Exp) e, that of shower.

@@ -9,19 +9,19 @@ use Rattle.jn_base.specs.declared.types.Masks.{Masks}
 use Rattle.jn_base.specs.Paths.{Path}
 use Rattle.jn_base.specs.ClassOrder.{IsFirst, name_cmp}
 use Rattle.jn_base.specs.Atoms.{Atom, atom, atom_at}
-use Rattle.jn_sem.specs.Sets.{view_at, InAtom, InAtoms}
+use Rattle.jn_sem.specs.Sets.{no_views, view_at, InAtom, InAtoms}
 use Rattle.jn_sem.specs.Values.{HasField, Masked}
 use Rattle.jn_sem.specs.Sharing.{IsClass, Counterpart, family_of}
-use Rattle.jn_sem.specs.Slots.{no_views, Slot, IsSlot}
+use Rattle.jn_sem.specs.Slots.{Slot, IsSlot}
 
--- The two sides of a constraint, without paths: the atoms of S with its masks, the atom of T with its masks. `names` gives
--- each mask number its name.
+-- The two sides of a constraint S -> T, without paths: the atoms of S with its masks M1, the atom of T with its masks M.
+-- `names` gives each mask number its name.
 pub record Sides : Type 0 where
   pub names : List Name
   pub from : List Atom
-  pub hidden : Masks
+  pub from_masks : Masks
   pub to : Atom
-  pub masks : Masks
+  pub to_masks : Masks
 
 -- the family of T, which is the first name of its atom
 abbrev pub target_family : Atom → Option Name
@@ -36,8 +36,8 @@ pub record Turns (p : Program) (c : Sides) (U W : Path) : Type 0 where
 
 -- the field f of W is in M, or is a field of U of the same slot and not in M1
 pub data Passes (p : Program) (c : Sides) (U W : Path) (f : Name) : Type 0 where
-  masked : Masked c.names c.masks f → Passes p c U W f
-  same_slot : (s : Slot) → HasField p U f → IsSlot p U f s → IsSlot p W f s → (Masked c.names c.hidden f → ⊥) → Passes p c U W f
+  masked : Masked c.names c.to_masks f → Passes p c U W f
+  same_slot : (s : Slot) → HasField p U f → IsSlot p U f s → IsSlot p W f s → (Masked c.names c.from_masks f → ⊥) → Passes p c U W f
 
 -- U has a counterpart W in T's family that is in T, and each field of W passes
 pub record IsGranted (p : Program) (c : Sides) (U : Path) : Type 0 where

@@ -9,7 +9,7 @@ use Rattle.jn_base.specs.Paths.{Path}
 use Rattle.jn_base.specs.Supers.{Sup}
 use Rattle.jn_base.specs.Atoms.{Atom, atoms_in, Among}
 use Rattle.jn_base.specs.Scopes.{Bind, Scope, bound_of, bound}
-use Rattle.jn_base.specs.Fits.{Anchored, IsClass, TypeFits, BindsFit}
+use Rattle.jn_base.specs.Fits.{Anchored, IsClassType, TypeFits, BindsFit}
 use Rattle.jn_sem.specs.Sets.{Views, Seen, AnchorSeen, view_at, InAtom, InType, Respects}
 use Rattle.jn_sem.specs.Values.{Value, ValueIn}
 use Rattle.jn_sem.specs.Widening.{Widens}
@@ -76,7 +76,7 @@ NormalTypes = (s : Scope) → NormalTypesOf s
 pub record BelowOrderOf (p : Program) (s : Scope) : Type 0 where
   pub ints : Below p s ty.Int ty.Int
   pub booleans : Below p s ty.Bool ty.Bool
-  pub classes : (t : Ty) → IsClass t → Below p s t t
+  pub classes : (t : Ty) → IsClassType t → Below p s t t
   pub joined : (t u w : Ty) → Below p s t u → Below p s u w → Below p s t w
 
 abbrev pub BelowOrder : Type 0

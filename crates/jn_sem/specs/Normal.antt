@@ -13,7 +13,7 @@ use Rattle.jn_base.specs.declared.types.Ty.{Ty}
 use Rattle.jn_base.specs.declared.types.Ty.TheVariants as ty
 use Rattle.jn_base.specs.Atoms.{Atom, atom, atoms_in, Among}
 use Rattle.jn_base.specs.Scopes.{Bind, Scope}
-use Rattle.jn_base.specs.Fits.{IsClass, AtomsFit}
+use Rattle.jn_base.specs.Fits.{IsClassType, AtomsFit}
 use Rattle.jn_sem.specs.Sets.{Views}
 use Rattle.jn_sem.specs.Widening.{reduced}
 
@@ -132,7 +132,7 @@ TypeSubst s f ty.Void u = u ≡ ty.Void
 
 -- t with its paths replaced fits the scope
 abbrev pub MovedFits : Scope → (ℕ → ℕ) → Ty → Type 0
-MovedFits s f t = IsClass t → AtomsFit s (map (moved f) (atoms_in t))
+MovedFits s f t = IsClassType t → AtomsFit s (map (moved f) (atoms_in t))
 
 -- u is Normal(s, t): no path is replaced
 abbrev pub same_path : ℕ → ℕ

@@ -1,5 +1,5 @@
 -- Run: what a program prints and how it ends, with so many charges, this arena and this depth.
-use Rattle.std.specs.Prelude.{◌≡◌, ℕ, suc, List, [], ◌∷◌, ◌++◌, length, take, false, not, Option, Some, None, nat_lt}
+use Rattle.std.specs.Prelude.{◌≡◌, ℕ, suc, List, [], ◌∷◌, ◌++◌, length, take, false, not, cond, Option, Some, None, nat_lt}
 use Rattle.jn_steps.specs.Runs.{Next, On, End}
 use Rattle.jn_steps.specs.Steps.{Goes, Enters, Leaves, Falls, Faults}
 use Rattle.jn_steps.specs.Frames.{State}
@@ -15,7 +15,7 @@ use Rattle.jn_sem.specs.Acts.{Begin, Open, Todo, todo, stmts_acts}
 use Rattle.jn_sem.specs.State.{Heap, Variable, Frame, frame_views, IsIn, with_values, has_null_path}
 use Rattle.jn_sem.specs.Does.{Ending, Ends, AtNull, Zero, Arena, Depth, Stuck, Entry, Did, kept, Does}
 use Rattle.jn_sem.specs.Asks.{OnTest, OnIf, It}
-use Rattle.jn_sem.specs.Reports.{Reports}
+use Rattle.jn_steps.specs.Reports.{Reports}
 
 -- The list of frames, the one at work first and then the latest of those that wait; the heap; and what was printed.
 abbrev pub Running : Type 0
@@ -39,6 +39,13 @@ abbrev pub ended : Option TypeTerm → List ℕ → Then → Then
 ended None out below = below
 ended (Some t) out below = over (Stuck why.Kind) out
 
+-- A body has ended, with a result or without, and `below` is what the frames below it do then. Where there is no result, and
+-- the first of them waits for one that is kept, the run is Stuck instead.
+abbrev pub resumed : Option Value → List Frame → List ℕ → Then → Then
+resumed (Some v) fs out below = below
+resumed None [] out below = below
+resumed None (f ∷ fs) out below = cond f.keeps (over (Stuck why.Kind) out) below
+
 abbrev pub settled_at : List Todo → Frame → List Frame → Heap → List ℕ → Then → Then
 settled_at (t ∷ k) f fs h out below = On (running (f ∷ fs) h out)
 settled_at [] f fs h out below = ended f.method.result out below
@@ -46,7 +53,7 @@ settled_at [] f fs h out below = ended f.method.result out below
 -- the run ends where no frame is left
 abbrev pub settled : List Frame → Heap → List ℕ → Then
 settled [] h out = over Ends out
-settled (f ∷ fs) h out = settled_at f.todo f fs h out (settled fs h out)
+settled (f ∷ fs) h out = settled_at f.todo f fs h out (resumed None fs out (settled fs h out))
 
 -- the frame that waited has the result among its operands, where it is kept
 abbrev pub given : Option Value → Frame → Frame
@@ -91,7 +98,7 @@ enters p e (r ∷ args) fs h out = begins p (frame_of e r args) fs h out
 abbrev pub proceeds : Program → (depth : ℕ) → Did → List Frame → List ℕ → Then → Type 0
 proceeds p depth (Goes f h bytes) fs out = It (settled (f ∷ fs) h (out ++ bytes))
 proceeds p depth (Enters e args f h) fs out = OnIf (nat_lt (length fs) depth) (It (over Depth out)) (enters p e args (f ∷ fs) h out)
-proceeds p depth (Leaves v h) fs out = It (settled (given_first v fs) h out)
+proceeds p depth (Leaves v h) fs out = It (resumed v fs out (settled (given_first v fs) h out))
 proceeds p depth Falls fs out = It (over (Stuck why.Missing) out)
 proceeds p depth (Faults o) fs out = It (over o out)
 
@@ -156,5 +163,5 @@ pub record Run (p : Program) (b a d : ℕ) (result : Outcome) (output : List ℕ
   pub outcome : result ≡ outcome_of ending
   pub reports : Reports (Charge p a d) shown b (On start) (record { outcome = ending; output = output })
 
--- Example (TwoPrints): `class Main { void main() { print(1); print(2); } }` ends with six charges and has printed 1 and 2; with
+-- Example: `class Main { void main() { print(1); print(2); } }` ends with six charges and has printed 1 and 2; with
 -- five it has printed 1, and the outcome is More.

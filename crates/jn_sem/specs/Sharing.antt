@@ -60,7 +60,7 @@ pub record Counterpart (p : Program) (Y : Name) (U W : Path) : Type 0 where
   pub related : Related p U W
 
 -- Example: with `package base { class Lit { .. } }` and `package disp extends base adapts base { }` the classes base.Lit and
--- disp.Lit are related, and each is the other's counterpart in its family (SlotsExample). Where `package more extends base
+-- disp.Lit are related, and each is the other's counterpart in its family. Where `package more extends base
 -- adapts base { }` is there too, all three are one group.
 
 -- ---- types that hang on `this`

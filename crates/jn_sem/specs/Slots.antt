@@ -13,10 +13,6 @@ use Rattle.jn_sem.specs.Values.{HasField}
 use Rattle.jn_sem.specs.Sharing.{IsClass, Related, Counterpart, family_of, HangsOnThis}
 use Rattle.jn_sem.specs.Terms.{FieldTypeIs}
 
--- no path has a view
-abbrev pub no_views : Views
-no_views q = None
-
 -- `this` has the view V, and no other path has one
 abbrev pub this_viewed : Path → Views
 this_viewed V q = cond (nat_eq q 0) (Some V) None
@@ -139,5 +135,5 @@ pub record IsSize (p : Program) (V : Path) (size : ℕ) : Type 0 where
   pub once : (i j : ℕ) (s : Slot) → slice_get slots i ≡ Some s → slice_get slots j ≡ Some s → i ≡ j
   pub is : size ≡ suc (length slots)
 
--- Examples (SlotsExample): v of base.Lit and disp.Lit is one slot, tag of disp.Lit another, and the size is 3. Where an Exp of
+-- Examples (worked out in `jn_sem_rows`): v of base.Lit and disp.Lit is one slot, tag of disp.Lit another, and the size is 3. Where an Exp of
 -- disp has a field that an Exp of base hasn't, a field `Exp l` has two slots. A field `Lit next` of the class Lit has one.

@@ -23,8 +23,8 @@ pub record Stored : Type 0 where
   pub slot : Slot
   pub value : Value
 
--- An object is a group and a finite map from slots to values. The group is that of the class as which the object was made;
--- the map has the latest value of a slot first, and the first one counts.
+-- An object is a group and a finite map from slots to values. The group is that of the class as which the object was made.
+-- The first value of a slot is put last, and each further one takes the place of the one before.
 pub record Object : Type 0 where
   pub made : Path
   pub stored : List Stored
@@ -50,9 +50,14 @@ stored_value xs s = option_map (λ (x : Stored). x.value) (find (λ (x : Stored)
 abbrev pub slot_value : Heap → ℕ → Slot → Option Value
 slot_value h o s = option_and_then (λ (x : Object). stored_value x.stored s) (slice_get h.objects o)
 
+-- The slot gets the value, in its own place; one that has none yet comes last.
+abbrev pub with_stored : List Stored → Slot → Value → List Stored
+with_stored [] s v = record { slot = s; value = v } ∷ []
+with_stored (x ∷ xs) s v = cond (same_slot x.slot s) (record x { value = v } ∷ xs) (x ∷ with_stored xs s v)
+
 -- the slot of this object gets the value
 abbrev pub with_slot : Heap → ℕ → Object → Slot → Value → Heap
-with_slot h o x s v = record h { objects = slice_set h.objects o (record x { stored = record { slot = s; value = v } ∷ x.stored }) }
+with_slot h o x s v = record h { objects = slice_set h.objects o (record x { stored = with_stored x.stored s v }) }
 
 -- one more object
 abbrev pub with_object : Heap → (size : ℕ) → Object → Heap
@@ -69,7 +74,7 @@ pub record HasValue (p : Program) (h : Heap) (object : ℕ) (V : Path) (f : Name
 abbrev pub IsIn : Program → Views → Heap → Ty → Value → Type 0
 IsIn p v h t value = ValueIn p (mask_names p) v (HasValue p h) t value
 
--- Example: a new base.Lit (SlotsExample) has 0 in the slot of v, and the slot of tag has no value. So a reference to it with
+-- Example: a new base.Lit has 0 in the slot of v, and the slot of tag has no value. So a reference to it with
 -- the view disp.Lit is in the type disp.Lit\tag, and not yet in disp.Lit.
 
 -- ---- frames

@@ -4,13 +4,3 @@ ghost use Rattle.jn_sem.specs.LawsOfActs.{ActsAre};
 pub fn acts_are()
     ensures { ActsAre }
 {}
-
-#[cfg(test)]
-mod tests {
-    use super::acts_are;
-
-    #[test]
-    fn the_law_holds() {
-        acts_are();
-    }
-}

@@ -9,14 +9,3 @@ pub fn finds_one()
 pub fn finds_one_in()
     ensures { FindsOneIn }
 {}
-
-#[cfg(test)]
-mod tests {
-    use super::*;
-
-    #[test]
-    fn each_law_holds() {
-        finds_one();
-        finds_one_in();
-    }
-}

@@ -4,13 +4,3 @@ ghost use Rattle.jn_sem.specs.LawsOfHeaps.{HeapLaws};
 pub fn heap_laws()
     ensures { HeapLaws }
 {}
-
-#[cfg(test)]
-mod tests {
-    use super::heap_laws;
-
-    #[test]
-    fn the_laws_hold() {
-        heap_laws();
-    }
-}

@@ -35,19 +35,3 @@ pub fn growth()
 pub fn searching()
     ensures { Searching }
 {}
-
-#[cfg(test)]
-mod tests {
-    use super::*;
-
-    #[test]
-    fn each_law_holds() {
-        widening();
-        substitution();
-        normal_form();
-        normal_types();
-        below_order();
-        growth();
-        searching();
-    }
-}

@@ -8,8 +8,5 @@ pub mod finding;
 pub mod heaps;
 pub mod laws;
 pub mod outcome;
-pub mod run_examples;
 pub mod runs;
 pub mod sharing;
-pub mod sharing_examples;
-pub mod type_examples;

@@ -14,15 +14,3 @@ pub fn run_is_there()
 pub fn run_goes_on()
     ensures { RunGoesOn }
 {}
-
-#[cfg(test)]
-mod tests {
-    use super::*;
-
-    #[test]
-    fn each_law_holds() {
-        run_is_one();
-        run_is_there();
-        run_goes_on();
-    }
-}

@@ -17,15 +17,3 @@ pub fn slot_laws()
 pub fn fields_pass()
     ensures { FieldsPassThere }
 {}
-
-#[cfg(test)]
-mod tests {
-    use super::{fields_pass, sharing_laws, slot_laws};
-
-    #[test]
-    fn the_laws_hold() {
-        sharing_laws();
-        slot_laws();
-        fields_pass();
-    }
-}

@@ -1,5 +1,6 @@
 -- Runs with more steps.
 use Rattle.std.proofs.Common.{◌≡◌, ℕ, zero, suc, ◌+◌, ◌-◌, List, [], ◌++◌, refl, sym, ap, ◌∙◌, subst, arith, append_assoc, zero-add, suc-add}
+use Rattle.std.specs.Prelude.{IsSome}
 use Rattle.std.proofs.lemmas.List.{append-nil}
 use Rattle.jn_steps.specs.Runs.{Report, Next, On, End, and_then, after, report, run}
 use Rattle.jn_steps.specs.Laws.{IsPrefix, GoesOn, KeepsOutput, OutputGrows, RunsGoOn, RunsInParts}
@@ -13,6 +14,12 @@ prefix_trans a b c p q = (p.0 ++ q.0, sym (append_assoc a p.0 q.0) ∙ ap (λ (x
 pub goes_on_refl : {O : Type 0} (r : Report O) → GoesOn r r
 goes_on_refl r = record { output = prefix_refl r.output; ended = λ e. refl }
 
+pub goes_on_trans : {O : Type 0} (q r s : Report O) → GoesOn q r → GoesOn r s → GoesOn q s
+goes_on_trans {O} q r s a b = record {
+  output = prefix_trans q.output r.output s.output a.output b.output;
+  ended = λ h. b.ended (subst (λ (x : Report O). IsSome x.outcome) (sym (a.ended h)) h) ∙ a.ended h;
+}
+
 module _ {S O : Type 0} (step : S → Next S O) where
   pub in_parts : RunsInParts step
   in_parts zero n s = ap (λ k. after step k s) (zero-add n)
@@ -21,6 +28,13 @@ module _ {S O : Type 0} (step : S → Next S O) where
       at_next : ((t : S) → after step (m + n) t ≡ and_then (after step m t) (after step n)) → (x : Next S O) → and_then x (after step (m + n)) ≡ and_then (and_then x (after step m)) (after step n)
       at_next ih (On t) = ih t
       at_next ih (End o bytes) = refl
+
+  -- the steps after those that led to a state, or to an end
+  pub after_on : (m n : ℕ) (s t : S) → after step m s ≡ On t → after step (m + n) s ≡ after step n t
+  after_on m n s t e = in_parts m n s ∙ ap (λ x. and_then x (after step n)) e
+
+  pub after_end : (m n : ℕ) (s : S) (o : O) (bytes : List ℕ) → after step m s ≡ End o bytes → after step (m + n) s ≡ End o bytes
+  after_end m n s o bytes e = in_parts m n s ∙ ap (λ x. and_then x (after step n)) e
 
   module _ (shown : S → List ℕ) (grows : OutputGrows step shown) where
     pub output_grows : (n : ℕ) (s : S) → IsPrefix (shown s) (run step shown n s).output

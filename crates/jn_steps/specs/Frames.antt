@@ -1,4 +1,5 @@
--- A machine over frames: one is at work, the others wait for the result of the one before them.
+-- A machine over frames: one is at work, the others wait for the result of the one before them. Its states are those of the
+-- meaning of a program too.
 use Rattle.std.specs.Prelude.{ℕ, List, [], ◌∷◌, ◌++◌, length, Option, Some, None, nat_lt, if◌then◌else◌}
 use Rattle.jn_steps.specs.Runs.{Next, On, End}
 use Rattle.jn_steps.specs.Steps.{Step, Goes, Enters, Leaves, Falls, Faults}

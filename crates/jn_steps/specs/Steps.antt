@@ -1,5 +1,5 @@
--- What a frame does in one step, and how it takes its operands. The meaning of a program and the machine are both written
--- with these words, in the same order.
+-- What a frame does in one step, in the words of the meaning of a program and of the machine alike, and how the machine
+-- takes its operands.
 use Rattle.std.specs.Prelude.{ℕ, zero, suc, List, [], ◌∷◌, Option, Some, None}
 
 -- What the frame at work does, where it finds a heap: frames F, heaps H, bodies B that can be called, values V, outcomes O.

@@ -1,6 +1,7 @@
 ghost use Rattle.std.specs.Prelude.{◌≡◌, List, ℕ, ◌∷◌, pos, negsuc, true, []};
 ghost use Rattle.jn_steps.specs.Runs.{Next};
 ghost use Rattle.jn_steps.specs.Laws.{OutputGrows, RunsGoOn, RunsInParts};
+ghost use Rattle.jn_steps.specs.Reports.{Leads, StepsKeep, StopsEarlier, ReportsTheRun};
 ghost use Rattle.jn_steps.specs.Frames.{Rules, State, machine_step};
 ghost use Rattle.jn_steps.specs.Numbers.{sum_of, difference_of, product_of, negation_of, quotient_of, remainder_of, number_line, truth_line};
 
@@ -11,6 +12,16 @@ ghost use Rattle.jn_steps.specs.Numbers.{sum_of, difference_of, product_of, nega
 pub fn runs_go_on<S, O>()
     ensures go_on { (step : S → Next S O) (shown : S → List ℕ) → OutputGrows step shown → RunsGoOn step shown }
     ensures parts { (step : S → Next S O) → RunsInParts step }
+{}
+
+/// Runs of steps that are said by a relation, over any states `S`, outcomes `O` and steps `T`. It does nothing.
+///
+/// Where each step keeps what was put, there is a report of a run that was stopped earlier, and the later report goes on from
+/// it. Where a function tells the step, the report is that of its run.
+pub fn reports_stop_earlier<S, O, T>()
+    ensures earlier { (from : T → S) (to : T → Next S O) (shown : S → List ℕ) → StepsKeep (Leads from to) shown →
+        StopsEarlier (Leads from to) shown }
+    ensures run { (step : S → Next S O) (shown : S → List ℕ) → ReportsTheRun step shown }
 {}
 
 /// A machine over frames `F` and a heap `H`, whatever its rules, goes on from where it was when it has more steps. It does
@@ -35,15 +46,3 @@ pub fn number_rows()
     ensures number { number_line (negsuc 11) ≡ 45 ∷ 49 ∷ 50 ∷ 10 ∷ [] }
     ensures truth { truth_line true ≡ 116 ∷ 114 ∷ 117 ∷ 101 ∷ 10 ∷ [] }
 {}
-
-#[cfg(test)]
-mod tests {
-    use super::{machines_go_on, number_rows, runs_go_on};
-
-    #[test]
-    fn the_laws_are_there() {
-        runs_go_on::<u8, u8>();
-        machines_go_on::<u8, u8, u8, u8, u8>();
-        number_rows();
-    }
-}

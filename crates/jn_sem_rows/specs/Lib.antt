@@ -1,0 +1,5 @@
+pub mod OperatorsExample
+pub mod TwoPrints
+pub mod SlotsExample
+pub mod BelowExample
+pub mod TypesExample
