@@ -32,7 +32,7 @@ drop_nil : {A : Type 0} (n : ℕ) → drop {A = A} n [] ≡ []
 drop_nil zero = refl
 drop_nil (suc n) = refl
 
-drop_one : {A : Type 0} (n : ℕ) (xs : List A) → drop n (drop 1 xs) ≡ drop (suc n) xs
+pub drop_one : {A : Type 0} (n : ℕ) (xs : List A) → drop n (drop 1 xs) ≡ drop (suc n) xs
 drop_one n [] = drop_nil n
 drop_one n (x ∷ xs) = refl
 
@@ -41,16 +41,16 @@ one_drop zero xs = refl
 one_drop (suc n) [] = refl
 one_drop (suc n) (x ∷ xs) = one_drop n xs
 
-each_long : {A : Type 0} (xs : List A) → length (each_some xs) ≡ length xs
+pub each_long : {A : Type 0} (xs : List A) → length (each_some xs) ≡ length xs
 each_long [] = refl
 each_long (x ∷ xs) = ap suc (each_long xs)
 
-each_both : {A : Type 0} (xs ys : List A) → each_some (xs ++ ys) ≡ each_some xs ++ each_some ys
+pub each_both : {A : Type 0} (xs ys : List A) → each_some (xs ++ ys) ≡ each_some xs ++ each_some ys
 each_both [] ys = refl
 each_both (x ∷ xs) ys = ap (λ zs. Some x ∷ zs) (each_both xs ys)
 
 -- the arguments and the receiver are dropped
-dropped : (ps js : List OperandKind) → drop 1 (drop (length ps) js) ≡ drop (length (each_some (ps ++ one kind.Reference))) js
+pub dropped : (ps js : List OperandKind) → drop 1 (drop (length ps) js) ≡ drop (length (each_some (ps ++ one kind.Reference))) js
 dropped ps js =
     let a : length (each_some (ps ++ one kind.Reference)) ≡ length (ps ++ one kind.Reference) = each_long (ps ++ one kind.Reference) in
     let b : length (ps ++ one kind.Reference) ≡ length ps + 1 = length-append ps (one kind.Reference) in
