@@ -1,3 +1,6 @@
+mod ActTools
+mod MainTools
+mod VoidOperandProof
 mod TwoPrintsProof
 mod BelowProof
 mod SlotTools

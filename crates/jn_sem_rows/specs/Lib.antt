@@ -3,3 +3,5 @@ pub mod TwoPrints
 pub mod SlotsExample
 pub mod BelowExample
 pub mod TypesExample
+pub mod MainAlone
+pub mod VoidOperand
