@@ -1,5 +1,9 @@
 mod ActTools
 mod MainTools
+mod MainTypes
+mod MainRunsProof
+mod CallsProof
+mod RecursionProof
 mod VoidOperandProof
 mod TwoPrintsProof
 mod BelowProof

@@ -4,7 +4,8 @@ use Rattle.std.specs.Prelude.{◌≤◌, codes, cond, nat_lt, nat_le}
 use Rattle.std.specs.List.{list_all}
 use Rattle.std.specs.List.Sorted.{IsStrictlySortedBy}
 use Rattle.jn_reach.specs.Each.{Each, none, more}
-use Rattle.jn_steps.specs.Runs.{On}
+use Rattle.jn_steps.specs.Runs.{Report, On}
+use Rattle.jn_steps.specs.Reports.{Reports}
 use Rattle.jn_steps.specs.Steps.{Goes, Enters}
 use Rattle.jn_base.specs.declared.tree.Name.{Name}
 use Rattle.jn_base.specs.declared.tree.Text.{Text}
@@ -18,7 +19,7 @@ use Rattle.jn_base.specs.declared.tree.Program.{Program}
 use Rattle.jn_base.specs.declared.names.Var.{Var}
 use Rattle.jn_base.specs.ClassOrder.{bytes_of}
 use Rattle.jn_base.specs.Paths.{Path, StandsIn, StandsAt, Declared, nested, methods, fields}
-use Rattle.jn_base.specs.Supers.{Sup, itself, above, Direct}
+use Rattle.jn_base.specs.Supers.{Sup, itself, above, Direct, Member}
 use Rattle.jn_base.specs.Members.{MethodAt}
 use Rattle.jn_base.proofs.NameTests.{in_cons, in_none, first, later, same_name, itself_named, passes}
 use Rattle.jn_base.proofs.SuperLaws.{top_direct}
@@ -29,8 +30,8 @@ use Rattle.jn_sem.specs.Values.{HasField}
 use Rattle.jn_sem.specs.Sharing.{IsClass}
 use Rattle.jn_sem.specs.Slots.{Slot, SlotOfGroup, IsSize}
 use Rattle.jn_sem.specs.State.{Stored, Frame}
-use Rattle.jn_sem.specs.Does.{Body, IsBody, IsConstructorBody, AreParams, AreFresh, IsFresh, IsSpelled}
-use Rattle.jn_sem.specs.Run.{Running, running, start, settled, Charge}
+use Rattle.jn_sem.specs.Does.{Ending, Body, IsBody, IsConstructorBody, AreParams, AreFresh, IsFresh, IsSpelled}
+use Rattle.jn_sem.specs.Run.{Running, running, start, shown, settled, Charge}
 use Rattle.jn_sem.proofs.Sure.{if_so}
 use Rattle.jn_sem.proofs.FindingLaws.{finds_one}
 use Rattle.jn_sem_rows.specs.MainAlone.{Main, main, text, main_class, main_alone, main_method}
@@ -81,9 +82,9 @@ named_kept : (xs : List Method) (m : Name) (y : Method) → Contains xs y → y.
 named_kept [] m y c n = absurd (in_none y c)
 named_kept (x ∷ xs) m y c n =
     kept_in x xs m y (nat_eq x.name.name.0 m.0) refl n (either (in_cons x xs y c) (λ d. named_kept xs m y d n)) where
-  either : {A B C : Type 0} → A ⊎ B → (B → C) → A ⊎ C
-  either (inl a) f = inl a
-  either (inr b) f = inr (f b)
+      either : {A B C : Type 0} → A ⊎ B → (B → C) → A ⊎ C
+      either (inl a) f = inl a
+      either (inr b) f = inr (f b)
 
 record Named (xs : List Method) (m : Name) (y : Method) : Type 0 where
   has : Contains xs y
@@ -188,6 +189,15 @@ module _ (names : List Text) (ms : List Method) where
     universe = (tt, top_member p Main refl);
     kind = record { at = Main ∷ []; super = itself; decl = main_class ms; stands = the_stands; is = refl };
   }
+
+  pub the_member : Member p [] Main
+  the_member = record { at = []; super = itself; declared = record { decl = main_class ms; stands = the_stands } }
+
+  -- no name is declared in Main
+  pub nothing_in : (C : Name) → Member p (Main ∷ []) C → ⊥
+  nothing_in C m =
+      let s = subst (λ (R : Path). Declared p (C ∷ R)) (main_sup m.at m.super) m.declared in
+      nothing_inside [] Main s.decl s.stands.0
 
   -- ---- an object of Main is one cell
 
@@ -317,3 +327,10 @@ module _ (names : List Text) (ms : List Method) where
       proceeds = if_so (nat_lt 0 d) _ _ _ frames (holds (λ x m. elim m [ ])
           (ap (λ (k : List Todo). settled (in_body (main_method ss) k ∷ starting [] [] ∷ []) one_object []) (sym acts)));
     }
+
+    -- the two charges before the first act of `main`
+    pub begun : (d : ℕ) (ss : List Stmt) (t : Todo) (k : List Todo) → nat_lt 0 d ≡ true → with_name ms main ≡ main_method ss ∷ [] → with_name ms Main ≡ []
+        → stmts_acts 0 1 ss [] ≡ t ∷ k → (n : ℕ) (r : Report Ending)
+        → Reports (Charge p 1 d) shown n (On (running (in_body (main_method ss) (t ∷ k) ∷ starting [] [] ∷ []) one_object [])) r
+        → Reports (Charge p 1 d) shown (suc (suc n)) (On start) r
+    begun d ss t k deep one other acts n r then = (_, make 1 d refl other, (_, open_main 1 d ss t k deep one acts, then))

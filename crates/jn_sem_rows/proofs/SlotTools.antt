@@ -100,7 +100,7 @@ wide_zero (suc (suc zero)) d l = omega arith
 wide_zero (suc (suc (suc zero))) d l = omega arith
 wide_zero (suc (suc (suc (suc k)))) d l = absurd (omega (arith, l))
 
-masks_none : (names : List Name) → MasksAre names [] no_masks
+pub masks_none : (names : List Name) → MasksAre names [] no_masks
 masks_none names = record {
   words = refl;
   wide = wide_zero;

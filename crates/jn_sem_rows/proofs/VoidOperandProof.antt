@@ -50,12 +50,25 @@ module _ (ss : List Stmt) where
   six : (n : ℕ) (r : Report Ending) → Reports (Charge (void_operand ss) 1 2) shown n (On at_six) r
       → Reports (Charge (void_operand ss) 1 2) shown (suc (suc (suc (suc (suc (suc n)))))) (On start) r
   six n r then = (
-    _, make its_names its_methods refl 1 2 refl refl,
-    (_, open_main its_names its_methods refl 1 2 caller.body (todo 0 This) then_acts refl refl main_acts,
-    (_, record { did = _; does = refl; proceeds = refl },
-    (_, record { did = _; does = refl; proceeds = refl },
-    (_, record { did = _; does = refl; proceeds = refl },
-    (_, record { did = _; does = refl; proceeds = refl }, then))))),
+    _,
+    make its_names its_methods refl 1 2 refl refl,
+    (
+      _,
+      open_main its_names its_methods refl 1 2 caller.body (todo 0 This) then_acts refl refl main_acts,
+      (
+        _,
+        record { did = _; does = refl; proceeds = refl },
+        (
+          _,
+          record { did = _; does = refl; proceeds = refl },
+          (
+            _,
+            record { did = _; does = refl; proceeds = refl },
+            (_, record { did = _; does = refl; proceeds = refl }, then),
+          ),
+        ),
+      ),
+    ),
   )
 
   abbrev v_method : Method

@@ -5,3 +5,4 @@ pub mod BelowExample
 pub mod TypesExample
 pub mod MainAlone
 pub mod VoidOperand
+pub mod MainRuns

@@ -90,9 +90,13 @@ variable x = expr (line 1) (node.Var x)
 abbrev pub call : Expr → Name → List Expr → Expr
 call r m args = expr (line 1) (node.Post r (suffix m (line 1) (Some args) ∷ []))
 
+-- a chain of operators of one level
+abbrev pub chain : Level → Expr → List Link → Expr
+chain level e links = expr (line 1) (node.Chain level e links)
+
 -- a o b
 abbrev pub joined : Level → Op → Expr → Expr → Expr
-joined level o a b = expr (line 1) (node.Chain level a (link o (line 1) b ∷ []))
+joined level o a b = chain level a (link o (line 1) b ∷ [])
 
 abbrev pub print : Expr → Stmt
 print e = stmt.Print e (line 1)
