@@ -13,7 +13,8 @@ use Rattle.jn_base.specs.declared.tree.Name.{Name}
 use Rattle.jn_base.specs.declared.tree.Text.{Text}
 use Rattle.jn_base.specs.declared.tree.Program.{Program}
 use Rattle.jn_base.specs.Paths.{Path}
-use Rattle.jn_base.specs.ClassOrder.{bytes_of, name_bytes, name_cmp, class_cmp, class_total, Before, HasDistinctNames, HasItsNames}
+use Rattle.jn_base.specs.NameTexts.{bytes_of}
+use Rattle.jn_base.specs.ClassOrder.{name_bytes, name_cmp, class_cmp, class_total, Before, HasDistinctNames, HasItsNames}
 
 nameless : Text
 nameless = record { bytes = [] }

@@ -27,3 +27,4 @@ pub mod FormEquations
 pub mod FormsFound
 pub mod ResolveOnce
 pub mod ResolveShown
+pub mod SpelledNames

@@ -1,5 +1,5 @@
 -- Atoms and types, and the path that an atom names where each path of a scope stands for a class.
-use Rattle.std.specs.Prelude.{◌≡◌, ℕ, List, [], ◌∷◌, ◌++◌, ◌+◌, ◌/◌, ◌%◌, drop, reverse, map, get_or}
+use Rattle.std.specs.Prelude.{◌≡◌, ◌<◌, ◌^◌, ◌↔◌, ℕ, List, [], ◌∷◌, ◌++◌, ◌+◌, ◌/◌, ◌%◌, All, length, drop, reverse, map, get_or}
 use Rattle.std.specs.Int.{bit_at}
 use Rattle.jn_base.specs.declared.tree.Name.{Name}
 use Rattle.jn_base.specs.declared.types.Anchor.{Anchor}
@@ -67,6 +67,12 @@ pub data Among {A : Type 0} : List A → A → Type 0 where
 -- the mask of this number is in the set
 abbrev pub HasMask : Masks → ℕ → Type 0
 HasMask m i = bit_at (get_or m.0 (i / 64) 0) (i % 64) ≡ 1
+
+-- m has exactly the masks of which T holds, in four words of 64 bits
+pub record MasksOf (T : ℕ → Type 0) (m : Masks) : Type 0 where
+  pub words : length m.0 ≡ 4
+  pub wide : All (λ w. w < 2 ^ 64) m.0
+  pub each : (i : ℕ) → i < 256 → HasMask m i ↔ T i
 
 abbrev pub no_masks : Masks
 no_masks = record { 0 = 0 ∷ 0 ∷ 0 ∷ 0 ∷ [] }

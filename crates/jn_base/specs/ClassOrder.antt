@@ -1,5 +1,5 @@
 -- The class order.
-use Rattle.std.specs.Prelude.{◌≡◌, ◌<◌, ℕ, List, [], length, reverse, slice_get, Option, Some, None, All}
+use Rattle.std.specs.Prelude.{◌≡◌, ◌<◌, ℕ, List, length, reverse, slice_get, Some, All}
 use Rattle.std.specs.declared.cmp.Ordering.{Ordering}
 use Rattle.std.specs.declared.cmp.Ordering.TheVariants.{Less}
 use Rattle.std.specs.Ordering.{nat_cmp, on, then_cmp}
@@ -9,14 +9,11 @@ use Rattle.jn_base.specs.declared.tree.Name.{Name}
 use Rattle.jn_base.specs.declared.tree.Text.{Text}
 use Rattle.jn_base.specs.declared.tree.Program.{Program}
 use Rattle.jn_base.specs.Paths.{Path}
+use Rattle.jn_base.specs.NameTexts.{name_text}
 
 -- the bytes of a name, none where the program has no such name
-abbrev pub bytes_of : Option Text → List ℕ
-bytes_of None = []
-bytes_of (Some text) = text.bytes
-
 abbrev pub name_bytes : Program → Name → List ℕ
-name_bytes p n = bytes_of (slice_get p.names n.0)
+name_bytes p n = name_text p.names n
 
 -- names are ordered by their bytes
 abbrev pub name_cmp : Program → Name → Name → Ordering

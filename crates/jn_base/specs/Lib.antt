@@ -31,3 +31,8 @@ pub mod Places
 pub mod Spelling
 pub mod Tokens
 pub mod Words
+pub mod Limits
+pub mod NameTexts
+pub mod ProgramNames
+pub mod Unplaced
+pub mod WithinLimits

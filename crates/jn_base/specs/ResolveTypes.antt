@@ -1,5 +1,5 @@
 -- What a type or a view stands for: its atoms with its masks, or the first refusal. The numbers of masks.
-use Rattle.std.specs.Prelude.{◌≡◌, ◌<◌, ◌^◌, ℕ, Bool, true, false, not, List, [], ◌∷◌, ◌++◌, length, All, Contains, slice_get, Option, Some, None, Result, Ok, Err, ◌⊎◌, ◌↔◌}
+use Rattle.std.specs.Prelude.{◌≡◌, ℕ, Bool, true, false, not, List, [], ◌∷◌, ◌++◌, length, Contains, slice_get, Option, Some, None, Result, Ok, Err, ◌⊎◌}
 use Rattle.jn_base.specs.declared.tree.Name.{Name}
 use Rattle.jn_base.specs.declared.tree.Named.{Named}
 use Rattle.jn_base.specs.declared.tree.Term.{Term}
@@ -19,7 +19,7 @@ use Rattle.jn_base.specs.declared.refusal.Refusal.{Refusal}
 use Rattle.jn_base.specs.declared.refusal.Rule.TheVariants as rule
 use Rattle.jn_base.specs.Paths.{Path}
 use Rattle.jn_base.specs.Members.{FieldDecls}
-use Rattle.jn_base.specs.Atoms.{HasMask}
+use Rattle.jn_base.specs.Atoms.{MasksOf}
 use Rattle.jn_base.specs.Duplicates.{only_if, has_name}
 use Rattle.jn_base.specs.Forms.{Mentions, Shared, Adapted, Constrained, Viewed, Termed, Masked, mentions}
 use Rattle.jn_base.specs.Resolve.{bound_at, at_term, Resolve}
@@ -27,14 +27,14 @@ use Rattle.jn_base.specs.Resolve.{bound_at, at_term, Resolve}
 -- ---- the numbers of masks
 
 -- the masks that are mentioned, in their order
-abbrev pub masks_in : Mentions → List Name
-masks_in [] = []
-masks_in (Shared n ∷ xs) = masks_in xs
-masks_in (Adapted n ∷ xs) = masks_in xs
-masks_in (Constrained ∷ xs) = masks_in xs
-masks_in (Viewed ∷ xs) = masks_in xs
-masks_in (Termed t ∷ xs) = masks_in xs
-masks_in (Masked n ∷ xs) = n.name ∷ masks_in xs
+abbrev pub mentioned_masks : Mentions → List Name
+mentioned_masks [] = []
+mentioned_masks (Shared n ∷ xs) = mentioned_masks xs
+mentioned_masks (Adapted n ∷ xs) = mentioned_masks xs
+mentioned_masks (Constrained ∷ xs) = mentioned_masks xs
+mentioned_masks (Viewed ∷ xs) = mentioned_masks xs
+mentioned_masks (Termed t ∷ xs) = mentioned_masks xs
+mentioned_masks (Masked n ∷ xs) = n.name ∷ mentioned_masks xs
 
 -- each name where it is first mentioned, but for those in `seen`
 abbrev pub firsts : List Name → List Name → List Name
@@ -43,7 +43,7 @@ firsts seen (n ∷ ns) = only_if (not (has_name seen n)) (n ∷ []) ++ firsts (n
 
 -- The distinct mask names of a program in the order of their first mention as masks. A mask's number is its place in this list.
 abbrev pub mask_names : Program → List Name
-mask_names p = firsts [] (masks_in (mentions p))
+mask_names p = firsts [] (mentioned_masks (mentions p))
 
 -- the mask of this number is one of these names; `names` are the mask names of the program
 pub record IsMask (names : List Name) (ms : List Named) (i : ℕ) : Type 0 where
@@ -52,10 +52,8 @@ pub record IsMask (names : List Name) (ms : List Named) (i : ℕ) : Type 0 where
   pub is : slice_get names i ≡ Some mask.name
 
 -- m is the set of these masks
-pub record MasksAre (names : List Name) (ms : List Named) (m : Masks) : Type 0 where
-  pub words : length m.0 ≡ 4
-  pub wide : All (λ w. w < 2 ^ 64) m.0
-  pub each : (i : ℕ) → i < 256 → HasMask m i ↔ IsMask names ms i
+abbrev pub MasksAre : List Name → List Named → Masks → Type 0
+MasksAre names ms m = MasksOf (IsMask names ms) m
 
 -- ---- the masks of a type
 

@@ -1,5 +1,5 @@
 -- The programs of sources, and steps 1 to 3 of the verdict: what is refused of a source's text and words.
-use Rattle.std.specs.Prelude.{◌≡◌, ◌≤◌, ◌<◌, ℕ, nat_lt, List, [], ◌∷◌, ◌++◌, Option, Some, None, All, Contains, length, map, slice_get, if◌then◌else◌}
+use Rattle.std.specs.Prelude.{◌≡◌, ◌≤◌, ◌<◌, ℕ, suc, nat_lt, List, [], ◌∷◌, ◌++◌, Option, Some, None, All, Contains, length, map, slice_get, if◌then◌else◌}
 use Rattle.std.specs.Str.{IsValidUpTo}
 use Rattle.jn_base.specs.declared.tree.Decl.{Decl}
 use Rattle.jn_base.specs.declared.tree.Place.{Place}
@@ -14,6 +14,7 @@ use Rattle.jn_base.specs.declared.word.Word.{Word}
 use Rattle.jn_base.specs.declared.word.Word.TheVariants as word
 use Rattle.jn_base.specs.declared.word.Mark.TheVariants.{Backslash}
 use Rattle.jn_base.specs.declared.word.Lexeme.{Lexeme}
+use Rattle.jn_base.specs.Limits.{greatest}
 use Rattle.jn_base.specs.Places.{place_of}
 use Rattle.jn_base.specs.Words.{name_number, AreWordsOf}
 use Rattle.jn_base.specs.Parts.{Role, Plain, Opens, Declares, Parameter, Local, Atom, Part, lexeme_of}
@@ -36,24 +37,28 @@ pub record Begins (ws : List Lexeme) : Type 0 where
   pub are_words : map lexeme_of parts ≡ ws
   pub begins : BeginsWith parts
 
--- The limits that the grammar counts, each by its greatest number.
+-- the limit, where the count is over its greatest number
+abbrev pub over : Limit → ℕ → Option Limit
+over l n = if nat_lt (greatest l) n then Some l else None
+
+-- The limits that the grammar counts.
 abbrev pub limit_of : Role → Option Limit
 limit_of Plain = None
-limit_of (Declares n) = if nat_lt 8 n then Some limit.Declarations else None
-limit_of (Opens n) = if nat_lt 200 n then Some limit.Nesting else None
-limit_of (Parameter n) = if nat_lt 15 n then Some limit.Parameters else None
-limit_of (Local n) = if nat_lt 200 n then Some limit.Locals else None
-limit_of (Atom n) = if nat_lt 8 n then Some limit.Atoms else None
+limit_of (Declares n) = over limit.Declarations n
+limit_of (Opens n) = over limit.Nesting n
+limit_of (Parameter n) = over limit.Parameters n
+limit_of (Local n) = over limit.Locals n
+limit_of (Atom n) = over limit.Atoms n
 
 abbrev pub mask_then : Word → Option ℕ → List ℕ → List ℕ
 mask_then (word.Mark Backslash) (Some n) ns = n ∷ ns
 mask_then w n ns = ns
 
 -- the numbers of the names of masks: those behind a backslash
-abbrev pub masks_in : List Lexeme → List ℕ
-masks_in [] = []
-masks_in (w ∷ []) = []
-masks_in (w ∷ v ∷ ws) = mask_then w.word (name_number v.word) (masks_in (v ∷ ws))
+abbrev pub mask_numbers : List Lexeme → List ℕ
+mask_numbers [] = []
+mask_numbers (w ∷ []) = []
+mask_numbers (w ∷ v ∷ ws) = mask_then w.word (name_number v.word) (mask_numbers (v ∷ ws))
 
 -- among the numbers stand this many different ones
 pub record HasDifferent (count : ℕ) (numbers : List ℕ) : Type 0 where
@@ -68,9 +73,10 @@ pub data Passes (front : List Lexeme) (t : Lexeme) : Limit → Type 0 where
   counted : (ts : List Part) (p : Part) {l : Limit} → map lexeme_of ts ≡ front → lexeme_of p ≡ t → BeginsWith (ts ++ p ∷ [])
       → limit_of p.role ≡ Some l → Passes front t l
   -- the 257th different name of a mask
-  masks : HasDifferent 257 (masks_in (front ++ t ∷ [])) → (HasDifferent 257 (masks_in front) → ⊥) → Passes front t limit.Masks
+  masks : HasDifferent (suc (greatest limit.Masks)) (mask_numbers (front ++ t ∷ []))
+      → (HasDifferent (suc (greatest limit.Masks)) (mask_numbers front) → ⊥) → Passes front t limit.Masks
   -- the 65,536th name, and each after it: they are numbered from 0
-  names : (n : ℕ) → name_number t.word ≡ Some n → 65535 ≤ n → Passes front t limit.Names
+  names : (n : ℕ) → name_number t.word ≡ Some n → greatest limit.Names ≤ n → Passes front t limit.Names
 
 -- Of two limits that one word passes, the first here counts. The last two are no limits of words.
 abbrev pub rank : Limit → ℕ

@@ -48,21 +48,3 @@ pub fn terms_resolved()
 pub fn masks_resolved()
     ensures { MaskExamples }
 {}
-
-#[cfg(test)]
-mod tests {
-    use super::*;
-
-    #[test]
-    fn each_example_holds() {
-        joined_families();
-        conflict();
-        cycle();
-        two_kinds();
-        joined_members();
-        names_twice();
-        table_verdicts();
-        terms_resolved();
-        masks_resolved();
-    }
-}

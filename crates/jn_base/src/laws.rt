@@ -1,4 +1,5 @@
 ghost use Rattle.jn_base.specs.ResolveLaws.{ResolvedOnce};
+ghost use Rattle.jn_base.specs.ProgramNames.{SpelledIsNamed};
 ghost use Rattle.jn_base.specs.Twice.{DuplicatesAreTwice};
 ghost use Rattle.jn_base.specs.LawsOfTable.{NothingTwice, MembersAreOne, UniverseNamed, DeclarationsVerdictIsOne, HomesExist};
 ghost use Rattle.jn_base.specs.LawsOfSupers.{DirectSupers, TopLevel, Levels, Heirs, SupersChain, MembersInherited, SupersOfMembers, UniverseClosed, ReachClosed, StrictOrder};
@@ -88,28 +89,7 @@ pub fn resolved_once()
     ensures { ResolvedOnce }
 {}
 
-#[cfg(test)]
-mod tests {
-    use super::*;
-
-    #[test]
-    fn each_law_holds() {
-        direct_supers();
-        top_level();
-        levels();
-        heirs();
-        supers_chain();
-        members_inherited();
-        supers_of_members();
-        universe_closed();
-        reach_closed();
-        strict_order();
-        nothing_twice();
-        members_are_one();
-        universe_named();
-        declarations_verdict_is_one();
-        homes_exist();
-        duplicates_are_twice();
-        resolved_once();
-    }
-}
+/// A program that a source spells has its names: equal ones have one number, and each of a declaration is one of its own.
+pub fn spelled_is_named()
+    ensures { SpelledIsNamed }
+{}

@@ -9,6 +9,7 @@
 //! the definitions, `examples` small programs worked out by them.
 #![tactic(auto)]
 
+pub mod compare;
 pub mod examples;
 pub mod forms;
 pub mod laws;

@@ -9,6 +9,7 @@ ghost use Rattle.jn_table.specs.Rows.{IsNumber, HasField};
 ghost use Rattle.jn_table.specs.Tables.{IsFilledAt, IsFilled};
 ghost use Rattle.jn_bounds.specs.Bounds.{HasNone, AddsPaths};
 
+use jn_base::compare::{has_name, same_names};
 use jn_base::path::Path;
 use jn_base::tree::{Kind, Name};
 use jn_table::{ClassId, Table};
@@ -122,7 +123,7 @@ impl Bound {
     pub fn is(&self, other: &Bound) -> bool
         ensures { IsTrue result ↔ (self.now ≡ other.now) }
     {
-        same(self.path.names.as_slice(), other.path.names.as_slice())
+        same_names(self.path.names.as_slice(), other.path.names.as_slice())
     }
 
     /// Whether the other path is a super of this one.
@@ -162,7 +163,7 @@ impl Bound {
     {
         match self.number(t) {
             None => false,
-            Some(id) => has(&t.row(id).fields, name),
+            Some(id) => has_name(&t.row(id).fields, name),
         }
     }
 
@@ -207,38 +208,4 @@ fn is_class(kind: Kind) -> bool
         Kind::Class => true,
         Kind::Package => false,
     }
-}
-
-/// Whether the name is in the list.
-pub fn has(names: &[Name], name: Name) -> bool
-    ensures { IsTrue result ↔ Contains names.now name }
-{
-    for other in names {
-        if is_name(*other, name) {
-            return true;
-        }
-    }
-    false
-}
-
-/// Whether the two are one name.
-pub fn is_name(a: Name, b: Name) -> bool
-    ensures { IsTrue result ↔ (a ≡ b) }
-{
-    a.0 == b.0
-}
-
-/// Whether two lists have the same names, in their order.
-pub fn same(names: &[Name], others: &[Name]) -> bool
-    ensures { IsTrue result ↔ (names.now ≡ others.now) }
-{
-    if names.len() != others.len() {
-        return false;
-    }
-    for i in 0..names.len() {
-        if !is_name(names[i], others[i]) {
-            return false;
-        }
-    }
-    true
 }

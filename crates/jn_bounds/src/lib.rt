@@ -7,7 +7,7 @@
 
 mod bound;
 
-pub use bound::{Bound, has, is_name, same};
+pub use bound::Bound;
 
 #[cfg(test)]
 mod tests;

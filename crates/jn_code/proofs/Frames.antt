@@ -10,30 +10,14 @@ use Rattle.jn_code.specs.declared.image.Image.{Image}
 use Rattle.jn_code.specs.declared.image.Shape.{Shape}
 use Rattle.jn_code.specs.declared.image.ClassRow.{ClassRow}
 use Rattle.jn_code.specs.declared.image.Code.{Code}
-use Rattle.jn_code.specs.Kinds.{kind_of, result_kind, locals_of, each_some, list_of, after_it, target_of, goes_on}
+use Rattle.jn_code.specs.Kinds.{kind_of, result_kind, locals_of, each_some, after_it, target_of, goes_on}
 use Rattle.jn_code.specs.Rows.{kind_eq}
 use Rattle.jn_code.specs.Valid.{suits, all_suit}
 use Rattle.jn_code.specs.Known.{KnownAt, SuitsKinds, notes_of}
+use Rattle.jn_code.specs.Going.{Cell, IsRef, IsWord, AreWords, CellHolds, HeapOk, Placed, expected, WaitsFor, result_at, Waiting}
 use Rattle.jn_code.specs.Machine.{Halt, Null, Stuck, Frame, Ref, ref_word, ref_in, class_in, Did, on_ref, on_row}
 use Rattle.jn_code.proofs.Sound.{both_left, both_right, kind_same, get_below, get_there}
-use Rattle.jn_code.proofs.Words.{Cell, IsRef, IsWord, AreWords, CellHolds, HeapOk, Later, words_later, pairs_long, ref_in_word}
-
--- A frame at work or waiting, where these kinds are still to come on top of its operands.
-pub record Placed (i : Image) (p : List Cell) (f : Frame) (above : List OperandKind) : Type 0 where
-  pub code : Code
-  pub is : slice_get i.codes f.code ≡ Some code
-  pub ks : List OperandKind
-  pub known : KnownAt (notes_of i code) f.place (above ++ ks)
-  pub vars : AreWords i p (locals_of code) f.vars
-  pub vals : AreWords i p ks f.vals
-
--- what comes of a result that is kept, or not
-abbrev pub expected : Bool → Option OperandKind → List OperandKind
-expected true r = list_of r
-expected false r = []
-
-abbrev pub WaitsFor : Image → List Cell → Frame → Option OperandKind → Type 0
-WaitsFor i p f r = Placed i p f (expected f.keeps r)
+use Rattle.jn_code.proofs.Words.{Later, words_later, pairs_long, ref_in_word}
 
 -- what a code of this result kind hands back
 abbrev pub HandsBack : Image → List Cell → Option OperandKind → Option ℤ → Type 0
@@ -41,18 +25,6 @@ HandsBack i p None None = Unit {0}
 HandsBack i p None (Some z) = ⊥
 HandsBack i p (Some k) None = ⊥
 HandsBack i p (Some k) (Some z) = IsWord i p k z
-
-abbrev pub code_result : Option Code → Option OperandKind
-code_result None = None
-code_result (Some c) = result_kind c.result
-
-abbrev pub result_at : Image → ℕ → Option OperandKind
-result_at i b = code_result (slice_get i.codes b)
-
--- those that wait for a result of this kind, or for none
-abbrev pub Waiting : Image → List Cell → Option OperandKind → List Frame → Type 0
-Waiting i p r [] = Unit {0}
-Waiting i p r (f ∷ fs) = WaitsFor i p f r × Waiting i p (result_at i f.code) fs
 
 -- what a frame of code b may do
 abbrev pub DoesOk : Image → ℕ → List Cell → ℕ → Did → Type 0

@@ -23,15 +23,16 @@ use Rattle.jn_code.specs.Valid.{suits, all_suit}
 use Rattle.jn_code.specs.Known.{KnownAt, notes_of}
 use Rattle.jn_code.specs.Machine.{Null, Zero, Arena, Stuck, Frame, Ref, ref_word, ref_in, object_in, class_in, truth, word_of, ups_of, member_in, code_in, slot_in, other_in, counterpart_of, ref_viewed, viewed_as, viewed, field_value, object_cells, Did, next, jump, waits, on_call, make, construct, obey}
 use Rattle.jn_code.proofs.Sound.{get_below, get_there, set_long}
-use Rattle.jn_code.proofs.Words.{Cell, Slot, Views, IsRef, IsWord, AreWords, CellHolds, HeapOk, Later, later_refl, words_later, pairs_long, pairs_get, pairs_set, ref_in_word, object_plan, plan_grows, heap_made, new_ref}
+use Rattle.jn_code.specs.Going.{Cell, Slot, Views, IsRef, IsWord, AreWords, CellHolds, HeapOk, code_result}
+use Rattle.jn_code.proofs.Words.{Later, later_refl, words_later, pairs_long, pairs_get, pairs_set, ref_in_word, object_plan, plan_grows, heap_made, new_ref}
 use Rattle.jn_code.proofs.RowFacts.{RowsOk, RowIs, row_is, numbered_is, map_is, then_is, member_there, ups_there, group_there, IsEntry, code_there, IsSlot, slot_there, other_there}
-use Rattle.jn_code.proofs.Frames.{HandsBack, code_result, DoesOk, Ready, push, as_kind, some_there, some_or, if_ok, one_ok, two_ok, shape_ok, ref_ok, row_ok, class_below}
+use Rattle.jn_code.proofs.Frames.{HandsBack, DoesOk, Ready, push, as_kind, some_there, some_or, if_ok, one_ok, two_ok, shape_ok, ref_ok, row_ok, class_below}
 
 drop_nil : {A : Type 0} (n : ℕ) → drop {A = A} n [] ≡ []
 drop_nil zero = refl
 drop_nil (suc n) = refl
 
-drop_one : {A : Type 0} (n : ℕ) (xs : List A) → drop n (drop 1 xs) ≡ drop (suc n) xs
+pub drop_one : {A : Type 0} (n : ℕ) (xs : List A) → drop n (drop 1 xs) ≡ drop (suc n) xs
 drop_one n [] = drop_nil n
 drop_one n (x ∷ xs) = refl
 
@@ -40,16 +41,16 @@ one_drop zero xs = refl
 one_drop (suc n) [] = refl
 one_drop (suc n) (x ∷ xs) = one_drop n xs
 
-each_long : {A : Type 0} (xs : List A) → length (each_some xs) ≡ length xs
+pub each_long : {A : Type 0} (xs : List A) → length (each_some xs) ≡ length xs
 each_long [] = refl
 each_long (x ∷ xs) = ap suc (each_long xs)
 
-each_both : {A : Type 0} (xs ys : List A) → each_some (xs ++ ys) ≡ each_some xs ++ each_some ys
+pub each_both : {A : Type 0} (xs ys : List A) → each_some (xs ++ ys) ≡ each_some xs ++ each_some ys
 each_both [] ys = refl
 each_both (x ∷ xs) ys = ap (λ zs. Some x ∷ zs) (each_both xs ys)
 
 -- the arguments and the receiver are dropped
-dropped : (ps js : List OperandKind) → drop 1 (drop (length ps) js) ≡ drop (length (each_some (ps ++ one kind.Reference))) js
+pub dropped : (ps js : List OperandKind) → drop 1 (drop (length ps) js) ≡ drop (length (each_some (ps ++ one kind.Reference))) js
 dropped ps js =
     let a : length (each_some (ps ++ one kind.Reference)) ≡ length (ps ++ one kind.Reference) = each_long (ps ++ one kind.Reference) in
     let b : length (ps ++ one kind.Reference) ≡ length ps + 1 = length-append ps (one kind.Reference) in

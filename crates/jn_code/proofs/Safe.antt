@@ -14,11 +14,12 @@ use Rattle.jn_code.specs.declared.image.Code.{Code}
 use Rattle.jn_code.specs.Kinds.{kind_of, result_kind, locals_of}
 use Rattle.jn_code.specs.Valid.{IsValid, starts_well}
 use Rattle.jn_code.specs.Known.{KnownAt, notes_of, IsSound}
+use Rattle.jn_code.specs.Going.{StaysGoing, Cell, IsWord, Pairs, AreWords, HeapOk, Placed, expected, WaitsFor, code_result, result_at, Waiting, GoingOn}
 use Rattle.jn_code.specs.Machine.{Halt, Stuck, Frame, Did, move, given_if, given, fresh, rules, Machine, instruct, first_frame, boot}
 use Rattle.jn_code.specs.Never.{NeverStuck}
 use Rattle.jn_code.proofs.Sound.{both_left, get_below, get_there, sound}
-use Rattle.jn_code.proofs.Words.{Cell, IsWord, Pairs, pairs_both, AreWords, HeapOk, zero_words}
-use Rattle.jn_code.proofs.Frames.{Placed, expected, WaitsFor, HandsBack, code_result, result_at, Waiting, DoesOk, Ready, push, some_there, waiting_later}
+use Rattle.jn_code.proofs.Words.{pairs_both, zero_words}
+use Rattle.jn_code.proofs.Frames.{HandsBack, DoesOk, Ready, push, some_there, waiting_later}
 use Rattle.jn_code.proofs.Obeyed.{obeyed}
 
 known_once : {s : List (Option (List OperandKind))} {t : ℕ} {js ks : List OperandKind} → KnownAt s t js → KnownAt s t ks → js ≡ ks
@@ -50,17 +51,6 @@ moved i m p f h ok hp w =
     let r = ready i p f ok w in
     let Ok : Did → Type 0 = DoesOk i m p f.code in
     some_there i p Ok Stuck (slice_get i.codes f.code) w.code _ w.is (some_there i p Ok Stuck (slice_get w.code.instrs f.place) r.0 _ r.1.at (obeyed i m ok.rows p f w.code w.ks h hp r.0 r.1))
-
--- the frame at work and those that wait
-pub record Going (i : Image) (m : ℕ) (f : Frame) (fs : List Frame) (h : List ℤ) : Type 0 where
-  pub plan : List Cell
-  pub heap : HeapOk i m plan h
-  pub active : Placed i plan f []
-  pub waiting : Waiting i plan (result_at i f.code) fs
-
-abbrev pub GoingOn : Image → ℕ → List Frame → List ℤ → Type 0
-GoingOn i m [] h = ⊥
-GoingOn i m (f ∷ fs) h = Going i m f fs h
 
 -- a step leads on, or ends the run with a halt
 abbrev pub NextOk : Image → ℕ → Next Machine Halt → Type 0
@@ -176,3 +166,8 @@ reported i m (End o out) h = λ e. h cc
 pub never_stuck : (i : Image) → IsValid i → NeverStuck i
 never_stuck i v m d n le =
     reported i m (after (instruct i m d) n (boot i)) (ran i m d n (boot i) (sound i v) (booted i m le (sound i v)))
+
+pub stays_going : (i : Image) → IsValid i → StaysGoing i
+stays_going i v m d n s le e =
+    let all : NextOk i m (after (instruct i m d) n (boot i)) = ran i m d n (boot i) (sound i v) (booted i m le (sound i v)) in
+    subst (NextOk i m) e all

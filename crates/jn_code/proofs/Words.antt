@@ -1,6 +1,5 @@
 -- Words of a kind, and a heap whose cells are of their kinds.
-use Rattle.std.proofs.Common.{◌≡◌, refl, sym, ap, ◌∙◌, ℕ, zero, suc, ◌+◌, ◌*◌, ◌%◌, ◌<◌, ◌≤◌, List, [], ◌∷◌, ◌++◌, length, map, replicate, ℤ, pos, false, Option, Some, slice_get, slice_set, arith, ◌⊎◌, inl, inr, subst}
-use Rattle.std.specs.Prelude.{nat_eq}
+use Rattle.std.proofs.Common.{◌≡◌, refl, sym, ap, ◌∙◌, ℕ, zero, suc, ◌+◌, ◌*◌, ◌%◌, ◌<◌, ◌≤◌, List, [], ◌∷◌, ◌++◌, length, map, replicate, ℤ, pos, Option, Some, slice_get, slice_set, arith, ◌⊎◌, inl, inr, subst}
 use Rattle.std.specs.Option.{option_map}
 use Rattle.std.proofs.lemmas.Nat.{div-mul-add, mod-mul-add}
 use Rattle.std.proofs.lemmas.Option.{slice_get-map}
@@ -8,59 +7,9 @@ use Rattle.jn_code.specs.declared.kind.OperandKind.{OperandKind}
 use Rattle.jn_code.specs.declared.kind.OperandKind.TheVariants as kind
 use Rattle.jn_code.specs.declared.image.Image.{Image}
 use Rattle.jn_code.specs.declared.image.Group.{Group}
-use Rattle.jn_code.specs.declared.image.ClassRow.{ClassRow}
 use Rattle.jn_code.specs.Kinds.{kind_of}
+use Rattle.jn_code.specs.Going.{Cell, First, Slot, Views, IsRef, IsWord, Pairs, AreWords, CellHolds, PlanOk, HeapOk}
 use Rattle.jn_code.specs.Machine.{Ref, ref_word, ref_in, object_cells}
-
--- A cell is the first of an object of a group, or a slot of a kind.
-pub data Cell : Type 0 where
-  First : (group : ℕ) → Cell
-  Slot : OperandKind → Cell
-
--- Class k views objects of this group.
-pub record Views (i : Image) (k group : ℕ) : Type 0 where
-  pub row : ClassRow
-  pub is : slice_get i.classes k ≡ Some row
-  pub same : row.group ≡ group
-  pub some : nat_eq group 65535 ≡ false
-
--- A reference to an object that is there, at a class of its group.
-pub record IsRef (i : Image) (p : List Cell) (r : Ref) : Type 0 where
-  pub group : ℕ
-  pub views : Views i r.view group
-  pub first : slice_get p r.cell ≡ Some (First group)
-
-abbrev pub IsWord : Image → List Cell → OperandKind → ℤ → Type 0
-IsWord i p kind.Int z = Unit {0}
-IsWord i p kind.Bool z = Unit {0}
-IsWord i p kind.Reference z = (z ≡ pos 0) ⊎ ((r : Ref) × IsRef i p r × (z ≡ ref_word r.view r.cell))
-IsWord i p kind.Class z = (k : ℕ) × (z ≡ pos k) × (k < length i.classes)
-
--- what is on the left goes with the word on the right, one by one
-abbrev pub Pairs : {A : Type 0} → (A → ℤ → Type 0) → List A → List ℤ → Type 0
-Pairs R [] [] = Unit {0}
-Pairs R [] (z ∷ zs) = ⊥
-Pairs R (a ∷ rest) [] = ⊥
-Pairs R (a ∷ rest) (z ∷ zs) = R a z × Pairs R rest zs
-
-pub record AreWords (i : Image) (p : List Cell) (ks : List OperandKind) (zs : List ℤ) : Type 0 where
-  pub are : Pairs (IsWord i p) ks zs
-
--- the first cell of an object has any word here: no instruction reads it
-abbrev pub CellHolds : Image → List Cell → Cell → ℤ → Type 0
-CellHolds i p (First g) z = Unit {0}
-CellHolds i p (Slot k) z = IsWord i p k z
-
--- The slots of an object follow its first cell.
-abbrev pub PlanOk : Image → List Cell → Type 0
-PlanOk i p =
-    (c g : ℕ) (group : Group) → slice_get p c ≡ Some (First g) → slice_get i.groups g ≡ Some group → (j b : ℕ) → slice_get group.slots j ≡ Some b → slice_get p (c + 1 + j) ≡ Some (Slot (kind_of b))
-
-pub record HeapOk (i : Image) (capacity : ℕ) (p : List Cell) (h : List ℤ) : Type 0 where
-  pub cells : Pairs (CellHolds i p) p h
-  pub plan : PlanOk i p
-  pub small : length h ≤ capacity
-  pub bound : capacity < 4294967296
 
 -- what was planned stays
 pub record Later (p q : List Cell) : Type 0 where

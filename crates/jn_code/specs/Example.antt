@@ -99,3 +99,7 @@ with_row r = package_row 0 1 ∷ (class_row 0 1 2 3 ∷ (package_row 2 3 ∷ (cl
 
 abbrev pub row_fault : ClassRow → Option ImageFault
 row_fault r = first_fault (world_of (with_row r) (start_code (op.Ret ∷ [])))
+
+-- and where the slots of an object are of these kinds
+abbrev pub slots_fault : List ℕ → Option ImageFault
+slots_fault kinds = first_fault (record (world (op.Ret ∷ [])) { groups = record { slots = kinds } ∷ [] })

@@ -6,6 +6,7 @@ pub mod Machine
 pub mod Example
 pub mod Known
 pub mod Never
+pub mod Going
 pub mod SpellsFields
 pub mod SpellsInstr
 pub mod SpellsFile

@@ -4,6 +4,7 @@ ghost use Rattle.jn_steps.specs.Laws.{RunsGoOn};
 ghost use Rattle.jn_code.specs.Valid.{IsValid, first_fault};
 ghost use Rattle.jn_code.specs.Known.{IsSound};
 ghost use Rattle.jn_code.specs.Never.{NeverStuck};
+ghost use Rattle.jn_code.specs.Going.{StaysGoing};
 ghost use Rattle.jn_code.specs.Machine.{Machine, Halt, Done, instruct, mach};
 ghost use Rattle.jn_code.specs.Example.{plain_image, seven, wrong_kind, no_operand};
 
@@ -24,6 +25,12 @@ pub fn never_stuck()
     ensures { (i : Image) → IsValid i → NeverStuck i }
 {}
 
+/// Each state of a run of a valid image has words of the kinds that are known, and references to objects that are there. It
+/// does nothing.
+pub fn stays_going()
+    ensures { (i : Image) → IsValid i → StaysGoing i }
+{}
+
 /// Worked rows: an image that prints 7, cut off after 2 and after 1 instructions, and two that are not valid. It does
 /// nothing.
 pub fn example_rows()
@@ -34,25 +41,3 @@ pub fn example_rows()
     ensures two { (a d : ℕ) → mach (plain_image 1 seven) a d 2 ≡ record { outcome = None; output = 55 ∷ 10 ∷ [] } }
     ensures one { (a d : ℕ) → mach (plain_image 1 seven) a d 1 ≡ record { outcome = None; output = [] } }
 {}
-
-#[cfg(test)]
-mod tests {
-    use super::{example_rows, machine_goes_on, never_stuck, valid_is_sound};
-    use crate::rows;
-
-    #[test]
-    fn the_laws_and_rows_are_there() {
-        machine_goes_on();
-        valid_is_sound();
-        never_stuck();
-        example_rows();
-        rows::number_rows();
-        rows::local_rows();
-        rows::view_rows();
-        rows::call_rows();
-        rows::code_fault_rows();
-        rows::row_fault_rows();
-        rows::start_rows();
-        rows::form_rows();
-    }
-}

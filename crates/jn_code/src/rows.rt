@@ -5,7 +5,7 @@ ghost use Rattle.jn_steps.specs.Numbers.{number_line, truth_line, line_of};
 ghost use Rattle.jn_code.specs.Machine.{Done, Null, Zero, Arena, Depth};
 ghost use Rattle.jn_code.specs.Form.{InForm, Ascends, IsKind, IsFieldKind, IsResultKind};
 ghost use Rattle.jn_code.specs.Valid.{first_fault};
-ghost use Rattle.jn_code.specs.Example.{Runs, RunsWithin, code_fault, row_fault, row, rows, world_of, plain_image, start_code, adder, seven};
+ghost use Rattle.jn_code.specs.Example.{Runs, RunsWithin, code_fault, row_fault, slots_fault, row, rows, world_of, plain_image, start_code, adder, seven};
 
 use crate::fault::{CodeWhy, ImageFault, RowWhy};
 use crate::instr::Instr;
@@ -158,6 +158,9 @@ pub fn code_fault_rows()
         Instr.Int (pos 1) ∷ Instr.Ret ∷ []) ≡ Some (ImageFault.BadCode 0 4 CodeWhy.Stack) }
     ensures stack_before_kind { code_fault (Instr.Bool 1 ∷ Instr.Add ∷ Instr.Pop ∷ Instr.Ret ∷ []) ≡ Some (ImageFault.BadCode 0 1 CodeWhy.Stack) }
     ensures kind { code_fault (Instr.Int (pos 1) ∷ Instr.Not ∷ Instr.Pop ∷ Instr.Ret ∷ []) ≡ Some (ImageFault.BadCode 0 1 CodeWhy.Kind) }
+    ensures printed_kind { code_fault (Instr.Bool 1 ∷ Instr.Printi ∷ Instr.Ret ∷ []) ≡ Some (ImageFault.BadCode 0 1 CodeWhy.Kind) }
+    ensures printed_reference { code_fault (Instr.Null ∷ Instr.Printi ∷ Instr.Ret ∷ []) ≡ Some (ImageFault.BadCode 0 1 CodeWhy.Kind) }
+    ensures printed_number { code_fault (Instr.Int (pos 1) ∷ Instr.Printb ∷ Instr.Ret ∷ []) ≡ Some (ImageFault.BadCode 0 1 CodeWhy.Kind) }
     ensures stored_kind { code_fault (Instr.Int (pos 1) ∷ Instr.Store 0 ∷ Instr.Ret ∷ []) ≡ Some (ImageFault.BadCode 0 1 CodeWhy.Kind) }
     ensures result { code_fault (Instr.Int (pos 1) ∷ Instr.Retv ∷ []) ≡ Some (ImageFault.BadCode 0 1 CodeWhy.Kind) }
     ensures result_of_nothing { code_fault (Instr.Retv ∷ []) ≡ Some (ImageFault.BadCode 0 0 CodeWhy.Stack) }
@@ -186,6 +189,8 @@ pub fn row_fault_rows()
     ensures no_group { row_fault (record (row 0 0 65535) { fields = record { selector = 0; slot = 0 } ∷ [] }) ≡ Some (ImageFault.BadRow 4 RowWhy.Field) }
     ensures no_slot { row_fault (record (row 0 0 0) { fields = record { selector = 0; slot = 2 } ∷ [] }) ≡ Some (ImageFault.BadRow 4 RowWhy.Field) }
     ensures slot_kind { row_fault (record (row 0 0 0) { fields = record { selector = 0; slot = 1 } ∷ [] }) ≡ Some (ImageFault.BadRow 4 RowWhy.Field) }
+    ensures truth_slot { slots_fault (2 ∷ 3 ∷ []) ≡ Some (ImageFault.BadRow 1 RowWhy.Field) }
+    ensures number_slot { slots_fault (1 ∷ 3 ∷ []) ≡ None }
     ensures no_field { row_fault (record (row 0 0 0) { fields = record { selector = 2; slot = 0 } ∷ [] }) ≡ Some (ImageFault.BadRow 4 RowWhy.Field) }
     ensures other_group { row_fault (record (row 0 0 0) { others = record { family = 2; class = 2 } ∷ [] }) ≡ Some (ImageFault.BadRow 4 RowWhy.Other) }
     ensures other_family { row_fault (record (row 0 0 0) { others = record { family = 0; class = 3 } ∷ [] }) ≡ Some (ImageFault.BadRow 4 RowWhy.Other) }

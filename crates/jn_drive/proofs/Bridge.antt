@@ -16,7 +16,7 @@ use Rattle.jn_base.specs.declared.word.Word.{Word}
 use Rattle.jn_base.specs.declared.word.Lexeme.{Lexeme}
 use Rattle.jn_base.specs.Words.{name_number, AreWordsOf, AreByMention, all_mentioned, again, first, last_word}
 use Rattle.jn_base.specs.Parts.{lexeme_of}
-use Rattle.jn_base.specs.Spelling.{HasDifferent, masks_in, mask_then, IsFirstRefused, greatest_source, IsTextRefused, too_long, not_utf8, word_refused, IsTextOf}
+use Rattle.jn_base.specs.Spelling.{HasDifferent, mask_numbers, mask_then, IsFirstRefused, greatest_source, IsTextRefused, too_long, not_utf8, word_refused, IsTextOf}
 use Rattle.jn_grammar.specs.ReadDecls.{tops_in}
 use Rattle.jn_grammar.specs.ReadWhole.{program_in}
 use Rattle.jn_grammar.specs.Expected.{Tops}
@@ -46,13 +46,13 @@ mask_among (Marked Backslash) None ns ms h n c = h n c
 mask_among (Marked m) o ns ms h n c = h n c
 mask_among w o ns ms h n c = h n c
 
-masks_among : (front others : List Lexeme) (n : ℕ) → Contains (masks_in front) n → Contains (masks_in (front ++ others)) n
+masks_among : (front others : List Lexeme) (n : ℕ) → Contains (mask_numbers front) n → Contains (mask_numbers (front ++ others)) n
 masks_among [] others n c = absurd (in_none n c)
 masks_among (w ∷ []) others n c = absurd (in_none n c)
 masks_among (w ∷ v ∷ front) others n c =
-    mask_among w.word (name_number v.word) (masks_in (v ∷ front)) (masks_in ((v ∷ front) ++ others)) (λ m d. masks_among (v ∷ front) others m d) n c
+    mask_among w.word (name_number v.word) (mask_numbers (v ∷ front)) (mask_numbers ((v ∷ front) ++ others)) (λ m d. masks_among (v ∷ front) others m d) n c
 
-more_masks : (front others : List Lexeme) → HasDifferent 257 (masks_in front) → HasDifferent 257 (masks_in (front ++ others))
+more_masks : (front others : List Lexeme) → HasDifferent 257 (mask_numbers front) → HasDifferent 257 (mask_numbers (front ++ others))
 more_masks front others h = record {
   picked = h.picked;
   are = h.are;
@@ -102,11 +102,11 @@ names_below names texts bytes ws front others t n a e h =
 
 -- ---- no limit of words is passed, and the program is read
 
-no_token_limit : (names texts : List Text) (bytes : List ℕ) (ws : List Lexeme) → AreWordsOf bytes names texts ws → (HasDifferent 257 (masks_in ws) → ⊥) → length names ≤ 65535 → token_limit ws ≡ None
+no_token_limit : (names texts : List Text) (bytes : List ℕ) (ws : List Lexeme) → AreWordsOf bytes names texts ws → (HasDifferent 257 (mask_numbers ws) → ⊥) → length names ≤ 65535 → token_limit ws ≡ None
 no_token_limit names texts bytes ws a few short = by (token_limit ws) refl where
   passed : (front others : List Lexeme) (t : Lexeme) (l : Limit) → ws ≡ front ++ t ∷ others → TokenPasses front t l → ⊥
   passed front others t _ e (by_masks d n) =
-      few (subst (λ (vs : List Lexeme). HasDifferent 257 (masks_in vs)) (append_assoc front (t ∷ []) others ∙ sym e) (more_masks (front ++ t ∷ []) others d))
+      few (subst (λ (vs : List Lexeme). HasDifferent 257 (mask_numbers vs)) (append_assoc front (t ∷ []) others ∙ sym e) (more_masks (front ++ t ∷ []) others d))
   passed front others t _ e (by_names n h g m) = let b = names_below names texts bytes ws front others t n a e h in omega (arith, b, g, short)
 
   by : (o : Option (Limit × ℕ)) → token_limit ws ≡ o → o ≡ None

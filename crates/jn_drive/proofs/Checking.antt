@@ -13,7 +13,7 @@ use Rattle.jn_base.specs.Duplicates.{duplicates}
 use Rattle.jn_base.specs.TableRules.{IsOver, IsCycle, IsMixed, NoneIs, TableRefuses, DeclarationsRefuse, DeclarationsPass}
 use Rattle.jn_base.proofs.Homes.{home_of}
 use Rattle.jn_base.proofs.TableLaws.{declarations_refused_or_passed, one_declarations_refusal}
-use Rattle.jn_table.specs.Rows.{IsNamed}
+use Rattle.jn_base.specs.ProgramNames.{IsNamed}
 use Rattle.jn_table.specs.Answers.{UniversePasses, UniverseRefused}
 use Rattle.jn_table.specs.declared.fault.TableFault.{TableFault}
 use Rattle.jn_table.specs.declared.fault.TableFault.TheVariants as fault

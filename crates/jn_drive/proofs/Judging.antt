@@ -7,7 +7,7 @@ use Rattle.jn_base.specs.declared.refusal.Refusal.{Refusal}
 use Rattle.jn_base.specs.Spelling.{IsTextOf, IsTextRefused, greatest_source}
 use Rattle.jn_base.specs.TableRules.{DeclarationsRefuse, DeclarationsPass}
 use Rattle.jn_base.proofs.TableLaws.{declarations_refused_or_passed, one_declarations_refusal}
-use Rattle.jn_table.specs.Rows.{IsNamed}
+use Rattle.jn_base.specs.ProgramNames.{IsNamed}
 use Rattle.jn_io.specs.Told.{Files}
 use Rattle.jn_words.specs.Line.{line_of}
 use Rattle.jn_parser.specs.declared.fault.ParseFault.{ParseFault}
@@ -22,7 +22,7 @@ use Rattle.jn_drive.specs.Meaning.{output_of}
 use Rattle.jn_drive.specs.Plain.{IsPlain}
 use Rattle.jn_drive.specs.Reply.{Reply, TreeReply, JobReply, refused_reply, output_reply}
 use Rattle.jn_drive.specs.Seen.{IsSource}
-use Rattle.jn_drive.proofs.Spelled.{spelled_is_named}
+use Rattle.jn_base.proofs.SpelledNames.{spelled_is_named}
 use Rattle.jn_drive.specs.Answer.{Answer, IsFrontOf, Judges, Answers, AnswersTree, IsOnlyReply, IsRefusedBy, IsOfFault, IsNotTaken, too_long_refusal}
 
 -- A tree has one reply.

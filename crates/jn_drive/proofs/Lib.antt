@@ -6,7 +6,6 @@ pub mod Reading
 pub mod Running
 pub mod TwiceEquations
 pub mod TwiceSteps
-pub mod Spelled
 pub mod Housing
 pub mod Unknowns
 pub mod Checking

@@ -3,7 +3,7 @@ use Rattle.std.specs.Prelude.{ℕ, ◌≤◌, List, length}
 use Rattle.jn_base.specs.declared.tree.Program.{Program}
 use Rattle.jn_base.specs.Spelling.{IsTextOf, greatest_source}
 use Rattle.jn_printer.specs.DeclText.{program_text}
-use Rattle.jn_printer.specs.Unplaced.{IsSameButForPlaces}
+use Rattle.jn_base.specs.Unplaced.{IsSameButForPlaces}
 use Rattle.jn_drive.specs.declared.words.JobKind.TheVariants as kinds
 use Rattle.jn_drive.specs.Reply.{JobReply, output_reply}
 

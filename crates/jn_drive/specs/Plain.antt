@@ -19,7 +19,7 @@ use Rattle.jn_base.specs.declared.tree.Member.{Member, out-Member}
 use Rattle.jn_base.specs.declared.tree.Member.TheOpen.{Member-F}
 use Rattle.jn_base.specs.declared.tree.Decl.{Decl}
 use Rattle.jn_base.specs.declared.tree.Program.{Program}
-use Rattle.jn_words.specs.Line.{name_text}
+use Rattle.jn_base.specs.NameTexts.{name_text}
 
 -- The operators `+`, `-` and `*`, and their levels.
 abbrev pub is_arithmetic : Op → Bool

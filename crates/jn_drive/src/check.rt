@@ -5,7 +5,7 @@ ghost use Rattle.jn_base.specs.declared.refusal.Refusal.{Refusal};
 ghost use Rattle.jn_base.specs.Duplicates.{duplicates};
 ghost use Rattle.jn_base.specs.TableRules.{DeclarationsRefuse, DeclarationsPass};
 ghost use Rattle.jn_base.specs.Universe.{InUniverse};
-ghost use Rattle.jn_table.specs.Rows.{IsNamed};
+ghost use Rattle.jn_base.specs.ProgramNames.{IsNamed};
 ghost use Rattle.jn_table.specs.Answers.{UniversePasses, UniverseRefused};
 ghost use Rattle.jn_table.specs.Tables.{IsFilled};
 ghost use Rattle.jn_drive.specs.Check.{IsCauseOf, IsRefusedUnlessMemory, PassesUnlessMemory, IsAtHome};

@@ -1,5 +1,5 @@
 ghost use Rattle.std.specs.Prelude.{◌≡◌, ◌≤◌, IfOk, None, option_copied};
-ghost use Rattle.jn_table.specs.Rows.{IsNamed};
+ghost use Rattle.jn_base.specs.ProgramNames.{IsNamed};
 ghost use Rattle.jn_drive.specs.declared.words.JobKind.TheVariants.{Check};
 ghost use Rattle.jn_drive.specs.Meaning.{output_of};
 ghost use Rattle.jn_drive.specs.Answer.{AnswersTree, IsRefusedBy, IsOfFault, IsNotTaken, Judges, Answers, too_long_refusal};

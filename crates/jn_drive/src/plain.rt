@@ -1,7 +1,7 @@
 ghost use Rattle.std.specs.Prelude.{◌≡◌, ◌↔◌, IsTrue, map, bytes_eq};
 ghost use Rattle.std.specs.List.{list_all};
 ghost use Rattle.jn_drive.specs.Plain.{all, IsPlain, IsPlainDecl, IsPlainMethod, is_plain_stmt, is_plain_expr, is_plain_link, is_arithmetic, is_arithmetic_level};
-ghost use Rattle.jn_words.specs.Line.{name_text};
+ghost use Rattle.jn_base.specs.NameTexts.{name_text};
 
 use jn_base::tree::{
     Decl, Expr, Kind, Level, Link, Member, Method, Name, Node, Op, Program, Stmt, Text,

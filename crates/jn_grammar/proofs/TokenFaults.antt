@@ -9,7 +9,7 @@ use Rattle.jn_base.specs.declared.word.Word.{Word}
 use Rattle.jn_base.specs.declared.word.Word.TheVariants.{Mark as Marked}
 use Rattle.jn_base.specs.declared.word.Lexeme.{Lexeme}
 use Rattle.jn_base.specs.Words.{name_number}
-use Rattle.jn_base.specs.Spelling.{HasDifferent, mask_then, masks_in}
+use Rattle.jn_base.specs.Spelling.{HasDifferent, mask_then, mask_numbers}
 use Rattle.jn_grammar.specs.Begins.{is_word}
 use Rattle.jn_grammar.specs.TokenLimits.{Seen, nothing_seen, has, passes_names, shows, masks_with, after_word, limit_or, limits_from, token_limit}
 use Rattle.jn_grammar.proofs.FirstWords.{never}
@@ -17,13 +17,13 @@ use Rattle.jn_grammar.proofs.Different.{Mem, first, later, NoTwice, mem_append_l
 
 -- a word passes neither limit
 pub record TokenClean (front : List Lexeme) (t : Lexeme) : Type 0 where
-  pub masks : HasDifferent 257 (masks_in (front ++ t ∷ [])) → ⊥
+  pub masks : HasDifferent 257 (mask_numbers (front ++ t ∷ [])) → ⊥
   pub names : (n : ℕ) → name_number t.word ≡ Some n → 65535 ≤ n → ⊥
 
 -- it passes this one, the first of the two that it passes
 pub data TokenPasses (front : List Lexeme) (t : Lexeme) : Limit → Type 0 where
-  by_masks : HasDifferent 257 (masks_in (front ++ t ∷ [])) → (HasDifferent 257 (masks_in front) → ⊥) → TokenPasses front t Masks
-  by_names : (n : ℕ) → name_number t.word ≡ Some n → 65535 ≤ n → (HasDifferent 257 (masks_in (front ++ t ∷ [])) → ⊥) → TokenPasses front t Names
+  by_masks : HasDifferent 257 (mask_numbers (front ++ t ∷ [])) → (HasDifferent 257 (mask_numbers front) → ⊥) → TokenPasses front t Masks
+  by_names : (n : ℕ) → name_number t.word ≡ Some n → 65535 ≤ n → (HasDifferent 257 (mask_numbers (front ++ t ∷ [])) → ⊥) → TokenPasses front t Names
 
 -- ---- the masks with a word more
 
@@ -50,11 +50,11 @@ mask_then_if (Marked Backslash) None = refl
 mask_then_if (Marked m) n = refl
 mask_then_if w n = refl
 
-masks_append : (front : List Lexeme) (t : Lexeme) → masks_in (front ++ t ∷ []) ≡ masks_in front ++ new_mask front (name_number t.word)
+masks_append : (front : List Lexeme) (t : Lexeme) → mask_numbers (front ++ t ∷ []) ≡ mask_numbers front ++ new_mask front (name_number t.word)
 unfolding new_mask
 masks_append [] t = refl
 masks_append (w ∷ []) t = refl
-masks_append (w ∷ v ∷ ws) t = ap (λ ns. mask_then w.word (name_number v.word) ns) (masks_append (v ∷ ws) t) ∙ mask_then_append w.word (name_number v.word) (masks_in (v ∷ ws)) (new_mask (v ∷ ws) (name_number t.word))
+masks_append (w ∷ v ∷ ws) t = ap (λ ns. mask_then w.word (name_number v.word) ns) (masks_append (v ∷ ws) t) ∙ mask_then_append w.word (name_number v.word) (mask_numbers (v ∷ ws)) (new_mask (v ∷ ws) (name_number t.word))
 
 new_mask_append : (front : List Lexeme) (t : Lexeme) (n : Option ℕ) → new_mask (front ++ t ∷ []) n ≡ mask_then t.word n []
 unfolding new_mask
@@ -65,8 +65,8 @@ new_mask_append (w ∷ v ∷ ws) t n = new_mask_append (v ∷ ws) t n
 -- ---- what the pass knows of the words before
 
 record Knows (front : List Lexeme) (s : Seen) : Type 0 where
-  all : (n : ℕ) → Mem n (masks_in front) → Mem n s.masks
-  only : (n : ℕ) → Mem n s.masks → Mem n (masks_in front)
+  all : (n : ℕ) → Mem n (mask_numbers front) → Mem n s.masks
+  only : (n : ℕ) → Mem n s.masks → Mem n (mask_numbers front)
   no_twice : NoTwice s.masks
   few : length s.masks ≤ 256
   new : (n : Option ℕ) → new_mask front n ≡ mask_if s.behind n
@@ -76,8 +76,8 @@ unfolding new_mask
 knows_nothing = record { all = λ n i. i; only = λ n i. i; no_twice = tt; few = omega arith; new = λ n. refl }
 
 -- the masks with a word more are those that the pass has, and that word where it is one
-masks_now : (front : List Lexeme) (s : Seen) → Knows front s → (t : Lexeme) → masks_in (front ++ t ∷ []) ≡ masks_in front ++ mask_if s.behind (name_number t.word)
-masks_now front s k t = masks_append front t ∙ ap (λ ns. masks_in front ++ ns) (k.new (name_number t.word))
+masks_now : (front : List Lexeme) (s : Seen) → Knows front s → (t : Lexeme) → mask_numbers (front ++ t ∷ []) ≡ mask_numbers front ++ mask_if s.behind (name_number t.word)
+masks_now front s k t = masks_append front t ∙ ap (λ ns. mask_numbers front ++ ns) (k.new (name_number t.word))
 
 in_both : {n : ℕ} (xs ys : List ℕ) → Mem n (xs ++ ys) → Mem n xs ⊎ Mem n ys
 in_both [] ys i = inr i
@@ -90,19 +90,19 @@ in_both (x ∷ xs) ys (later i) = by_side (in_both xs ys i)
 
 -- what stays after a word, by the masks alone
 record Masked (front : List Lexeme) (t : Lexeme) (ms : List ℕ) : Type 0 where
-  all : (n : ℕ) → Mem n (masks_in (front ++ t ∷ [])) → Mem n ms
-  only : (n : ℕ) → Mem n ms → Mem n (masks_in (front ++ t ∷ []))
+  all : (n : ℕ) → Mem n (mask_numbers (front ++ t ∷ [])) → Mem n ms
+  only : (n : ℕ) → Mem n ms → Mem n (mask_numbers (front ++ t ∷ []))
   no_twice : NoTwice ms
   few : length ms ≤ 256
 
-no_mask : (front : List Lexeme) (s : Seen) → Knows front s → (t : Lexeme) → masks_in (front ++ t ∷ []) ≡ masks_in front ++ [] → Masked front t s.masks
+no_mask : (front : List Lexeme) (s : Seen) → Knows front s → (t : Lexeme) → mask_numbers (front ++ t ∷ []) ≡ mask_numbers front ++ [] → Masked front t s.masks
 no_mask front s k t e =
-    let same : masks_in (front ++ t ∷ []) ≡ masks_in front = e ∙ append-nil (masks_in front) in
+    let same : mask_numbers (front ++ t ∷ []) ≡ mask_numbers front = e ∙ append-nil (mask_numbers front) in
     record { all = λ n i. k.all n (subst (λ (ns : List ℕ). Mem n ns) same i); only = λ n i. subst (λ (ns : List ℕ). Mem n ns) (sym same) (k.only n i); no_twice = k.no_twice; few = k.few }
 
-old_mask : (front : List Lexeme) (s : Seen) → Knows front s → (t : Lexeme) (m : ℕ) → masks_in (front ++ t ∷ []) ≡ masks_in front ++ m ∷ [] → has s.masks m ≡ true → Masked front t s.masks
+old_mask : (front : List Lexeme) (s : Seen) → Knows front s → (t : Lexeme) (m : ℕ) → mask_numbers (front ++ t ∷ []) ≡ mask_numbers front ++ m ∷ [] → has s.masks m ≡ true → Masked front t s.masks
 old_mask front s k t m e h = record {
-  all = λ n i. by_side (in_both (masks_in front) (m ∷ []) (subst (λ (ns : List ℕ). Mem n ns) e i));
+  all = λ n i. by_side (in_both (mask_numbers front) (m ∷ []) (subst (λ (ns : List ℕ). Mem n ns) e i));
   only = λ n i. subst (λ (ns : List ℕ). Mem n ns) (sym e) (mem_append_left (k.only n i) (m ∷ []));
   no_twice = k.no_twice;
   few = k.few;
@@ -111,14 +111,14 @@ old_mask front s k t m e h = record {
     nothing : {n : ℕ} {A : Type 0} → Mem n [] → A
     nothing i = elim i [ ]
 
-    by_side : {n : ℕ} → Mem n (masks_in front) ⊎ Mem n (m ∷ []) → Mem n s.masks
+    by_side : {n : ℕ} → Mem n (mask_numbers front) ⊎ Mem n (m ∷ []) → Mem n s.masks
     by_side (inl i) = k.all _ i
     by_side (inr first) = has_mem s.masks m h
     by_side (inr (later i)) = nothing i
 
-new_one : (front : List Lexeme) (s : Seen) → Knows front s → (t : Lexeme) (m : ℕ) → masks_in (front ++ t ∷ []) ≡ masks_in front ++ m ∷ [] → has s.masks m ≡ false → length s.masks < 256 → Masked front t (m ∷ s.masks)
+new_one : (front : List Lexeme) (s : Seen) → Knows front s → (t : Lexeme) (m : ℕ) → mask_numbers (front ++ t ∷ []) ≡ mask_numbers front ++ m ∷ [] → has s.masks m ≡ false → length s.masks < 256 → Masked front t (m ∷ s.masks)
 new_one front s k t m e h l = record {
-  all = λ n i. by_side (in_both (masks_in front) (m ∷ []) (subst (λ (ns : List ℕ). Mem n ns) e i));
+  all = λ n i. by_side (in_both (mask_numbers front) (m ∷ []) (subst (λ (ns : List ℕ). Mem n ns) e i));
   only = λ n i. subst (λ (ns : List ℕ). Mem n ns) (sym e) (of_mem i);
   no_twice = ((λ i. never (sym h ∙ mem_has i)), k.no_twice);
   few = omega (arith, l);
@@ -127,20 +127,20 @@ new_one front s k t m e h l = record {
     nothing : {n : ℕ} {A : Type 0} → Mem n [] → A
     nothing i = elim i [ ]
 
-    by_side : {n : ℕ} → Mem n (masks_in front) ⊎ Mem n (m ∷ []) → Mem n (m ∷ s.masks)
+    by_side : {n : ℕ} → Mem n (mask_numbers front) ⊎ Mem n (m ∷ []) → Mem n (m ∷ s.masks)
     by_side (inl i) = later (k.all _ i)
     by_side (inr first) = first
     by_side (inr (later i)) = nothing i
 
-    of_mem : {n : ℕ} → Mem n (m ∷ s.masks) → Mem n (masks_in front ++ m ∷ [])
-    of_mem first = mem_append_right (masks_in front) first
+    of_mem : {n : ℕ} → Mem n (m ∷ s.masks) → Mem n (mask_numbers front ++ m ∷ [])
+    of_mem first = mem_append_right (mask_numbers front) first
     of_mem (later i) = mem_append_left (k.only _ i) (m ∷ [])
 
-masked_clean : (front : List Lexeme) (t : Lexeme) (ms : List ℕ) → Masked front t ms → HasDifferent 257 (masks_in (front ++ t ∷ [])) → ⊥
-masked_clean front t ms m d = at_most 257 (masks_in (front ++ t ∷ [])) ms m.all (let l = m.few in omega (arith, l)) d
+masked_clean : (front : List Lexeme) (t : Lexeme) (ms : List ℕ) → Masked front t ms → HasDifferent 257 (mask_numbers (front ++ t ∷ [])) → ⊥
+masked_clean front t ms m d = at_most 257 (mask_numbers (front ++ t ∷ [])) ms m.all (let l = m.few in omega (arith, l)) d
 
-knows_clean : (front : List Lexeme) (s : Seen) → Knows front s → HasDifferent 257 (masks_in front) → ⊥
-knows_clean front s k d = at_most 257 (masks_in front) s.masks k.all (let l = k.few in omega (arith, l)) d
+knows_clean : (front : List Lexeme) (s : Seen) → Knows front s → HasDifferent 257 (mask_numbers front) → ⊥
+knows_clean front s k d = at_most 257 (mask_numbers front) s.masks k.all (let l = k.few in omega (arith, l)) d
 
 -- ---- one word
 
@@ -168,25 +168,25 @@ by_names_step front t ms n e m = by_bool (nat_le 65535 n) refl
 one_word : (front : List Lexeme) (s : Seen) → Knows front s → (t : Lexeme) → Step front t (masks_with s.behind (name_number t.word) s.masks) (shows s (name_number t.word))
 one_word front s k t = by_number s.behind (name_number t.word) refl (masks_now front s k t)
   where
-    by_full : (n : ℕ) (c : Bool) → nat_le 256 (length s.masks) ≡ c → has s.masks n ≡ false → name_number t.word ≡ Some n → masks_in (front ++ t ∷ []) ≡ masks_in front ++ n ∷ [] → Step front t (n ∷ s.masks) (if c then Some Masks else passes_names n)
+    by_full : (n : ℕ) (c : Bool) → nat_le 256 (length s.masks) ≡ c → has s.masks n ≡ false → name_number t.word ≡ Some n → mask_numbers (front ++ t ∷ []) ≡ mask_numbers front ++ n ∷ [] → Step front t (n ∷ s.masks) (if c then Some Masks else passes_names n)
     by_full n true q h e m =
         let l : length (n ∷ s.masks) ≡ 257 = (let a = le_true 256 (length s.masks) q in let b = k.few in omega (arith, a, b)) in
-        passes (by_masks (so_many 257 (masks_in (front ++ t ∷ [])) (n ∷ s.masks) (no_twice_now n h) l (λ j i. subst (λ (ns : List ℕ). Mem j ns) (sym m) (of_mem n i))) (knows_clean front s k))
+        passes (by_masks (so_many 257 (mask_numbers (front ++ t ∷ [])) (n ∷ s.masks) (no_twice_now n h) l (λ j i. subst (λ (ns : List ℕ). Mem j ns) (sym m) (of_mem n i))) (knows_clean front s k))
       where
         no_twice_now : (n : ℕ) → has s.masks n ≡ false → NoTwice (n ∷ s.masks)
         no_twice_now n h = ((λ i. never (sym h ∙ mem_has i)), k.no_twice)
 
-        of_mem : (n : ℕ) {j : ℕ} → Mem j (n ∷ s.masks) → Mem j (masks_in front ++ n ∷ [])
-        of_mem n first = mem_append_right (masks_in front) first
+        of_mem : (n : ℕ) {j : ℕ} → Mem j (n ∷ s.masks) → Mem j (mask_numbers front ++ n ∷ [])
+        of_mem n first = mem_append_right (mask_numbers front) first
         of_mem n (later i) = mem_append_left (k.only _ i) (n ∷ [])
     by_full n false q h e m = by_names_step front t (n ∷ s.masks) n e (new_one front s k t n m h (le_false 256 (length s.masks) q))
 
-    by_has : (n : ℕ) (c : Bool) → has s.masks n ≡ c → name_number t.word ≡ Some n → masks_in (front ++ t ∷ []) ≡ masks_in front ++ n ∷ []
+    by_has : (n : ℕ) (c : Bool) → has s.masks n ≡ c → name_number t.word ≡ Some n → mask_numbers (front ++ t ∷ []) ≡ mask_numbers front ++ n ∷ []
         → Step front t (if c then s.masks else n ∷ s.masks) (if not c && nat_le 256 (length s.masks) then Some Masks else passes_names n)
     by_has n true h e m = by_names_step front t s.masks n e (old_mask front s k t n m h)
     by_has n false h e m = by_full n (nat_le 256 (length s.masks)) refl h e m
 
-    by_number : (b : Bool) (i : Option ℕ) → name_number t.word ≡ i → masks_in (front ++ t ∷ []) ≡ masks_in front ++ mask_if b i → Step front t (masks_with b i s.masks) (shows (record { masks = s.masks; behind = b }) i)
+    by_number : (b : Bool) (i : Option ℕ) → name_number t.word ≡ i → mask_numbers (front ++ t ∷ []) ≡ mask_numbers front ++ mask_if b i → Step front t (masks_with b i s.masks) (shows (record { masks = s.masks; behind = b }) i)
     by_number true (Some n) e m = by_has n (has s.masks n) refl e m
     by_number false (Some n) e m = by_names_step front t s.masks n e (no_mask front s k t m)
     by_number true None e m = clean (no_mask front s k t m) (λ n f l. none_not n (sym e ∙ f))

@@ -1,46 +1,14 @@
 ghost use Rattle.std.specs.Prelude.{◌≡◌, ◌↔◌, IsTrue};
 
-use jn_base::tree::Name;
+use jn_base::compare::{is_anchor, same_names};
 use jn_base::types::{Anchor, Atom, Masks, Ty};
-
-fn is_name(a: Name, b: Name) -> bool
-    ensures { IsTrue result ↔ (a ≡ b) }
-{
-    a.0 == b.0
-}
-
-fn are_names(xs: &[Name], ys: &[Name]) -> bool
-    ensures { IsTrue result ↔ (xs.now ≡ ys.now) }
-{
-    if xs.len() != ys.len() {
-        return false;
-    }
-    for i in 0..xs.len() {
-        if !is_name(xs[i], ys[i]) {
-            return false;
-        }
-    }
-    true
-}
-
-fn is_anchor(a: Anchor, b: Anchor) -> bool
-    ensures { IsTrue result ↔ (a ≡ b) }
-{
-    match a {
-        Anchor::Root => matches!(b, Anchor::Root),
-        Anchor::Up(p, j) => match b {
-            Anchor::Root => false,
-            Anchor::Up(q, k) => p == q && j == k,
-        },
-    }
-}
 
 fn is_atom(x: &Atom, y: &Atom) -> bool
     ensures { IsTrue result ↔ (x.now ≡ y.now) }
 {
     is_anchor(x.anchor, y.anchor)
-        && are_names(x.exact.as_slice(), y.exact.as_slice())
-        && are_names(x.names.as_slice(), y.names.as_slice())
+        && same_names(x.exact.as_slice(), y.exact.as_slice())
+        && same_names(x.names.as_slice(), y.names.as_slice())
 }
 
 fn are_atoms(xs: &[Atom], ys: &[Atom]) -> bool

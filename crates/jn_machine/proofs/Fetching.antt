@@ -14,9 +14,10 @@ use Rattle.jn_code.specs.Form.{CodeInForm, InForm}
 use Rattle.jn_code.specs.Known.{IsSound}
 use Rattle.jn_code.specs.Machine as code
 use Rattle.jn_code.proofs.Sound.{get_below}
-use Rattle.jn_code.proofs.Words.{Cell, IsWord, pairs_long}
-use Rattle.jn_code.proofs.Frames.{Placed, expected, HandsBack, result_at, Waiting, DoesOk, Ready}
-use Rattle.jn_code.proofs.Safe.{ready, moved, Going}
+use Rattle.jn_code.specs.Going.{Cell, IsWord, Placed, expected, result_at, Waiting, Going}
+use Rattle.jn_code.proofs.Words.{pairs_long}
+use Rattle.jn_code.proofs.Frames.{HandsBack, DoesOk, Ready}
+use Rattle.jn_code.proofs.Safe.{ready, moved}
 use Rattle.jn_machine.specs.declared.frame.Frame.{Frame}
 use Rattle.jn_machine.specs.Acts.{frame_of}
 use Rattle.jn_machine.specs.Sizes.{Sizes, Sized}

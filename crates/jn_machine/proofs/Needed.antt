@@ -16,7 +16,8 @@ use Rattle.jn_code.specs.Rows.{numbered}
 use Rattle.jn_code.specs.Valid.{suits, all_suit}
 use Rattle.jn_code.specs.Machine.{Ref, ref_in, class_in, slot_in}
 use Rattle.jn_code.proofs.Sound.{both_left, both_right, kind_same, get_below, get_there}
-use Rattle.jn_code.proofs.Words.{Cell, IsRef, IsWord, Pairs, AreWords, CellHolds, HeapOk, pairs_long, pairs_get, ref_in_word}
+use Rattle.jn_code.specs.Going.{Cell, IsRef, IsWord, Pairs, AreWords, CellHolds, HeapOk}
+use Rattle.jn_code.proofs.Words.{pairs_long, pairs_get, ref_in_word}
 use Rattle.jn_code.proofs.RowFacts.{RowsOk, row_is, numbered_is, group_there, slot_there}
 use Rattle.jn_code.proofs.Frames.{Ready, as_kind, class_below}
 use Rattle.jn_code.proofs.Obeyed.{cell_is}

@@ -9,7 +9,8 @@ use Rattle.jn_steps.proofs.Machines.{machine_grows}
 use Rattle.jn_code.specs.declared.image.Image.{Image}
 use Rattle.jn_code.specs.Known.{IsSound}
 use Rattle.jn_code.specs.Machine as code
-use Rattle.jn_code.proofs.Safe.{Going, GoingOn, NextOk, stepped, booted}
+use Rattle.jn_code.specs.Going.{Going, GoingOn}
+use Rattle.jn_code.proofs.Safe.{NextOk, stepped, booted}
 use Rattle.jn_machine.specs.declared.frame.Frame.{Frame}
 use Rattle.jn_machine.specs.Acts.{frame_of}
 use Rattle.jn_machine.specs.Sizes.{Sizes, Sized}

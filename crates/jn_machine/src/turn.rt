@@ -2,7 +2,7 @@ ghost use Rattle.std.specs.Prelude.{◌≡◌, ◌<◌, ◌≤◌, ◌+◌, ◌^
 ghost use Rattle.jn_code.specs.Form.{InForm};
 ghost use Rattle.jn_code.specs.Known.{IsSound};
 ghost use Rattle.jn_code.specs.Machine.{instruct, move, obey};
-ghost use Rattle.jn_code.proofs.Safe.{Going};
+ghost use Rattle.jn_code.specs.Going.{Going};
 ghost use Rattle.jn_machine.specs.Acts.{frame_of};
 ghost use Rattle.jn_machine.specs.Calls.{Roomy, SameSizes};
 ghost use Rattle.jn_machine.specs.Does.{machine_of, next_of, IsTurn};

@@ -8,12 +8,12 @@ use Rattle.jn_base.specs.declared.tree.Named.{Named}
 use Rattle.jn_base.specs.declared.tree.Term.{Term}
 use Rattle.jn_base.specs.Duplicates.{only_if, has_name}
 use Rattle.jn_base.specs.Forms.{Mentions, Shared, Adapted, Constrained, Viewed, Termed, Masked, all_of}
-use Rattle.jn_base.specs.ResolveTypes.{masks_in, firsts}
+use Rattle.jn_base.specs.ResolveTypes.{mentioned_masks, firsts}
 use Rattle.jn_names.specs.Noting.{added, adding, noted}
 use Rattle.jn_base.proofs.NameTests.{same_name}
 use Rattle.jn_bounds.proofs.Turned.{at_index, at_place}
 
-masks_both : (ms ns : Mentions) → masks_in (ms ++ ns) ≡ masks_in ms ++ masks_in ns
+masks_both : (ms ns : Mentions) → mentioned_masks (ms ++ ns) ≡ mentioned_masks ms ++ mentioned_masks ns
 masks_both [] ns = refl
 masks_both (Shared n ∷ ms) ns = masks_both ms ns
 masks_both (Adapted n ∷ ms) ns = masks_both ms ns
@@ -32,7 +32,7 @@ noted_none xs = refl
 
 pub noted_both : (xs : List Name) (ms ns : Mentions) → noted xs (ms ++ ns) ≡ noted (noted xs ms) ns
 unfolding noted
-noted_both xs ms ns = ap (adding xs) (masks_both ms ns) ∙ adding_both xs (masks_in ms) (masks_in ns)
+noted_both xs ms ns = ap (adding xs) (masks_both ms ns) ∙ adding_both xs (mentioned_masks ms) (mentioned_masks ns)
 
 pub noted_term : (xs : List Name) (t : Term) (ms : Mentions) → noted xs (Termed t ∷ ms) ≡ noted xs ms
 unfolding noted
@@ -124,6 +124,6 @@ adding_firsts (n ∷ ns) xs seen h =
           ap (λ (b : Bool). adding (cond b xs (xs ++ n ∷ [])) ns) e
           ∙ (more (same_more xs seen n h) ∙ (append_assoc xs (n ∷ []) (firsts (n ∷ seen) ns) ∙ seen_so false e))
 
-pub noted_firsts : (ms : Mentions) → noted [] ms ≡ firsts [] (masks_in ms)
+pub noted_firsts : (ms : Mentions) → noted [] ms ≡ firsts [] (mentioned_masks ms)
 unfolding noted
-noted_firsts ms = adding_firsts (masks_in ms) [] [] (λ n. refl)
+noted_firsts ms = adding_firsts (mentioned_masks ms) [] [] (λ n. refl)

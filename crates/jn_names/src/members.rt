@@ -3,8 +3,8 @@ ghost use Rattle.jn_base.specs.TableRules.{IsCycle, NoneIs};
 ghost use Rattle.jn_table.specs.Tables.{IsFilled};
 ghost use Rattle.jn_names.specs.MemberRows.{MethodAtRow, FieldAtRow, SupAtRow, LowerRow, HasLowerRow, PassedRow, PassedTo, IsLowRow, FirstLowRow, FieldlessRow, FieldlessTo, IsFieldRow, FirstFieldRow, LeastRow, FieldRow};
 
+use jn_base::compare::{has_name, is_name};
 use jn_base::tree::{Name, Program};
-use jn_bounds::{has, is_name};
 use jn_table::{ClassId, Table};
 use sqlite_items::at;
 use std::alloc::{AllocError, Global};
@@ -68,7 +68,7 @@ fn has_method(rows: &[MemberRow], m: Name, s: ClassId) -> bool
 {
     match at(rows, s.0 as usize) {
         None => false,
-        Some(row) => has(&row.methods, m),
+        Some(row) => has_name(&row.methods, m),
     }
 }
 
@@ -77,7 +77,7 @@ fn has_field(rows: &[MemberRow], f: Name, s: ClassId) -> bool
 {
     match at(rows, s.0 as usize) {
         None => false,
-        Some(row) => has(&row.fields, f),
+        Some(row) => has_name(&row.fields, f),
     }
 }
 

@@ -22,7 +22,7 @@ use Rattle.jn_base.specs.GrammarDecl.{IsParams, IsSharing, IsResult, IsList, IsK
 use Rattle.jn_printer.specs.Pieces.{joined, name_text, type_text}
 use Rattle.jn_printer.specs.StmtText.{Indented, deeper, lines, braced, stmt_text}
 use Rattle.jn_printer.specs.DeclText.{kind_text, list_text, result_text, param_text, params_text, sharing_text, signature_text, heading_text, member_text, decl_text}
-use Rattle.jn_printer.specs.Unplaced.{nowhere, unplaced_named, unplaced_param, unplaced_constraint, unplaced_result, unplaced_stmt, unplaced_member, unplaced_decl}
+use Rattle.jn_base.specs.Unplaced.{nowhere, unplaced_named, unplaced_param, unplaced_constraint, unplaced_result, unplaced_stmt, unplaced_member, unplaced_decl}
 use Rattle.jn_printer.proofs.DeclTexts.{decl_parts, inner_text, slot_text, body_member}
 use Rattle.jn_printer.proofs.Placeless.{inner_is, slot_is, body_is, decl_is}
 use Rattle.jn_printer.proofs.Written.{breaks, calm, Setting, Fine, fine_left, fine_right, Lays, lays_none, lays_map, lays_then, lays_mark, lays_name, lays_blank, lays_text}

@@ -20,7 +20,7 @@ use Rattle.jn_base.specs.GrammarExpr.{IsOperator, or, and, equal, not_equal, les
 use Rattle.jn_printer.specs.declared.symbol.Symbol.TheVariants as symbol
 use Rattle.jn_printer.specs.Pieces.{joined, name_text}
 use Rattle.jn_printer.specs.ExprText.{whole, args_text, all_at, all_of, op_text, tightness, chain_symbol, operand_symbol, symbol_of, symbol_at, expr_text, link_text, suffix_text}
-use Rattle.jn_printer.specs.Unplaced.{unplaced_expr, unplaced_suffix, unplaced_link}
+use Rattle.jn_base.specs.Unplaced.{unplaced_expr, unplaced_suffix, unplaced_link}
 use Rattle.jn_printer.proofs.Bare.{link_placed, field_text, call_text, bare_post, bare_chain}
 use Rattle.jn_printer.proofs.Placeless.{link_same, field_same, call_same}
 use Rattle.jn_printer.proofs.Written.{breaks, calm, is_backslash_mark, Setting, GivenName, Lays, lays_none, lays_map, lays_then, lays_mark, lays_name, lays_blank, lays_text}

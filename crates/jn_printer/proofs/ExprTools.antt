@@ -14,7 +14,7 @@ use Rattle.jn_base.specs.GrammarExpr.{IsPrim, parens, IsPost, post, no_suffix, I
 use Rattle.jn_printer.specs.declared.symbol.Symbol.{Symbol}
 use Rattle.jn_printer.specs.Pieces.{text_if}
 use Rattle.jn_printer.specs.ExprText.{tightness, is_instance, symbol_of, node_bare, expr_text}
-use Rattle.jn_printer.specs.Unplaced.{unplaced_expr, unplaced_suffix, unplaced_link}
+use Rattle.jn_base.specs.Unplaced.{unplaced_expr, unplaced_suffix, unplaced_link}
 use Rattle.jn_printer.proofs.Bare.{placed_text}
 use Rattle.jn_printer.proofs.Placeless.{expr_same, post_same, chain_same}
 use Rattle.jn_printer.proofs.Written.{breaks, calm, Setting, a_mark, Lays, lays_none, lays_map, lays_then, lays_new, lays_text, lays_words}

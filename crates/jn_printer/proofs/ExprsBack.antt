@@ -29,7 +29,7 @@ use Rattle.jn_base.specs.GrammarExpr.{IsOperator, IsForm, new_object, super_call
 use Rattle.jn_printer.specs.declared.symbol.Symbol.TheVariants as symbol
 use Rattle.jn_printer.specs.Pieces.{name_text, term_text, view_text}
 use Rattle.jn_printer.specs.ExprText.{args_text, tightness, chain_symbol, operand_symbol, symbol_of, symbol_at, node_bare, expr_text}
-use Rattle.jn_printer.specs.Unplaced.{unplaced_expr}
+use Rattle.jn_base.specs.Unplaced.{unplaced_expr}
 use Rattle.jn_printer.proofs.Bare.{bare_number, bare_truth, bare_null, bare_this, bare_variable, bare_new, bare_super, bare_inverse, bare_negative, bare_view}
 use Rattle.jn_printer.proofs.Placeless.{expr_same, new_same, super_same, not_same, neg_same, view_same}
 use Rattle.jn_printer.proofs.Written.{breaks, calm, goes_on, is_backslash_mark, Setting, GivenName, GivenNumber, a_number, Fine, fine_left, fine_right, Lays, lays_none, lays_map, lays_then, lays_word, lays_key, lays_mark, lays_name, lays_blank, lays_text, lays_without, lays_without_behind}

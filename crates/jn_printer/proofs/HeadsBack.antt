@@ -16,7 +16,7 @@ use Rattle.jn_base.specs.Parts.{Part, Plain, Parameter, key, mark, new_name, nam
 use Rattle.jn_base.specs.GrammarDecl.{IsParam, param, IsMoreParams, no_more_param, then_param, IsParams, no_param, params, IsRel, rel, IsMoreRels, no_more_rel, then_rel, IsSharing, no_sharing, sharing, IsResult, no_result, result, IsListed, last_name, then_name, IsList, no_list, list, IsKind, a_class, a_package}
 use Rattle.jn_printer.specs.Pieces.{text_if, joined, name_text, named_text, names_text, type_text, view_text}
 use Rattle.jn_printer.specs.DeclText.{kind_text, list_text, result_text, param_text, constraint_text, sharing_text}
-use Rattle.jn_printer.specs.Unplaced.{nowhere, unplaced_named, unplaced_param, unplaced_constraint, unplaced_result}
+use Rattle.jn_base.specs.Unplaced.{nowhere, unplaced_named, unplaced_param, unplaced_constraint, unplaced_result}
 use Rattle.jn_printer.proofs.Written.{breaks, calm, Setting, Fine, fine_left, fine_right, Lays, lays_none, lays_map, lays_then, lays_key, lays_mark, lays_name, lays_blank, lays_text}
 use Rattle.jn_printer.proofs.TermsBack.{type_lays, type_calm, view_lays}
 use Rattle.jn_printer.proofs.StmtsBack.{final_lays}

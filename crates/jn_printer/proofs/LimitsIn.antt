@@ -14,7 +14,7 @@ use Rattle.jn_base.specs.declared.word.Lexeme.{Lexeme}
 use Rattle.jn_base.specs.Words.{name_number, AreWordsOf, AreByMention, all_mentioned, again, first}
 use Rattle.jn_base.specs.Parts.{Part, lexeme_of}
 use Rattle.jn_base.specs.GrammarDecl.{IsProgram}
-use Rattle.jn_base.specs.Spelling.{BeginsWith, limit_of, masks_in, HasDifferent, Passes, counted, masks, names, rank, IsClean, limit_passed, IsFirstRefused, refusal, greatest_source, IsTextRefused, too_long, word_refused}
+use Rattle.jn_base.specs.Spelling.{BeginsWith, limit_of, mask_numbers, HasDifferent, Passes, counted, masks, names, rank, IsClean, limit_passed, IsFirstRefused, refusal, greatest_source, IsTextRefused, too_long, word_refused}
 use Rattle.jn_printer.proofs.Written.{Low}
 use Rattle.jn_printer.proofs.Chars.{Each}
 use Rattle.jn_printer.proofs.WordsOut.{names_in}
@@ -143,14 +143,14 @@ module _ (names_ texts : List Text) (source : List ℕ) (parts : List Part) (dec
     by [] l a = omega (arith, l)
     by (x ∷ xs) l a = let c = All-head (λ n. Contains [] n) x xs a in omega (arith, c.1)
 
-  few_from : (front w : List Part) → parts ≡ front ++ w → (HasDifferent 257 (masks_in (map lexeme_of front)) → ⊥) → HasDifferent 257 (masks_in (map lexeme_of parts)) → ⊥
+  few_from : (front w : List Part) → parts ≡ front ++ w → (HasDifferent 257 (mask_numbers (map lexeme_of front)) → ⊥) → HasDifferent 257 (mask_numbers (map lexeme_of parts)) → ⊥
   few_from front [] e n h =
-      n (subst (λ (x : List Part). HasDifferent 257 (masks_in (map lexeme_of x))) (e ∙ append-nil front) h)
+      n (subst (λ (x : List Part). HasDifferent 257 (mask_numbers (map lexeme_of x))) (e ∙ append-nil front) h)
   few_from front (t ∷ w) e n h =
       few_from (front ++ t ∷ []) w (e ∙ sym (append_assoc front (t ∷ []) w))
-      (λ m. never_passes front w t e limit.Masks (masks (subst (λ (xs : List Lexeme). HasDifferent 257 (masks_in xs)) (map-append lexeme_of front (t ∷ [])) m) n)) h
+      (λ m. never_passes front w t e limit.Masks (masks (subst (λ (xs : List Lexeme). HasDifferent 257 (mask_numbers xs)) (map-append lexeme_of front (t ∷ [])) m) n)) h
 
-  pub few_masks : HasDifferent 257 (masks_in (map lexeme_of parts)) → ⊥
+  pub few_masks : HasDifferent 257 (mask_numbers (map lexeme_of parts)) → ⊥
   few_masks h = few_from [] parts refl none_of_none h
 
   name_below : (front others : List Part) (t : Part) → parts ≡ front ++ t ∷ others → (n : ℕ) → name_number t.word ≡ Some n → n < 65535

@@ -32,7 +32,7 @@ use Rattle.jn_base.specs.declared.tree.Member.TheVariants as member
 use Rattle.jn_base.specs.declared.tree.Member.TheVariants.{outs-Inner, outs-Slot, outs-Body}
 use Rattle.jn_base.specs.Parts.{named, expr, suffix, link}
 use Rattle.jn_base.specs.GrammarDecl.{decl}
-use Rattle.jn_printer.specs.Unplaced.{nowhere, unplaced_named, unplaced_term, unplaced_view, unplaced_type, unplaced_node, unplaced_expr, unplaced_link, unplaced_suffix, unplaced_given, unplaced_stmt, unplaced_field, unplaced_method, unplaced_member, unplaced_decl, node_step, expr_step, link_step, suffix_step, stmt_step, member_step, decl_step}
+use Rattle.jn_base.specs.Unplaced.{nowhere, unplaced_named, unplaced_term, unplaced_view, unplaced_type, unplaced_node, unplaced_expr, unplaced_link, unplaced_suffix, unplaced_given, unplaced_stmt, unplaced_field, unplaced_method, unplaced_member, unplaced_decl, node_step, expr_step, link_step, suffix_step, stmt_step, member_step, decl_step}
 
 node_from : (n : Node) (f : Node-F Node Expr Link Suffix) → out-Node n ≡ f
     → unplaced_node n ≡ node_step (map-Node Node Expr Link Suffix Node Expr Link Suffix unplaced_node unplaced_expr unplaced_link unplaced_suffix f)

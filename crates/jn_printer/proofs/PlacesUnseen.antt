@@ -20,8 +20,8 @@ use Rattle.jn_printer.specs.declared.symbol.Symbol.TheVariants as symbol
 use Rattle.jn_printer.specs.Pieces.{text_if, joined, name_text, named_text, masks_text, term_text, view_text, type_text}
 use Rattle.jn_printer.specs.ExprText.{Writer, Bare, chain_symbol, operand_symbol, op_text, args_text, all_at, all_of, placed, bare_text, node_bare, expr_text, link_text, suffix_text}
 use Rattle.jn_printer.specs.ExprText as ExprText
-use Rattle.jn_printer.specs.Unplaced.{nowhere, unplaced_named, unplaced_term, unplaced_view, unplaced_type, unplaced_node, unplaced_expr, unplaced_link, unplaced_suffix}
-use Rattle.jn_printer.specs.Unplaced as Unplaced
+use Rattle.jn_base.specs.Unplaced.{nowhere, unplaced_named, unplaced_term, unplaced_view, unplaced_type, unplaced_node, unplaced_expr, unplaced_link, unplaced_suffix}
+use Rattle.jn_base.specs.Unplaced as Unplaced
 
 -- ---- names, terms, views and types
 

@@ -22,7 +22,7 @@ use Rattle.jn_printer.specs.declared.symbol.Symbol.TheVariants as symbol
 use Rattle.jn_printer.specs.Pieces.{text_if}
 use Rattle.jn_printer.specs.ExprText.{is_instance, symbol_of, symbol_at, node_bare, expr_text}
 use Rattle.jn_printer.specs.StmtText.{Indented, deeper, lines, braced}
-use Rattle.jn_printer.specs.Unplaced.{nowhere, unplaced_node, unplaced_expr, unplaced_link, unplaced_suffix, node_step, expr_step, link_step, suffix_step}
+use Rattle.jn_base.specs.Unplaced.{nowhere, unplaced_node, unplaced_expr, unplaced_link, unplaced_suffix, node_step, expr_step, link_step, suffix_step}
 use Rattle.jn_printer.proofs.Bare.{placed_text, bare_post}
 use Rattle.jn_printer.proofs.Written.{breaks, calm, Setting, Fine, fine_left, fine_right, Lays, lays_none, lays_map, lays_then, lays_mark, lays_blank, lays_text}
 use Rattle.jn_printer.proofs.Follows.{breaks_calm}

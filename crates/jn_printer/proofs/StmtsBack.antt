@@ -18,7 +18,7 @@ use Rattle.jn_printer.specs.declared.symbol.Symbol.TheVariants as symbol
 use Rattle.jn_printer.specs.Pieces.{text_if, bytes_of, name_text, type_text}
 use Rattle.jn_printer.specs.ExprText.{expr_text}
 use Rattle.jn_printer.specs.StmtText.{Indented, deeper, lines, braced, else_text, escaped, stmt_text}
-use Rattle.jn_printer.specs.Unplaced.{nowhere, unplaced_expr, unplaced_stmt}
+use Rattle.jn_base.specs.Unplaced.{nowhere, unplaced_expr, unplaced_stmt}
 use Rattle.jn_printer.proofs.StmtTexts
 use Rattle.jn_printer.proofs.Placeless.{block_is, local_is, assign_is, set_is, do_is, if_is, while_is, return_is, print_is, print_text_is}
 use Rattle.jn_printer.proofs.Written.{breaks, calm, Setting, GivenName, GivenText, a_text, Fine, fine_left, fine_right, Lays, lays_none, lays_map, lays_then, lays_word, lays_key, lays_mark, lays_name, lays_blank, lays_text, lays_without}

@@ -17,7 +17,7 @@ use Rattle.jn_base.specs.Spelling.{limit_of}
 use Rattle.jn_base.specs.declared.refusal.Limit.TheVariants as limit
 use Rattle.jn_base.specs.GrammarTypes.{IsDotted, one_name, more_names, IsDots, no_dot, dot, IsNames, loose, exact, IsTail, no_tail, tail, IsRef, this, variable, IsTerm, plain, own, in_prefix, IsMasks, no_mask, mask, IsView, view, IsAtoms, last_atom, then_atom, IsType, int, boolean, class}
 use Rattle.jn_printer.specs.Pieces.{joined, name_text, dotted, masks_text, ref_text, ends_text, term_text, view_text, type_text}
-use Rattle.jn_printer.specs.Unplaced.{nowhere, unplaced_named, unplaced_term, unplaced_view, unplaced_type}
+use Rattle.jn_base.specs.Unplaced.{nowhere, unplaced_named, unplaced_term, unplaced_view, unplaced_type}
 use Rattle.std.proofs.lemmas.Bool.Decides.{nat_tests}
 use Rattle.jn_printer.proofs.Written.{breaks, calm, Setting, IsGiven, Fine, fine_left, fine_right, Lays, lays_none, lays_map, lays_then, lays_key, lays_mark, lays_name, lays_mask, lays_blank, lays_text, written_atom, alike_atom_left, alike_atom_right, low_atom}
 use Rattle.jn_printer.proofs.Follows.{breaks_calm, name_calm, name_calm_on}

@@ -26,8 +26,8 @@ use Rattle.jn_printer.specs.StmtText.{Indented, lines, braced, else_text, given_
 use Rattle.jn_printer.specs.StmtText as StmtText
 use Rattle.jn_printer.specs.DeclText.{kind_text, list_text, field_text, result_text, param_text, params_text, constraint_text, sharing_text, signature_text, method_text, heading_text, member_text, decl_text, program_text}
 use Rattle.jn_printer.specs.DeclText as DeclText
-use Rattle.jn_printer.specs.Unplaced.{nowhere, unplaced_named, unplaced_view, unplaced_type, unplaced_expr, unplaced_given, unplaced_stmt, unplaced_param, unplaced_constraint, unplaced_field, unplaced_result, unplaced_method, unplaced_member, unplaced_decl, unplaced}
-use Rattle.jn_printer.specs.Unplaced as Unplaced
+use Rattle.jn_base.specs.Unplaced.{nowhere, unplaced_named, unplaced_view, unplaced_type, unplaced_expr, unplaced_given, unplaced_stmt, unplaced_param, unplaced_constraint, unplaced_field, unplaced_result, unplaced_method, unplaced_member, unplaced_decl, unplaced}
+use Rattle.jn_base.specs.Unplaced as Unplaced
 use Rattle.jn_printer.proofs.StmtTexts
 use Rattle.jn_printer.proofs.DeclTexts
 use Rattle.jn_printer.proofs.PlacesUnseen.{joined_same, named_same, view_unseen, type_unseen, expr_unseen}

@@ -10,9 +10,9 @@ use Rattle.jn_base.specs.declared.word.Lexeme.{Lexeme}
 use Rattle.jn_base.specs.Places.{place_of}
 use Rattle.jn_base.specs.Words.{AreWordsOf, AreNumbered, last_word, lexeme, name_number, text_number}
 use Rattle.jn_base.specs.Parts.{Part, lexeme_of, end_of_file}
-use Rattle.jn_base.specs.Spelling.{limit_of, masks_in, HasDifferent, IsTextOf}
+use Rattle.jn_base.specs.Spelling.{limit_of, mask_numbers, HasDifferent, IsTextOf}
 use Rattle.jn_printer.specs.DeclText.{program_text}
-use Rattle.jn_printer.specs.Unplaced.{unplaced_decl, unplaced}
+use Rattle.jn_base.specs.Unplaced.{unplaced_decl, unplaced}
 use Rattle.jn_printer.specs.WayBack.{SpellsWithin, WayBack}
 use Rattle.jn_printer.proofs.Written.{Setting, Fine, Low, Lays, Alike, nothing, same_word, alike_append}
 use Rattle.jn_printer.proofs.WordsOut.{setting, Lexed, lexed_of, names_in, texts_in, alike_names, alike_texts, alike_masks}
@@ -116,10 +116,10 @@ words_made q bytes v x ns ts = record {
 }
 
 masks_few : (q : Program) (source : List ℕ) (t : IsTextOf q source) (v w : List Part) (p o : Place) → t.spelled.parts ≡ w ++ end_of_file p ∷ [] → Alike v w
-    → HasDifferent 257 (masks_in (map lexeme_of (v ++ end_of_file o ∷ []))) → ⊥
+    → HasDifferent 257 (mask_numbers (map lexeme_of (v ++ end_of_file o ∷ []))) → ⊥
 masks_few q source t v w p o e k h =
     let all : Alike (v ++ end_of_file o ∷ []) (w ++ end_of_file p ∷ []) = alike_append k (same_word refl nothing) in
-    let same : masks_in (map lexeme_of (v ++ end_of_file o ∷ [])) ≡ masks_in (map lexeme_of t.spelled.parts) = alike_masks all ∙ ap (λ (x : List Part). masks_in (map lexeme_of x)) (sym e) in
+    let same : mask_numbers (map lexeme_of (v ++ end_of_file o ∷ [])) ≡ mask_numbers (map lexeme_of t.spelled.parts) = alike_masks all ∙ ap (λ (x : List Part). mask_numbers (map lexeme_of x)) (sym e) in
     few_masks q.names q.texts source t.spelled.parts q.decls t.spelled.is_program t.spelled.are_words t.not_refused (subst (λ (ns : List ℕ). HasDifferent 257 ns) same h)
 
 abbrev GivesTops : List Decl → List Part → Type 0

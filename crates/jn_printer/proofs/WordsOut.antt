@@ -17,7 +17,7 @@ use Rattle.jn_base.specs.Tokens.{is_blank, width, Lexes, at_end, blank, token}
 use Rattle.jn_base.specs.Tokens as Tokens
 use Rattle.jn_base.specs.Words.{lexeme, IsWord, AreWords, no_word, then_word, name_number, text_number}
 use Rattle.jn_base.specs.Parts.{Part, lexeme_of}
-use Rattle.jn_base.specs.Spelling.{mask_then, masks_in}
+use Rattle.jn_base.specs.Spelling.{mask_then, mask_numbers}
 use Rattle.jn_printer.proofs.Written.{Setting, Written, done, is_loose, is_backslash, Alike, nothing, same_word, same_mask, more_left, more_right}
 use Rattle.jn_printer.proofs.Chars.{small_scalar, scalars_append}
 use Rattle.jn_printer.proofs.Tokens.{piece_is}
@@ -147,11 +147,11 @@ mask_skipped (word_.Mark m) n ns h = mark_skipped m n ns h
 mask_skipped word_.End n ns h = refl
 mask_skipped word_.Fault n ns h = refl
 
-no_mask : (a : Lexeme) (v : List Lexeme) → is_backslash a.word ≡ false → masks_in (a ∷ v) ≡ masks_in v
+no_mask : (a : Lexeme) (v : List Lexeme) → is_backslash a.word ≡ false → mask_numbers (a ∷ v) ≡ mask_numbers v
 no_mask a [] h = refl
-no_mask a (b ∷ v) h = mask_skipped a.word (name_number b.word) (masks_in (b ∷ v)) h
+no_mask a (b ∷ v) h = mask_skipped a.word (name_number b.word) (mask_numbers (b ∷ v)) h
 
-pub alike_masks : {v w : List Part} → Alike v w → masks_in (map lexeme_of v) ≡ masks_in (map lexeme_of w)
+pub alike_masks : {v w : List Part} → Alike v w → mask_numbers (map lexeme_of v) ≡ mask_numbers (map lexeme_of w)
 alike_masks nothing = refl
 alike_masks (same_word {x = x} {p = p} {q = q} {v = v} {w = w} b d) = no_mask (lexeme x p) (map lexeme_of v) b ∙ alike_masks d ∙ sym (no_mask (lexeme x q) (map lexeme_of w) b)
 alike_masks (same_mask {x = x} {p' = p} {q' = q} {v = v} {w = w} d) =

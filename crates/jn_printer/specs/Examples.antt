@@ -19,7 +19,7 @@ use Rattle.jn_base.specs.Parts.{named, term, expr, suffix, link}
 use Rattle.jn_printer.specs.declared.symbol.Symbol.TheVariants as symbol
 use Rattle.jn_printer.specs.ExprText.{expr_text}
 use Rattle.jn_printer.specs.StmtText.{escaped, stmt_text}
-use Rattle.jn_printer.specs.Unplaced.{unplaced_expr}
+use Rattle.jn_base.specs.Unplaced.{unplaced_expr}
 
 abbrev pub here : Place
 here = record { line = 1; column = 1 }

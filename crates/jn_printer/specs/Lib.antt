@@ -4,6 +4,5 @@ pub mod StmtText
 pub mod DeclText
 pub mod Examples
 pub mod EscapeLaw
-pub mod Unplaced
 pub mod WayBack
 pub mod OperandLaw

@@ -2,17 +2,10 @@
 use Rattle.std.specs.Prelude.{◌≡◌, ◌≤◌, ℕ, List, None, All, length, map}
 use Rattle.jn_base.specs.declared.tree.Program.{Program}
 use Rattle.jn_base.specs.Parts.{Part, lexeme_of}
-use Rattle.jn_base.specs.Spelling.{SourceSpells, IsTextOf, HasDifferent, limit_of, masks_in}
+use Rattle.jn_base.specs.Spelling.{SourceSpells, HasDifferent, limit_of, mask_numbers}
 use Rattle.jn_printer.specs.DeclText.{program_text}
-use Rattle.jn_printer.specs.Unplaced.{IsSameButForPlaces}
-
--- A program is within the limits where some source that the first three steps of the verdict don't refuse spells it but
--- for its places.
-pub record IsWithinLimits (p : Program) : Type 0 where
-  pub source : List ℕ
-  pub spelled : Program
-  pub same : IsSameButForPlaces spelled p
-  pub is_text : IsTextOf spelled source
+use Rattle.jn_base.specs.Unplaced.{IsSameButForPlaces}
+use Rattle.jn_base.specs.WithinLimits.{IsWithinLimits}
 
 -- The bytes spell p but for its places, and none of their words passes a limit: none counts more than a limit of the
 -- grammar allows, no 257 masks are different, and there are no more than 65,535 names.
@@ -21,7 +14,7 @@ pub record SpellsWithin (p : Program) (bytes : List ℕ) : Type 0 where
   pub same : IsSameButForPlaces spelled p
   pub spells : SourceSpells spelled bytes
   pub counted : All (λ (t : Part). limit_of t.role ≡ None) spells.parts
-  pub few_masks : HasDifferent 257 (masks_in (map lexeme_of spells.parts)) → ⊥
+  pub few_masks : HasDifferent 257 (mask_numbers (map lexeme_of spells.parts)) → ⊥
   pub few_names : length spelled.names ≤ 65535
 
 -- The canonical text spells each program within the limits but for its places, and is itself within them.

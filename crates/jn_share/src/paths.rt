@@ -3,8 +3,9 @@ ghost use Rattle.jn_base.specs.declared.tree.Name.{Name as AName};
 ghost use Rattle.jn_sem.specs.Sharing.{family_of, in_family};
 ghost use Rattle.jn_share.specs.Pairing.{HaveOneFamily, AreInner};
 
+use jn_base::compare::{is_name, same_names};
 use jn_base::tree::Name;
-use jn_bounds::{Bound, is_name, same};
+use jn_bounds::Bound;
 use sqlite_items::at;
 use std::alloc::{AllocError, Global};
 
@@ -65,7 +66,7 @@ pub fn one_family(names: &[Name], others: &[Name]) -> bool
 pub fn one_path(names: &[Name], others: &[Name]) -> bool
     ensures { IsTrue result ↔ (reverse names.now ≡ reverse others.now) }
 {
-    same(names, others)
+    same_names(names, others)
 }
 
 /// Whether both paths have the same names but for the outermost one.
@@ -78,5 +79,5 @@ pub fn are_inner(names: &[Name], others: &[Name]) -> bool
     if others.is_empty() {
         return false;
     }
-    same(behind_first(names), behind_first(others))
+    same_names(behind_first(names), behind_first(others))
 }

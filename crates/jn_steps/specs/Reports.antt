@@ -11,8 +11,8 @@ Reports {S} {O} Step shown (suc n) (On s) r = (y : Next S O) × Step s y × Repo
 Reports {S} {O} Step shown (suc n) (End o bytes) r = r ≡ record { outcome = Some o; output = bytes }
 
 -- A relation as the type of its steps, of which each is from a state and leads to one, or to the end.
-abbrev pub Leads : {S O T : Type 0} → (T → S) → (T → Next S O) → S → Next S O → Type 0
-Leads {T = T} from to s y = (t : T) × (from t ≡ s) × (to t ≡ y)
+abbrev pub OneOf : {S O T : Type 0} → (T → S) → (T → Next S O) → S → Next S O → Type 0
+OneOf {T = T} from to s y = (t : T) × (from t ≡ s) × (to t ≡ y)
 
 -- each step keeps what was put
 abbrev pub StepsKeep : {S O : Type 0} → (S → Next S O → Type 0) → (S → List ℕ) → Type 0

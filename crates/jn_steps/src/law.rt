@@ -1,7 +1,7 @@
 ghost use Rattle.std.specs.Prelude.{◌≡◌, List, ℕ, ◌∷◌, pos, negsuc, true, []};
 ghost use Rattle.jn_steps.specs.Runs.{Next};
 ghost use Rattle.jn_steps.specs.Laws.{OutputGrows, RunsGoOn, RunsInParts};
-ghost use Rattle.jn_steps.specs.Reports.{Leads, StepsKeep, StopsEarlier, ReportsTheRun};
+ghost use Rattle.jn_steps.specs.Reports.{OneOf, StepsKeep, StopsEarlier, ReportsTheRun};
 ghost use Rattle.jn_steps.specs.Frames.{Rules, State, machine_step};
 ghost use Rattle.jn_steps.specs.Numbers.{sum_of, difference_of, product_of, negation_of, quotient_of, remainder_of, number_line, truth_line};
 
@@ -19,8 +19,8 @@ pub fn runs_go_on<S, O>()
 /// Where each step keeps what was put, there is a report of a run that was stopped earlier, and the later report goes on from
 /// it. Where a function tells the step, the report is that of its run.
 pub fn reports_stop_earlier<S, O, T>()
-    ensures earlier { (from : T → S) (to : T → Next S O) (shown : S → List ℕ) → StepsKeep (Leads from to) shown →
-        StopsEarlier (Leads from to) shown }
+    ensures earlier { (from : T → S) (to : T → Next S O) (shown : S → List ℕ) → StepsKeep (OneOf from to) shown →
+        StopsEarlier (OneOf from to) shown }
     ensures run { (step : S → Next S O) (shown : S → List ℕ) → ReportsTheRun step shown }
 {}
 

@@ -6,9 +6,9 @@ ghost use Rattle.jn_sem.specs.Search.{EndsPlainly};
 ghost use Rattle.jn_subtype.specs.Ends.{IsLevel, IsRaised, IsHigher, HasMore};
 
 use crate::bounds::bound_in;
+use jn_base::compare::{is_anchor, is_name};
 use jn_base::tree::Name;
 use jn_base::types::Anchor;
-use jn_bounds::is_name;
 use jn_intern::{Pool, Scope};
 use jn_normal::Conjunct;
 use jn_table::Table;
@@ -27,19 +27,6 @@ fn is_front(front: &[Name], all: &[Name]) -> bool
         }
     }
     true
-}
-
-/// Whether the two are one anchor.
-fn is_anchor(a: Anchor, b: Anchor) -> bool
-    ensures { IsTrue result ↔ (a ≡ b) }
-{
-    match a {
-        Anchor::Root => matches!(b, Anchor::Root),
-        Anchor::Up(p, j) => match b {
-            Anchor::Root => false,
-            Anchor::Up(q, k) => p == q && j == k,
-        },
-    }
 }
 
 /// Whether `y` is at the same anchor as `x` and has as many names, and its exact names are the outer ones of those of `x`.

@@ -9,7 +9,7 @@ use Rattle.jn_base.specs.Paths.{Path, shown}
 use Rattle.jn_base.specs.TableRules.{IsOver}
 use Rattle.jn_table.specs.Flat.{IsFlattened}
 use Rattle.jn_table.specs.Order.{IsOrderOf, entry_name}
-use Rattle.jn_table.specs.Rows.{IsNamed}
+use Rattle.jn_base.specs.ProgramNames.{IsNamed}
 use Rattle.jn_table.specs.Own.{IsOwnOf}
 use Rattle.jn_table.specs.Depths.{AreOf}
 use Rattle.jn_table.specs.Universes.{FitUniverse, IsUniverseOf, RowsOf, CycleAt, TwoKindsAt, NoneAt, RefusedBy, cycle_at, kinds_at, PassedBy}

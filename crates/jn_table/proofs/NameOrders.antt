@@ -10,7 +10,8 @@ use Rattle.std.proofs.lemmas.List.Elements.{All-head}
 use Rattle.jn_base.specs.declared.tree.Name.{Name}
 use Rattle.jn_base.specs.declared.tree.Text.{Text}
 use Rattle.jn_base.specs.declared.tree.Program.{Program}
-use Rattle.jn_base.specs.ClassOrder.{bytes_of, name_bytes, name_cmp, HasDistinctNames, HasItsNames}
+use Rattle.jn_base.specs.NameTexts.{bytes_of}
+use Rattle.jn_base.specs.ClassOrder.{name_bytes, name_cmp, HasDistinctNames, HasItsNames}
 use Rattle.jn_base.specs.Paths.{Path}
 use Rattle.jn_table.specs.Order.{order_cmp, IsOrderOf}
 use Rattle.jn_table.specs.Rows.{AreNames}

@@ -8,7 +8,7 @@ use Rattle.jn_base.specs.TableRules.{IsOver}
 use Rattle.jn_table.specs.Gather.{DeclaresIn}
 use Rattle.jn_table.specs.Exact.{IsFlat}
 use Rattle.jn_table.specs.Order.{IsOrderOf, entry_name}
-use Rattle.jn_table.specs.Rows.{IsNamed}
+use Rattle.jn_base.specs.ProgramNames.{IsNamed}
 use Rattle.jn_table.specs.Nodes.{AreNodes, FitNodes}
 use Rattle.jn_table.specs.declared.entry.Entry.{Entry}
 use Rattle.jn_table.specs.declared.depths.Found.{Found}

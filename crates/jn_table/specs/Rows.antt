@@ -17,14 +17,6 @@ use Rattle.jn_table.specs.declared.class.ClassId.{ClassId}
 use Rattle.jn_table.specs.declared.class.Row.{Row}
 use Rattle.jn_table.specs.declared.class.RowMember.{RowMember}
 
--- Equal names have one number, and each name of a declaration is one of the program's.
--- This is so of each program that a source spells.
-pub record IsNamed (p : Program) : Type 0 where
-  pub distinct : HasDistinctNames p
-  pub paths : NamesItsPaths p
-  pub methods : (R : Path) (m : Name) (x : Method) → MethodAt p R m x → m.0 < length p.names
-  pub fields : (R : Path) (f : Name) (x : Field) → FieldAt p R f x → f.0 < length p.names
-
 -- the number stands for the path R, where these are the numbered paths
 abbrev pub IsNumber : List ShownPath → ClassId → Path → Type 0
 IsNumber known id R = slice_get known id.0 ≡ Some (shown R)

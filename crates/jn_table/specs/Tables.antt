@@ -7,7 +7,8 @@ use Rattle.jn_base.specs.Supers.{Sup}
 use Rattle.jn_base.specs.ClassOrder.{Before}
 use Rattle.jn_table.specs.Flat.{IsFlattened}
 use Rattle.jn_table.specs.Order.{IsOrderOf, entry_name}
-use Rattle.jn_table.specs.Rows.{IsNamed, IsNumber, IsRow}
+use Rattle.jn_base.specs.ProgramNames.{IsNamed}
+use Rattle.jn_table.specs.Rows.{IsNumber, IsRow}
 use Rattle.jn_table.specs.Answers.{AreRows, HasUniverse, UniversePasses, UniverseRefused}
 use Rattle.jn_table.specs.declared.class.ClassId.{ClassId}
 use Rattle.jn_table.specs.declared.class.Row.{Row}

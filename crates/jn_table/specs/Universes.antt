@@ -15,7 +15,7 @@ use Rattle.jn_table.specs.Exact.{IsFlat}
 use Rattle.jn_table.specs.Order.{order_cmp}
 use Rattle.jn_table.specs.Own.{IsFlagAt, HasAt, IsOwnOf, MixedAt}
 use Rattle.jn_table.specs.Nodes.{AreNodes, FitNodes}
-use Rattle.jn_table.specs.Rows.{IsNamed}
+use Rattle.jn_base.specs.ProgramNames.{IsNamed}
 use Rattle.jn_table.specs.Ups.{IsUnder}
 use Rattle.jn_table.specs.declared.class.ClassId.{ClassId}
 use Rattle.jn_table.specs.declared.class.Row.{Row}

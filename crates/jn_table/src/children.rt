@@ -4,8 +4,9 @@ ghost use Rattle.jn_table.specs.Level.{IsShaped};
 ghost use Rattle.jn_table.specs.Children.{AddsPicked, ChildrenFront};
 
 use crate::entry::Entry;
-use crate::gather::{declared, has_name};
+use crate::gather::declared;
 use crate::level::{Child, Level};
+use jn_base::compare::has_name;
 use jn_base::tree::Name;
 use std::alloc::{AllocError, Global};
 

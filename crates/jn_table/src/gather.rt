@@ -4,7 +4,8 @@ ghost use Rattle.jn_base.specs.declared.tree.Name.{Name as AName};
 ghost use Rattle.jn_table.specs.Gather.{Gains, part_of, StandsInside, AreInside, NamedAmong, NamedIn, PartAmong, PartIn};
 
 use crate::entry::Entry;
-use crate::spot::{Spot, is_name};
+use crate::spot::Spot;
+use jn_base::compare::{has_name, is_name};
 use jn_base::tree::Name;
 use std::alloc::{AllocError, Global};
 
@@ -43,18 +44,6 @@ pub enum Part {
     Extends,
     Methods,
     Fields,
-}
-
-/// Whether the name is one of them.
-pub fn has_name(names: &[Name], name: Name) -> bool
-    ensures { IsTrue result ↔ Contains names.now name }
-{
-    for n in names {
-        if is_name(*n, name) {
-            return true;
-        }
-    }
-    false
 }
 
 /// Those names of the declaration.

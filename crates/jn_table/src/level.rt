@@ -6,8 +6,9 @@ ghost use Rattle.jn_table.specs.Gather.{AreInside};
 ghost use Rattle.jn_table.specs.Level.{DirectBy, DirectByAt, DirectRow, DirectRows, ChildPaths, IsShaped};
 
 use crate::entry::Entry;
-use crate::gather::{Part, has_name, parts};
-use crate::spot::{Spot, is_name};
+use crate::gather::{Part, parts};
+use crate::spot::Spot;
+use jn_base::compare::{has_name, is_name};
 use jn_base::tree::Name;
 use jn_reach::closure;
 use std::alloc::{AllocError, Global};

@@ -1,7 +1,7 @@
 ghost use Rattle.std.specs.Prelude.{◌≡◌, ◌<◌, ◌≤◌, ◌↔◌, ℕ, length, slice_get, Some, Contains, IfSome, IfNone, IsTrue};
 
 use crate::class::ClassId;
-use crate::spot::same;
+use jn_base::compare::same_names;
 use jn_base::path::Path;
 
 /// Whether the number is in the list.
@@ -27,7 +27,7 @@ fn is_class(a: ClassId, b: ClassId) -> bool
 fn is_path(a: &Path, b: &Path) -> bool
     ensures { IsTrue result ↔ (a.now ≡ b.now) }
 {
-    same(a.names.as_slice(), b.names.as_slice())
+    same_names(a.names.as_slice(), b.names.as_slice())
 }
 
 /// The first place of the path.

@@ -3,7 +3,7 @@ ghost use Rattle.std.proofs.Common.{rules};
 ghost use Rattle.std.specs.Cmp.{partial_equiv_from_equiv, eq_by_cmp_equiv, partial_order_from_total};
 ghost use Rattle.std.specs.Cmp.Rules.{comparing};
 ghost use Rattle.std.specs.Ordering.{as_partial_cmp, eq_by_cmp};
-ghost use Rattle.jn_base.specs.ClassOrder.{bytes_of};
+ghost use Rattle.jn_base.specs.NameTexts.{bytes_of};
 ghost use Rattle.jn_reach.specs.Each.{Each};
 ghost use Rattle.jn_table.specs.Order.{spelled_cmp, spelled_total, IsOrderOf, SpelledOf, spelled_name, entry_name};
 

@@ -2,6 +2,7 @@ ghost use Rattle.std.specs.Prelude.{◌≡◌, ◌↔◌, [], ◌∷◌, ◌++�
 ghost use Rattle.jn_base.specs.declared.tree.Name.{Name as AName};
 ghost use Rattle.jn_table.specs.Ups.{IsUnder};
 
+use jn_base::compare::same_names;
 use jn_base::path::Path;
 use jn_base::tree::Name;
 use sqlite_items::Items;
@@ -23,28 +24,6 @@ impl Model for Spot {
     ghost view = { λ spot. reverse spot.names };
 }
 
-/// Whether the two are one name.
-pub fn is_name(a: Name, b: Name) -> bool
-    ensures { IsTrue result ↔ (a ≡ b) }
-{
-    a.0 == b.0
-}
-
-/// Whether two lists have the same names.
-pub fn same(names: &[Name], others: &[Name]) -> bool
-    ensures { IsTrue result ↔ (names.now ≡ others.now) }
-{
-    if names.len() != others.len() {
-        return false;
-    }
-    for i in 0..names.len() {
-        if !is_name(names[i], others[i]) {
-            return false;
-        }
-    }
-    true
-}
-
 /// The one name that the names have behind those of `up`, where they are these and one more.
 fn one_more(names: &[Name], up: &[Name]) -> Option<Name>
     ensures some { IfSome result (λ C. names.now ≡ up.now ++ C ∷ []) }
@@ -54,7 +33,7 @@ fn one_more(names: &[Name], up: &[Name]) -> Option<Name>
         return None;
     }
     let last = names.len() - 1;
-    if same(&names[..last], up) {
+    if same_names(&names[..last], up) {
         return Some(names[last]);
     }
     None
@@ -82,7 +61,7 @@ impl Spot {
     pub fn is(&self, other: &Spot) -> bool
         ensures { IsTrue result ↔ (self.now ≡ other.now) }
     {
-        same(self.names.as_slice(), other.names.as_slice())
+        same_names(self.names.as_slice(), other.names.as_slice())
     }
 
     /// The same path.

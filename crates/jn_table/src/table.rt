@@ -30,7 +30,7 @@ pub struct Table {
 }
 
 impl Table {
-    ghost use Rattle.jn_table.specs.Rows.{IsNamed};
+    ghost use Rattle.jn_base.specs.ProgramNames.{IsNamed};
     ghost use Rattle.jn_table.specs.Tables.{IsTableOf, IsFilledAt, IsPathOf, HasNoNumber, StaysTable, SaysFilled, SaysRefused, SaysRow, SaysSup, SaysBefore};
     ghost use Rattle.jn_table.specs.OwnParts.{SaysMethods, SaysFields};
 

@@ -1,5 +1,5 @@
 -- The line that tells a refusal.
-use Rattle.std.specs.Prelude.{ℕ, Bool, true, false, List, [], ◌∷◌, ◌++◌, Option, Some, None, slice_get, codes, decimal}
+use Rattle.std.specs.Prelude.{ℕ, Bool, true, false, List, [], ◌∷◌, ◌++◌, Option, Some, None, codes, decimal}
 use Rattle.jn_base.specs.declared.tree.Text.{Text}
 use Rattle.jn_base.specs.declared.tree.Name.{Name}
 use Rattle.jn_base.specs.declared.tree.Place.{Place}
@@ -9,7 +9,8 @@ use Rattle.jn_base.specs.declared.refusal.Refusal.{Refusal}
 use Rattle.jn_base.specs.declared.refusal.Rule.{Rule}
 use Rattle.jn_base.specs.declared.refusal.Rule.TheVariants as rule
 use Rattle.jn_base.specs.declared.refusal.Limit.{Limit}
-use Rattle.jn_base.specs.declared.refusal.Limit.TheVariants as limit
+use Rattle.jn_base.specs.Limits.{limit_word}
+use Rattle.jn_base.specs.NameTexts.{name_text}
 
 -- The rule's number and its name.
 abbrev pub rule_text : Rule → List ℕ
@@ -41,18 +42,6 @@ rule_text rule.E25 = codes "E25 SuperSharing"
 rule_text rule.E26 = codes "E26 NoMain"
 rule_text rule.E27 = codes "E27 MaskName"
 
--- The limit's word.
-abbrev pub limit_word : Limit → List ℕ
-limit_word limit.Declarations = codes "declarations"
-limit_word limit.Nesting = codes "nesting"
-limit_word limit.Parameters = codes "parameters"
-limit_word limit.Locals = codes "locals"
-limit_word limit.Atoms = codes "atoms"
-limit_word limit.Masks = codes "masks"
-limit_word limit.Names = codes "names"
-limit_word limit.Entries = codes "entries"
-limit_word limit.Slots = codes "slots"
-
 -- The line and the column: 4:9
 abbrev pub place_text : Place → List ℕ
 place_text at = decimal at.line ++ (codes ":" ++ decimal at.column)
@@ -61,14 +50,6 @@ place_text at = decimal at.line ++ (codes ":" ++ decimal at.column)
 abbrev pub names_of : Option Program → List Text
 names_of None = []
 names_of (Some p) = p.names
-
--- A name by its number. One that the program has not is no text.
-abbrev pub bytes_of : Option Text → List ℕ
-bytes_of None = []
-bytes_of (Some t) = t.bytes
-
-abbrev pub name_text : List Text → Name → List ℕ
-name_text ns x = bytes_of (slice_get ns x.0)
 
 abbrev pub dot_if : Bool → List ℕ
 dot_if true = codes "."

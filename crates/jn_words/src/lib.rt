@@ -6,7 +6,9 @@
 #![tactic(auto)]
 
 ghost use Rattle.std.specs.Prelude.{◌≡◌, ◌++◌, decimal, false, option_copied, IfOk, OnOk};
-ghost use Rattle.jn_words.specs.Line.{rule_text, limit_word, place_text, names_of, name_text, dot_if, dotted, class_text, member_text, shown_text, line_of};
+ghost use Rattle.jn_base.specs.Limits.{limit_word};
+ghost use Rattle.jn_base.specs.NameTexts.{name_text};
+ghost use Rattle.jn_words.specs.Line.{rule_text, place_text, names_of, dot_if, dotted, class_text, member_text, shown_text, line_of};
 
 pub mod examples;
 #[cfg(test)]

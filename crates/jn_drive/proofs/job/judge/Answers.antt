@@ -2,7 +2,7 @@ use Rattle.std.proofs.Common.{subst, rules, None}
 use Rattle.jn_base.specs.declared.refusal.Refusal.{Refusal}
 use Rattle.jn_drive.specs.Answer.{IsRefusedBy}
 use Rattle.jn_drive.proofs.Judging.{spelled, fault_judged, long_judged}
-use Rattle.jn_drive.proofs.Spelled.{spelled_is_named}
+use Rattle.jn_base.proofs.SpelledNames.{spelled_is_named}
 use Rattle.jn_drive.proofs.job.judge.Goals as goal
 
 pub returns-then-source-gt-LIMIT : goal.returns-then-source-gt-LIMIT

@@ -4,4 +4,4 @@ use Rattle.jn_names.proofs.members.has_field.Goals as goal
 
 pub returns-in-Some : goal.returns-in-Some
 returns-in-Some c =
-    of_row c.args.rows.now c.args.s.0 c.in-Some.row.now (λ (w : MemberRow). w.fields.items) c.args.f c.has.result c.deref.result.now c.in-Some.ensures c.deref.ensures.value c.has.ensures
+    of_row c.args.rows.now c.args.s.0 c.in-Some.row.now (λ (w : MemberRow). w.fields.items) c.args.f c.has_name.result c.deref.result.now c.in-Some.ensures c.deref.ensures.value c.has_name.ensures.among

@@ -7,8 +7,8 @@ pub returns : goal.returns
 returns c =
     let some : length c.args.names.now ≡ 0 → ⊥ = λ z. grind (arith, z, c.is_empty.ensures, c.if-is_empty.false) in
     let more : length c.args.others.now ≡ 0 → ⊥ = λ z. grind (arith, z, c.is_empty-2.ensures, c.if-is_empty-2.false) in (
-      λ t. inner_to c.args.names.now c.args.others.now some more (sym c.behind_first.ensures ∙ (c.same.ensures.0 t ∙ c.behind_first-2.ensures)),
-      λ a. c.same.ensures.1 (c.behind_first.ensures ∙ (inner_from c.args.names.now c.args.others.now a ∙ sym c.behind_first-2.ensures)),
+      λ t. inner_to c.args.names.now c.args.others.now some more (sym c.behind_first.ensures ∙ (c.same_names.ensures.0 t ∙ c.behind_first-2.ensures)),
+      λ a. c.same_names.ensures.1 (c.behind_first.ensures ∙ (inner_from c.args.names.now c.args.others.now a ∙ sym c.behind_first-2.ensures)),
     )
 
 pub returns-then-is_empty : goal.returns-then-is_empty

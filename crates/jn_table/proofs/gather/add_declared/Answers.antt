@@ -16,7 +16,7 @@ loop-number-preserved c = elim c.if-not-has_name.branch [
       let there : c.has_name.result ≡ true = grind (arith, w.if-not-has_name.false) in
       rw w.all-is
       (declared_there _ _ _ _ c.index-entries-number.result _ _ c.loop-number-test.true (c.requires _ _ c.loop-number-test.true) c.index-entries-number.is
-      (rw c.deref.ensures.value at (c.has_name.ensures.0 there)) c.loop-number.invariant)
+      (rw c.deref.ensures.value at (c.has_name.ensures.among.0 there)) c.loop-number.invariant)
 ]
 
 pub returns : goal.returns

@@ -10,6 +10,6 @@ returns-in-None c = λ p f. iff_false (λ h. none_known p c.args.t.now c.args.se
 pub returns-in-Some : goal.returns-in-Some
 returns-in-Some c = λ p f.
     let k = (c.row.ensures p c.args.self.now f.table c.in-Some.ensures.some).fields.exact c.args.name in
-    let h : IsTrue c.has.result ↔ Contains c.row.result.now.fields.items c.args.name =
-    subst (λ (ns : List Name). IsTrue c.has.result ↔ Contains ns c.args.name) c.deref.ensures.value c.has.ensures in
+    let h : IsTrue c.has_name.result ↔ Contains c.row.result.now.fields.items c.args.name =
+    subst (λ (ns : List Name). IsTrue c.has_name.result ↔ Contains ns c.args.name) c.deref.ensures.value c.has_name.ensures.among in
     (λ x. k.0 (h.0 x), λ x. h.1 (k.1 x))

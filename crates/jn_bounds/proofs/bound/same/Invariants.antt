@@ -1,5 +1,0 @@
-use Rattle.std.proofs.Common.{◌≡◌, take, length}
-use Rattle.jn_bounds.proofs.bound.same.Given as goal
-
-abbrev pub invariant-loop-i : goal.invariant-loop-i
-invariant-loop-i l = (length l.names ≡ length l.others) × (take l.i l.names ≡ take l.i l.others)

@@ -1,0 +1,4 @@
+pub mod Fit
+pub mod Both
+pub mod Acts
+pub mod Keeps

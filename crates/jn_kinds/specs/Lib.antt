@@ -1,0 +1,4 @@
+pub mod Values
+pub mod Careful
+pub mod Kept
+pub mod CarefulExample
