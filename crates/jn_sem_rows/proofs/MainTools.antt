@@ -17,7 +17,7 @@ use Rattle.jn_base.specs.declared.tree.Member.TheVariants as member
 use Rattle.jn_base.specs.declared.tree.Member.TheVariants.{outs-Body}
 use Rattle.jn_base.specs.declared.tree.Program.{Program}
 use Rattle.jn_base.specs.declared.names.Var.{Var}
-use Rattle.jn_base.specs.ClassOrder.{bytes_of}
+use Rattle.jn_base.specs.NameTexts.{bytes_of}
 use Rattle.jn_base.specs.Paths.{Path, StandsIn, StandsAt, Declared, nested, methods, fields}
 use Rattle.jn_base.specs.Supers.{Sup, itself, above, Direct, Member}
 use Rattle.jn_base.specs.Members.{MethodAt}
