@@ -9,6 +9,9 @@ mod TwoPrintsProof
 mod BelowProof
 mod SlotTools
 mod SlotsProof
+mod LitFamilies
+mod DispatchProof
+mod ViewsProof
 mod LinkedProof
 mod RefutedProof
 mod OperatorsProof

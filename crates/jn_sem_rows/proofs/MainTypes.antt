@@ -7,6 +7,7 @@ use Rattle.jn_base.specs.declared.tree.Text.{Text}
 use Rattle.jn_base.specs.declared.tree.Method.{Method}
 use Rattle.jn_base.specs.declared.tree.TypeTerm.{TypeTerm}
 use Rattle.jn_base.specs.declared.tree.TypeTerm.TheVariants as type
+use Rattle.jn_base.specs.declared.tree.Program.{Program}
 use Rattle.jn_base.specs.declared.names.Var.{Var}
 use Rattle.jn_base.specs.declared.types.Anchor.TheVariants.{Root}
 use Rattle.jn_base.specs.declared.types.Ty.{Ty}
@@ -48,6 +49,12 @@ its_own s = record { each = each; only = only; sorted = (tt, tt) } where
   only y first = (main_atom, first, sym (root_normal s))
   only y (later m) = elim m [ ]
 
+-- `int` anywhere
+pub int_anywhere : (p : Program) (at : Site) → Only (TypeIs p at type.Int) ty.Int
+int_anywhere p at = record { is = int_is; one = λ w k. (finds_one p).type at type.Int w ty.Int k int_is } where
+  int_is : TypeIs p at type.Int ty.Int
+  int_is = record { given = ty.Int; resolved = refl; normal = refl }
+
 module _ (names : List Text) (ms : List Method) (m : Name) (vars : List Var) where
   abbrev here : Site
   here = record { class = Main ∷ []; method = m; vars = vars }
@@ -56,7 +63,7 @@ module _ (names : List Text) (ms : List Method) (m : Name) (vars : List Var) whe
   only_type t u h = record { is = h; one = λ w k. (finds_one (main_alone names ms)).type here t w u k h }
 
   pub int_type : Only (TypeIs (main_alone names ms) here type.Int) ty.Int
-  int_type = only_type type.Int ty.Int (record { given = ty.Int; resolved = refl; normal = refl })
+  int_type = int_anywhere (main_alone names ms) here
 
   alone : (B : Path) → Contains ((Main ∷ []) ∷ []) B → Main ∷ [] ≡ B
   alone B h = elim (in_cons (Main ∷ []) [] B h) [ inl i ↦ i | inr n ↦ absurd (in_none B n) ]

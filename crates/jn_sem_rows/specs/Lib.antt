@@ -6,3 +6,4 @@ pub mod TypesExample
 pub mod MainAlone
 pub mod VoidOperand
 pub mod MainRuns
+pub mod Views
