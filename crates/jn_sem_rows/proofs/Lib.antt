@@ -12,6 +12,8 @@ mod SlotsProof
 mod LitFamilies
 mod DispatchProof
 mod ViewsProof
+mod TaggedProof
+mod FieldsProof
 mod LinkedProof
 mod RefutedProof
 mod OperatorsProof
