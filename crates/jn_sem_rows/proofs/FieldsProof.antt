@@ -48,42 +48,63 @@ seven_line = refl
 pub field_views : FieldViews
 field_views = record {
   at_base = (
-    _, record { did = _; does = found ty.Int v_of_base (found slot_v v_slot_of_base refl); proceeds = refl },
+    _,
+    record { did = _; does = found ty.Int v_of_base (found slot_v v_slot_of_base refl); proceeds = refl },
     (_, shows 5 3 _ (in_base Lit) (codes "5\n") five_line, refl),
   );
   at_disp = (
-    _, record { did = _; does = found ty.Int v_of_disp (found slot_v v_slot_of_disp refl); proceeds = refl },
+    _,
+    record { did = _; does = found ty.Int v_of_disp (found slot_v v_slot_of_disp refl); proceeds = refl },
     (_, shows 5 3 _ (in_base Lit) (codes "5\n") five_line, refl),
   );
   stored = (
-    _, record { did = _; does = found ty.Int v_of_disp (found slot_v v_slot_of_disp (holds number refl)); proceeds = refl },
-    (_, record { did = _; does = refl; proceeds = refl },
-    (_, record { did = _; does = found ty.Int v_of_base (found slot_v v_slot_of_base refl); proceeds = refl },
-    (_, shows 6 3 _ (in_base Lit) (codes "6\n") six_line, refl))),
+    _,
+    record { did = _; does = found ty.Int v_of_disp (found slot_v v_slot_of_disp (holds number refl)); proceeds = refl },
+    (
+      _,
+      record { did = _; does = refl; proceeds = refl },
+      (
+        _,
+        record { did = _; does = found ty.Int v_of_base (found slot_v v_slot_of_base refl); proceeds = refl },
+        (_, shows 6 3 _ (in_base Lit) (codes "6\n") six_line, refl),
+      ),
+    ),
   );
   masked = (_, record { did = _; does = found ty.Int tag_of_disp (found slot_tag tag_slot refl); proceeds = refl }, refl);
   unmasked = (
-    _, record { did = _; does = found ty.Int tag_of_disp (found slot_tag tag_slot (holds number refl)); proceeds = refl },
-    (_, record { did = _; does = refl; proceeds = refl },
-    (_, record { did = _; does = found ty.Int tag_of_disp (found slot_tag tag_slot refl); proceeds = refl },
-    (_, shows 7 3 _ (in_base Lit) (codes "7\n") seven_line, refl))),
+    _,
+    record { did = _; does = found ty.Int tag_of_disp (found slot_tag tag_slot (holds number refl)); proceeds = refl },
+    (
+      _,
+      record { did = _; does = refl; proceeds = refl },
+      (
+        _,
+        record { did = _; does = found ty.Int tag_of_disp (found slot_tag tag_slot refl); proceeds = refl },
+        (_, shows 7 3 _ (in_base Lit) (codes "7\n") seven_line, refl),
+      ),
+    ),
   );
 }
 
 pub new_objects : NewObjects
 new_objects = record {
   fits = (
-    _, record {
+    _,
+    record {
       did = _;
       does = found (in_base Lit) (only_new base [] (get_and_print v)) (holds lits.other (found 3 size_of_base (found (zero_v ∷ []) fresh_of_base
           (not_found (no_constructor base refl) refl))));
       proceeds = refl;
     },
-    (_, record { did = _; does = found ty.Int v_of_base (found slot_v v_slot_of_base refl); proceeds = refl },
-    (_, shows 0 6 _ (in_base Lit) (codes "0\n") zero_line, refl)),
+    (
+      _,
+      record { did = _; does = found ty.Int v_of_base (found slot_v v_slot_of_base refl); proceeds = refl },
+      (_, shows 0 6 _ (in_base Lit) (codes "0\n") zero_line, refl),
+    ),
   );
   full = (
-    _, record {
+    _,
+    record {
       did = _;
       does = found (in_base Lit) (only_new base [] (get_and_print v)) (holds lits.other (found 3 size_of_base (found (zero_v ∷ []) fresh_of_base
           (not_found (no_constructor base refl) refl))));
@@ -92,13 +113,17 @@ new_objects = record {
     refl,
   );
   of_disp = (
-    _, record {
+    _,
+    record {
       did = _;
       does = found (in_disp Lit) (only_new disp [] (get_and_print tag)) (holds lits.one (found 3 size_of_disp (found (zero_tag ∷ zero_v ∷ []) fresh_of_disp
           (not_found (no_constructor disp refl) refl))));
       proceeds = refl;
     },
-    (_, record { did = _; does = found ty.Int tag_of_disp (found slot_tag tag_slot refl); proceeds = refl },
-    (_, shows 0 6 _ (in_disp Lit) (codes "0\n") zero_line, refl)),
+    (
+      _,
+      record { did = _; does = found ty.Int tag_of_disp (found slot_tag tag_slot refl); proceeds = refl },
+      (_, shows 0 6 _ (in_disp Lit) (codes "0\n") zero_line, refl),
+    ),
   );
 }

@@ -15,6 +15,7 @@ mod ViewsProof
 mod TaggedProof
 mod FieldsProof
 mod LinkedProof
+mod NextProof
 mod RefutedProof
 mod OperatorsProof
 mod TypesProof

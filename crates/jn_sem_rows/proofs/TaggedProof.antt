@@ -113,8 +113,9 @@ v_alone : (f : Name) → Contains (v ∷ []) f ↔ HasField tagged (in_base Lit)
 v_alone f = (λ c. elim (in_cons v [] f c) [ inl e ↦ subst (HasField tagged (in_base Lit)) e v_here | inr n ↦ absurd (in_none f n) ], back) where
   back : HasField tagged (in_base Lit) f → Contains (v ∷ []) f
   back h = elim (its_name h.at f h.declares.field h.declares.at) [
-    inl e ↦ subst (Contains (v ∷ [])) (sym e) (at_first v [])
-    | inr e ↦ absurd (not_tagged (subst (HasField tagged (in_base Lit)) e h)) ]
+    | inl e ↦ subst (Contains (v ∷ [])) (sym e) (at_first v [])
+    | inr e ↦ absurd (not_tagged (subst (HasField tagged (in_base Lit)) e h))
+  ]
 
 fresh_base : AreFresh tagged (in_base Lit) (zero_v ∷ [])
 unfolding IsStrictlySortedBy
@@ -135,8 +136,9 @@ tag_and_v f = (to, back) where
 
   back : HasField tagged (in_disp Lit) f → Contains (tag ∷ v ∷ []) f
   back h = elim (its_name h.at f h.declares.field h.declares.at) [
-    inl e ↦ subst (Contains (tag ∷ v ∷ [])) (sym e) (behind tag (v ∷ []) v (at_first v []))
-    | inr e ↦ subst (Contains (tag ∷ v ∷ [])) (sym e) (at_first tag (v ∷ [])) ]
+    | inl e ↦ subst (Contains (tag ∷ v ∷ [])) (sym e) (behind tag (v ∷ []) v (at_first v []))
+    | inr e ↦ subst (Contains (tag ∷ v ∷ [])) (sym e) (at_first tag (v ∷ []))
+  ]
 
 fresh_disp : AreFresh tagged (in_disp Lit) (zero_tag ∷ zero_v ∷ [])
 unfolding IsStrictlySortedBy

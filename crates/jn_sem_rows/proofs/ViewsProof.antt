@@ -74,10 +74,17 @@ prints z bytes e = record {
 evaluated : (V : Path) (z : ℕ) (bytes : List ℕ) → Only (IsBody dispatch V eval) (body V z) → number_line (pos z) ≡ bytes
     → ComesTo dispatch 1 one_lit (working (in_base Lit) (seen V ∷ []) eval_and_print) 4 (Some Ends) bytes
 evaluated V z bytes b e = (
-  _, calls V z b,
-  (_, record { did = _; does = refl; proceeds = refl },
-  (_, returns V z,
-  (_, prints z bytes e, refl))),
+  _,
+  calls V z b,
+  (
+    _,
+    record { did = _; does = refl; proceeds = refl },
+    (
+      _,
+      returns V z,
+      (_, prints z bytes e, refl),
+    ),
+  ),
 )
 
 two_line : number_line (pos 2) ≡ codes "2\n"
@@ -145,11 +152,13 @@ dispatch_rows = record {
   at_base = evaluated (in_base Lit) 1 (codes "1\n") base_body one_line;
   at_disp = evaluated (in_disp Lit) 2 (codes "2\n") disp_body two_line;
   viewed = (
-    _, record { did = _; does = found disp (only_target (seen (in_base Lit) ∷ [])) (found (in_disp Lit) to_disp refl); proceeds = refl },
+    _,
+    record { did = _; does = found disp (only_target (seen (in_base Lit) ∷ [])) (found (in_disp Lit) to_disp refl); proceeds = refl },
     evaluated (in_disp Lit) 2 (codes "2\n") disp_body two_line,
   );
   null_viewed = (
-    _, record { did = _; does = found disp (only_target (Null ∷ [])) refl; proceeds = refl },
+    _,
+    record { did = _; does = found disp (only_target (Null ∷ [])) refl; proceeds = refl },
     (_, record { did = _; does = refl; proceeds = refl }, refl),
   );
   equal = (_, record { did = _; does = refl; proceeds = refl }, (_, record { did = _; does = refl; proceeds = refl }, refl));
