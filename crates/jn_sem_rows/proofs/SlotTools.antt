@@ -88,7 +88,7 @@ two_long (A ∷ []) e = absurd (omega (arith, e))
 two_long (A ∷ B ∷ []) e = (A, B, refl)
 two_long (A ∷ B ∷ C ∷ S) e = absurd (omega (arith, e))
 
-no_member : (p : Program) → inners is_flat p ≡ true → (A B : Name) (N : Name) → Member p (A ∷ B ∷ []) N → ⊥
+pub no_member : (p : Program) → inners is_flat p ≡ true → (A B : Name) (N : Name) → Member p (A ∷ B ∷ []) N → ⊥
 no_member p e A B N m =
     let s = two_long m.at (sup_level m.super) in
     flat p e s.0 s.1 N (subst (λ (S : Path). Declared p (N ∷ S)) s.2 m.declared)
@@ -100,7 +100,7 @@ wide_zero (suc (suc zero)) d l = omega arith
 wide_zero (suc (suc (suc zero))) d l = omega arith
 wide_zero (suc (suc (suc (suc k)))) d l = absurd (omega (arith, l))
 
-masks_none : (names : List Name) → MasksAre names [] no_masks
+pub masks_none : (names : List Name) → MasksAre names [] no_masks
 masks_none names = record {
   words = refl;
   wide = wide_zero;
@@ -170,7 +170,7 @@ module _ (own further : List Inside) (flat_is : inners is_flat (adapting own fur
   abbrev that : Program
   that = adapting own further
 
-  deep : (A B : Name) (P : Path) (d : Decl) → StandsIn that (A ∷ B ∷ P) d → ⊥
+  pub deep : (A B : Name) (P : Path) (d : Decl) → StandsIn that (A ∷ B ∷ P) d → ⊥
   deep A B [] d s = none_of (nested s.0.members) d (at_inner that is_flat flat_is A B s.0 (s.1, s.2)) s.3
   deep A B (C ∷ P) d s = deep B C P s.0 s.1
 
