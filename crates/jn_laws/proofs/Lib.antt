@@ -1,0 +1,6 @@
+pub mod Sures
+pub mod Lists
+pub mod Words
+pub mod Declarations
+pub mod Firsts
+pub mod Universes

@@ -1,0 +1,2 @@
+pub mod Surely
+pub mod LawsOfUniverse
