@@ -4,3 +4,5 @@ pub mod Words
 pub mod Declarations
 pub mod Firsts
 pub mod Universes
+pub mod ByViews
+pub mod Bounded

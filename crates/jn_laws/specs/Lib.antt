@@ -1,2 +1,4 @@
 pub mod Surely
 pub mod LawsOfUniverse
+pub mod LawsOfViews
+pub mod LawsOfBounds

@@ -3,4 +3,6 @@
 //! Nothing here computes: `specs/` says the laws, in the words of the crates below.
 #![tactic(auto)]
 
+pub mod bounds;
 pub mod universe;
+pub mod views;
