@@ -6,3 +6,6 @@ pub mod Firsts
 pub mod Universes
 pub mod ByViews
 pub mod Bounded
+pub mod Terms
+pub mod WrittenTypes
+pub mod Params

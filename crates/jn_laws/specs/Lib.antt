@@ -2,3 +2,4 @@ pub mod Surely
 pub mod LawsOfUniverse
 pub mod LawsOfViews
 pub mod LawsOfBounds
+pub mod LawsOfWritten

@@ -6,3 +6,4 @@
 pub mod bounds;
 pub mod universe;
 pub mod views;
+pub mod written;
