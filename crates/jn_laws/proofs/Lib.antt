@@ -9,3 +9,6 @@ pub mod Bounded
 pub mod Terms
 pub mod WrittenTypes
 pub mod Params
+pub mod RootClosures
+pub mod AlikeScopes
+pub mod MovedTypes

@@ -3,3 +3,5 @@ pub mod LawsOfUniverse
 pub mod LawsOfViews
 pub mod LawsOfBounds
 pub mod LawsOfWritten
+pub mod LawsOfScopes
+pub mod LawsOfFits

@@ -4,6 +4,7 @@
 #![tactic(auto)]
 
 pub mod bounds;
+pub mod scopes;
 pub mod universe;
 pub mod views;
 pub mod written;
