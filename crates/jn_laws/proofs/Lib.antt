@@ -12,3 +12,4 @@ pub mod Params
 pub mod RootClosures
 pub mod AlikeScopes
 pub mod MovedTypes
+pub mod StoredValues

@@ -5,3 +5,5 @@ pub mod LawsOfBounds
 pub mod LawsOfWritten
 pub mod LawsOfScopes
 pub mod LawsOfFits
+pub mod Reading
+pub mod LawsOfStores

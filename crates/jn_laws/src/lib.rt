@@ -5,6 +5,7 @@
 
 pub mod bounds;
 pub mod scopes;
+pub mod stores;
 pub mod universe;
 pub mod views;
 pub mod written;
