@@ -12,7 +12,7 @@ use Rattle.jn_base.specs.Supers.{Sup}
 use Rattle.jn_base.specs.Universe.{InUniverse}
 use Rattle.jn_base.specs.Atoms.{Atom, atoms_in, first_at, atom_at, anchor_at, Among, first, later}
 use Rattle.jn_base.specs.Scopes.{Bind, Scope, bound_of, bound, Binds}
-use Rattle.jn_base.specs.Fits.{Anchored, AtomsFit, IsClass, TypeFits, BindsFit}
+use Rattle.jn_base.specs.Fits.{Anchored, AtomsFit, IsClassType, TypeFits, BindsFit}
 use Rattle.jn_base.specs.Resolve.{is_class}
 use Rattle.jn_sem.specs.Widening.{Widens, loosened, raised, opened, widened}
 use Rattle.jn_sem.specs.Below.{Below, ints, booleans, nulls, classes}
@@ -70,7 +70,7 @@ pub fits_like : {s t : Scope} → ScopesAlike s t → (u : Ty) → TypeFits s u 
 fits_like h u f = record { atoms = λ i. atoms_like h (atoms_in u) (f.atoms i) }
 
 -- whether a type is a class type is its test's answer
-class_tested : (t u : Ty) → is_class t ≡ is_class u → IsClass t → IsClass u
+class_tested : (t u : Ty) → is_class t ≡ is_class u → IsClassType t → IsClassType u
 class_tested (ty.Class xs m) (ty.Class ys n) e i = tt
 class_tested (ty.Class xs m) ty.Int e i = cc
 class_tested (ty.Class xs m) ty.Bool e i = cc

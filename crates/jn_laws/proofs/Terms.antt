@@ -24,7 +24,7 @@ use Rattle.jn_base.specs.Paths.{Path}
 use Rattle.jn_base.specs.Atoms.{Among, first, later}
 use Rattle.jn_base.specs.Scopes.{Scope, bound_of, Binds, this_bind}
 use Rattle.jn_base.specs.Universe.{InUniverse}
-use Rattle.jn_base.specs.Fits.{Anchored, IsClass}
+use Rattle.jn_base.specs.Fits.{Anchored, IsClassType}
 use Rattle.jn_base.specs.Resolve.{is_class, this_alone, newest, var_named, of_variable, var_bind, class_of, scope_at, anchor_out, Before, IsPath, NotInScope, NoPath, Behind, unknown_name, not_above, above, BoundGives, PathGives, path_before, PrefixGives, AnchorGiven, AtomGives, SuitGives, ClassGives, no_class, in_class, plain_gives, suits, atom_with, IsOfClass, bound_at, Resolve}
 use Rattle.jn_sem.specs.Terms.{Site, spot_at, vars_at}
 use Rattle.jn_sem.specs.LawsOfSlots.{HeadNamed}
@@ -200,7 +200,7 @@ case_path sp vs h a q k (bracket r P B f m n l c e) i = subst (Mentioned sp.role
 
 -- ---- where the variables in scope fit
 
-is_class_type : (t : Ty) → is_class t ≡ true → IsClass t
+is_class_type : (t : Ty) → is_class t ≡ true → IsClassType t
 is_class_type (ty.Class xs m) e = tt
 is_class_type ty.Int e = cc
 is_class_type ty.Bool e = cc
