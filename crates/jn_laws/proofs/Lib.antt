@@ -13,3 +13,5 @@ pub mod RootClosures
 pub mod AlikeScopes
 pub mod MovedTypes
 pub mod StoredValues
+pub mod SpelledForms
+pub mod CleanTexts

@@ -7,3 +7,4 @@ pub mod LawsOfScopes
 pub mod LawsOfFits
 pub mod Reading
 pub mod LawsOfStores
+pub mod LawsOfSources

@@ -5,6 +5,7 @@
 
 pub mod bounds;
 pub mod scopes;
+pub mod sources;
 pub mod stores;
 pub mod universe;
 pub mod views;
