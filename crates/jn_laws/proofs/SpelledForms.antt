@@ -1,5 +1,5 @@
 -- Forms of the types in a program that a source spells.
-use Rattle.std.proofs.Common.{◌≡◌, ◌<◌, ◌≤◌, ℕ, suc, List, [], ◌∷◌, ◌++◌, length, refl, sym, ap, ◌∙◌, subst, ◌⊎◌, inl, inr, arith, Contains, Option, Some, None}
+use Rattle.std.proofs.Common.{◌≡◌, ◌<◌, ℕ, suc, List, [], ◌∷◌, ◌++◌, length, refl, subst, ◌⊎◌, inl, inr, arith, Contains, Option, Some, None}
 use Rattle.std.proofs.lemmas.List.Elements.{Contains-append_left, Contains-append_right}
 use Rattle.jn_base.specs.declared.tree.Name.{Name}
 use Rattle.jn_base.specs.declared.tree.Kind.{Kind}
@@ -18,8 +18,8 @@ use Rattle.jn_base.specs.declared.tree.Member.TheVariants as member
 use Rattle.jn_base.specs.declared.tree.Member.TheVariants.{outs-Inner, outs-Slot, outs-Body}
 use Rattle.jn_base.specs.declared.tree.Place.{Place}
 use Rattle.jn_base.specs.declared.tree.Program.{Program}
-use Rattle.jn_base.specs.declared.word.Mark.TheVariants.{OpenBrace, CloseBrace, OpenParen, CloseParen, Semicolon}
-use Rattle.jn_base.specs.Parts.{Part, Role, Declares, Parameter, name, named, new_name, opening, mark}
+use Rattle.jn_base.specs.declared.word.Mark.TheVariants.{OpenBrace, CloseBrace, OpenParen}
+use Rattle.jn_base.specs.Parts.{Part, Declares, name, named, new_name, opening, mark}
 use Rattle.jn_base.specs.GrammarTypes.{IsDotted, one_name, more_names, IsTerm, plain, own, in_prefix, IsView, view, IsAtoms, last_atom, then_atom, IsType, int, boolean, class}
 use Rattle.jn_base.specs.GrammarDecl.{IsParam, param, IsMoreParams, no_more_param, then_param, IsParams, no_param, params, IsRel, rel, IsMoreRels, no_more_rel, then_rel, IsSharing, no_sharing, sharing, IsResult, no_result, result, IsInner, IsMember, IsMembers, IsTop, IsProgram}
 use Rattle.jn_base.specs.Paths.{Path, StandsIn, StandsAt, nested, fields, methods, and_nested, and_field, and_method}
@@ -130,7 +130,7 @@ or_else (inl a) f g = f a
 or_else (inr b) f g = g b
 
 -- these words are among all
-pub Within : List Part → List Part → Type 0
+unfoldable pub Within : List Part → List Part → Type 0
 Within all w = (t : Part) → Contains w t → Contains all t
 
 within_left : (all u v : List Part) → Within all (u ++ v) → Within all u
