@@ -1,0 +1,17 @@
+pub mod Sures
+pub mod Lists
+pub mod Words
+pub mod Declarations
+pub mod Firsts
+pub mod Universes
+pub mod ByViews
+pub mod Bounded
+pub mod Terms
+pub mod WrittenTypes
+pub mod Params
+pub mod RootClosures
+pub mod AlikeScopes
+pub mod MovedTypes
+pub mod StoredValues
+pub mod SpelledForms
+pub mod CleanTexts

@@ -1,0 +1,10 @@
+pub mod Surely
+pub mod LawsOfUniverse
+pub mod LawsOfViews
+pub mod LawsOfBounds
+pub mod LawsOfWritten
+pub mod LawsOfScopes
+pub mod LawsOfFits
+pub mod Reading
+pub mod LawsOfStores
+pub mod LawsOfSources

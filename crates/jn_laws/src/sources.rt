@@ -1,0 +1,16 @@
+ghost use Rattle.jn_laws.specs.LawsOfSources.{SourcesBracketsNamed, SourcesWellFormed, TextsKeepLimits};
+
+/// In a program that a source spells the types of headers have terms, with names before each bracket.
+pub fn sources_well_formed()
+    ensures { SourcesWellFormed }
+{}
+
+/// In a program that a source spells names stand before each bracket of a field's type.
+pub fn sources_brackets_named()
+    ensures { SourcesBracketsNamed }
+{}
+
+/// In a program whose source no limit refuses, paths have at most 8 names and methods at most 15 parameters.
+pub fn texts_keep_limits()
+    ensures { TextsKeepLimits }
+{}
