@@ -9,8 +9,6 @@ ghost use Rattle.std.specs.Prelude.{◌≡◌, ◌++◌, decimal, false, option_
 ghost use Rattle.jn_words.specs.Line.{rule_text, limit_word, place_text, names_of, name_text, dot_if, dotted, class_text, member_text, shown_text, line_of};
 
 pub mod examples;
-#[cfg(test)]
-mod tests;
 
 use itoa::Buffer;
 use jn_base::path::Path;
