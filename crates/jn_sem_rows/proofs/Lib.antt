@@ -16,6 +16,8 @@ mod TaggedProof
 mod FieldsProof
 mod LinkedProof
 mod NextProof
+mod DeepSlotsProof
+mod MaskedSideProof
 mod RefutedProof
 mod OperatorsProof
 mod TypesProof

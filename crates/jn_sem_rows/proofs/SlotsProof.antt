@@ -40,7 +40,7 @@ int_type (type.Class ts ms) = false
 ok_is : (a b : Ty) → ◌≡◌ {A = Result Ty Refusal} (Ok a) (Ok b) → a ≡ b
 ok_is a b e = cc
 
-equal_less : Before tagged (in_base Lit) (in_base Lit) → ⊥
+pub equal_less : Before tagged (in_base Lit) (in_base Lit) → ⊥
 equal_less e = cc
 
 greater_less : Before tagged (in_disp Lit) (in_base Lit) → ⊥

@@ -7,3 +7,4 @@ pub mod MainAlone
 pub mod VoidOperand
 pub mod MainRuns
 pub mod Views
+pub mod SlotRows
