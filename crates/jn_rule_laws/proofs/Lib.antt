@@ -5,3 +5,5 @@ pub mod ResolveThere
 pub mod SharingThere
 pub mod Replies
 pub mod Verdicts
+pub mod HeaderLaws
+pub mod Declared

@@ -1,7 +1,8 @@
 //! The laws of the rules: each question has one reply, each plan one outcome, each program one verdict.
 #![tactic(auto)]
 
-ghost use Rattle.jn_rule_laws.specs.LawsOfRules.{QuestionsHaveReplies, QuestionsHaveOneReply, PlansGive, PlansHaveOneOutcome, HeadersHaveOneVerdict, TreesHaveOneVerdict};
+ghost use Rattle.jn_rule_laws.specs.LawsOfHeaders.{HeadersAreTheMeanings, HeadersGrant, HeadersThatPass};
+ghost use Rattle.jn_rule_laws.specs.LawsOfRules.{QuestionsHaveReplies, QuestionsHaveOneReply, PlansGive, PlansHaveOneOutcome, HeadersHaveOneVerdict, TreesHaveOneVerdict, SourcesHaveOneVerdict};
 
 /// Each question surely has a reply.
 pub fn questions_have_replies()
@@ -31,4 +32,24 @@ pub fn headers_have_one_verdict()
 /// A program passes or has one refusal, never both, and surely one of these is so.
 pub fn trees_have_one_verdict()
     ensures { TreesHaveOneVerdict }
+{}
+
+/// The plan of a header gives it exactly where it is the one with which the meaning calls the body.
+pub fn headers_are_the_meanings()
+    ensures { HeadersAreTheMeanings }
+{}
+
+/// What a header grants: some constraint grants the view change, or none does.
+pub fn headers_grant()
+    ensures { HeadersGrant }
+{}
+
+/// Where the headers of a program pass, each method has a header, each constraint resolves, and each field has a type.
+pub fn headers_that_pass()
+    ensures { HeadersThatPass }
+{}
+
+/// A source is accepted or has one refusal, never both, and surely one of these is so, where its text has one outcome.
+pub fn sources_have_one_verdict()
+    ensures { SourcesHaveOneVerdict }
 {}
