@@ -285,7 +285,7 @@ sources_well_formed p bytes s = record {
   constraints = λ Q m x c at i. let f = (method_formed p s.parts s.is_program Q m x at).formed in sharing_named f.around f.sharing_words x.sharing f.sharing c i;
 }
 
-type_named : (t : TypeTerm) → TypeWellFormed t → TypeNamed t
+pub type_named : (t : TypeTerm) → TypeWellFormed t → TypeNamed t
 type_named type.Int w = tt
 type_named type.Bool w = tt
 type_named (type.Class ts ms) w = w.1
