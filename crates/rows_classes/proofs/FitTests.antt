@@ -1,7 +1,7 @@
 -- What the tests of scopes and types say.
-use Rattle.std.proofs.Common.{◌≡◌, ◌<◌, ◌≤◌, ◌+◌, ◌∙◌, ℕ, List, [], ◌∷◌, Contains, All, get_or, length, take, map, reverse, refl, sym, ap, subst, arith, Bool, false, ◌==◌, Result, Ok, Err, IfOk}
+use Rattle.std.proofs.Common.{◌≡◌, ◌<◌, ◌≤◌, ◌+◌, ◌∙◌, ℕ, List, [], ◌∷◌, ◌++◌, inl, inr, Contains, All, get_or, length, take, map, reverse, refl, sym, ap, subst, arith, Bool, false, ◌==◌, Result, Ok, Err, IfOk}
 use Rattle.std.proofs.lemmas.List.{take_more, reverse-reverse, map-append, reverse-append}
-use Rattle.std.proofs.lemmas.List.Elements.{All-contains}
+use Rattle.std.proofs.lemmas.List.Elements.{All-contains, Contains-push_cases}
 use Rattle.jn_base.specs.declared.tree.Name.{Name}
 use Rattle.jn_base.specs.declared.types.Anchor.{Anchor}
 use Rattle.jn_base.specs.declared.types.Anchor.TheVariants.{Root}
@@ -106,3 +106,11 @@ both_of P Q (Err e) p q = tt
 pub some_of : {A : Type 0} (xs : List A) (b : Bool) → b ≡ (length xs == 0) → b ≡ false → 0 < length xs
 some_of [] b e h = absurd (cc)
 some_of (x ∷ xs) b e h = omega arith
+
+-- what holds of the first i elements and of the next one
+pub each_more : {A : Type 0} (P : A → Type 0) (ys : List A) (i : ℕ) (y : A) → i < length ys → y ≡ get_or ys i y
+    → ((z : A) → Contains (take i ys) z → P z) → P y → (z : A) → Contains (take (i + 1) ys) z → P z
+each_more {A} P ys i y l e each one z m =
+    let more : take (i + 1) ys ≡ take i ys ++ y ∷ [] = take_more ys i y l ∙ ap (λ (x : A). take i ys ++ x ∷ []) (sym e) in
+    let cases = Contains-push_cases (take i ys) y z (subst (λ (t : List A). Contains t z) more m) in
+    elim cases [ inl h ↦ each z h | inr h ↦ subst P h one ]

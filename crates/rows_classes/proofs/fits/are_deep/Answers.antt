@@ -4,8 +4,8 @@ use Rattle.jn_base.specs.Atoms.{atom_of}
 use Rattle.jn_base.specs.Scopes.{Scope, bound}
 use Rattle.jn_base.specs.Fits.{Anchored}
 use Rattle.jn_subtype.specs.Binds.{binds_in}
-use Rattle.jn_subtype.proofs.Reaching.{each_more}
-use Rattle.jn_subtype.proofs.fits.are_deep.Goals as goal
+use Rattle.rows_classes.proofs.FitTests.{each_more}
+use Rattle.rows_classes.proofs.fits.are_deep.Goals as goal
 
 pub loop-x-preserved : goal.loop-x-preserved
 loop-x-preserved c =

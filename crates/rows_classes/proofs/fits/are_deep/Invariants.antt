@@ -4,7 +4,7 @@ use Rattle.jn_base.specs.Atoms.{atom_of}
 use Rattle.jn_base.specs.Scopes.{bound}
 use Rattle.jn_base.specs.Fits.{Anchored}
 use Rattle.jn_subtype.specs.Binds.{binds_in}
-use Rattle.jn_subtype.proofs.fits.are_deep.Given as goal
+use Rattle.rows_classes.proofs.fits.are_deep.Given as goal
 
 abbrev pub invariant-loop-x : goal.invariant-loop-x
 invariant-loop-x l = record {

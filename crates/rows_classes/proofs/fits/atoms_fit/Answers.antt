@@ -1,8 +1,8 @@
 use Rattle.std.proofs.Common.{◌∙◌, ◌<◌, length, ap}
 use Rattle.std.proofs.lemmas.Result.{IfOk-weaker}
 use Rattle.jn_subtype.specs.Binds.{binds_in}
-use Rattle.jn_subtype.proofs.FitTests.{atoms_of, both_of, some_of}
-use Rattle.jn_subtype.proofs.fits.atoms_fit.Goals as goal
+use Rattle.rows_classes.proofs.FitTests.{atoms_of, both_of, some_of}
+use Rattle.rows_classes.proofs.fits.atoms_fit.Goals as goal
 
 pub returns : goal.returns
 returns c =

@@ -2,8 +2,8 @@ use Rattle.std.proofs.Common.{◌≡◌, All, List, take, take_all, get_or, refl
 use Rattle.std.proofs.lemmas.Bool.{false≢true}
 use Rattle.std.proofs.lemmas.List.Elements.{Contains-get_or}
 use Rattle.jn_intern.specs.declared.scope.Bind.{Bind}
-use Rattle.jn_subtype.proofs.FitTests.{binds_of, binds_not}
-use Rattle.jn_subtype.proofs.fits.has_path.Goals as goal
+use Rattle.rows_classes.proofs.FitTests.{binds_of, binds_not}
+use Rattle.rows_classes.proofs.fits.has_path.Goals as goal
 
 abbrev nothing : Bind
 nothing = record { path = 0; ty = record { 0 = 0 } }

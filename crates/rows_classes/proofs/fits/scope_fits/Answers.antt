@@ -4,8 +4,8 @@ use Rattle.std.proofs.lemmas.Result.{IfOk-weaker}
 use Rattle.jn_base.specs.Fits.{ScopeFits}
 use Rattle.jn_intern.specs.declared.scope.Bind.{Bind}
 use Rattle.jn_subtype.specs.Binds.{binds_in}
-use Rattle.jn_subtype.proofs.FitTests.{scope_of, some_of}
-use Rattle.jn_subtype.proofs.fits.scope_fits.Goals as goal
+use Rattle.rows_classes.proofs.FitTests.{scope_of, some_of}
+use Rattle.rows_classes.proofs.fits.scope_fits.Goals as goal
 
 abbrev nothing : Bind
 nothing = record { path = 0; ty = record { 0 = 0 } }
