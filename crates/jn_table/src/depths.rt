@@ -6,7 +6,7 @@ use crate::entry::Entry;
 use crate::gather::insides;
 use crate::level::{next, root};
 use crate::nodes::{Nodes, add_level};
-use crate::spot::Spot;
+use crate::route::Route;
 use jn_base::tree::Name;
 use std::alloc::{AllocError, Global};
 
@@ -17,7 +17,7 @@ const ROOM: usize = 4_097;
 #[derive(Drop)]
 pub enum Found {
     Whole(Nodes),
-    Over(Spot),
+    Over(Route),
 }
 
 /// The paths of a universe, depth by depth: each depth has the members of the one above it, up to the last that has any.

@@ -2,7 +2,7 @@ ghost use Rattle.std.specs.Prelude.{◌≡◌, ◌∷◌, [], map, OnOk, IfOk};
 ghost use Rattle.jn_base.specs.Paths.{methods, fields};
 ghost use Rattle.jn_table.specs.Flat.{named_name, method_name, field_name, EntryIs, AddsFlat, IsFlattened};
 
-use crate::spot::Spot;
+use crate::route::Route;
 use jn_base::tree::{Decl, Kind, Member, Name, Named, Program};
 use sqlite_items::Items;
 use std::alloc::{AllocError, Global};
@@ -10,9 +10,9 @@ use std::alloc::{AllocError, Global};
 /// A declaration without its body: the namespace that it stands in, its path, and the names that it has.
 #[derive(Drop)]
 pub struct Entry {
-    pub namespace: Spot,
+    pub namespace: Route,
     pub name: Name,
-    pub path: Spot,
+    pub path: Route,
     pub kind: Kind,
     pub extends: Items<Name>,
     pub methods: Items<Name>,
@@ -57,7 +57,7 @@ fn field_names(alloc: Global, members: &[Member]) -> Result<Items<Name>, AllocEr
 }
 
 /// The entry of a declaration that stands in the namespace.
-fn entry_of(alloc: Global, namespace: &Spot, decl: &Decl) -> Result<Entry, AllocError>
+fn entry_of(alloc: Global, namespace: &Route, decl: &Decl) -> Result<Entry, AllocError>
     ensures { IfOk result (λ entry. EntryIs entry namespace.now decl.now) }
 {
     Ok(Entry {
@@ -74,7 +74,7 @@ fn entry_of(alloc: Global, namespace: &Spot, decl: &Decl) -> Result<Entry, Alloc
 /// Adds an entry for a declaration, and for those nested in it.
 fn flatten(
     alloc: Global,
-    namespace: &Spot,
+    namespace: &Route,
     decl: &Decl,
     entries: &mut Vec<Entry>,
 ) -> Result<(), AllocError>
@@ -98,7 +98,7 @@ pub fn entries(alloc: Global, program: &Program) -> Result<Vec<Entry>, AllocErro
     ensures { IfOk result (λ all. IsFlattened program.now all.items) }
 {
     let mut all = Vec::new(alloc);
-    let root = Spot::root(alloc);
+    let root = Route::root(alloc);
     for decl in program.decls.as_slice() {
         flatten(alloc, &root, decl, &mut all)?;
     }

@@ -10,7 +10,7 @@ use crate::fault::TableFault;
 use crate::judge::judged;
 use crate::nodes::Nodes;
 use crate::row::rows_of;
-use crate::spot::Spot;
+use crate::route::Route;
 use crate::universe::universe_of;
 use jn_base::path::Path;
 use jn_base::tree::{Name, Text};
@@ -24,7 +24,7 @@ pub struct Rows {
 }
 
 /// The paths with the outermost name first.
-fn known_of(alloc: Global, paths: &[Spot]) -> Result<Vec<Path>, AllocError>
+fn known_of(alloc: Global, paths: &[Route]) -> Result<Vec<Path>, AllocError>
     ensures { IfOk result (λ known. known.items ≡ map shown paths.now) }
 {
     let mut known = Vec::new(alloc);

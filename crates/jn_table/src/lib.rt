@@ -31,7 +31,7 @@ mod nodes;
 mod order;
 mod own;
 mod row;
-mod spot;
+mod route;
 mod table;
 mod universe;
 

@@ -4,7 +4,7 @@ ghost use Rattle.jn_table.specs.Universes.{FitUniverse, KindBy, UpBy, MembersUpT
 use crate::class::{ClassId, Row, RowMember};
 use crate::order::in_byte_order;
 use crate::own::{Own, gathered, some_flag};
-use crate::spot::Spot;
+use crate::route::Route;
 use crate::universe::Universe;
 use jn_base::tree::{Kind, Text};
 use std::alloc::{AllocError, Global};
@@ -21,7 +21,7 @@ fn kind_of(own: &Own, sups: &[usize]) -> Kind
 }
 
 /// The number of the path without its last name.
-fn up_of(paths: &[Spot], path: &Spot) -> Option<ClassId>
+fn up_of(paths: &[Route], path: &Route) -> Option<ClassId>
     requires { length paths.now ≤ 4096 }
     ensures { UpBy paths.now path.now result }
 {
@@ -46,7 +46,7 @@ fn ids_of(alloc: Global, row: &[usize]) -> Result<Vec<ClassId>, AllocError>
 }
 
 /// The members of a path.
-fn members_of(alloc: Global, paths: &[Spot], up: &Spot) -> Result<Vec<RowMember>, AllocError>
+fn members_of(alloc: Global, paths: &[Route], up: &Route) -> Result<Vec<RowMember>, AllocError>
     requires { length paths.now ≤ 4096 }
     ensures { IfOk result (λ all. MembersUpTo paths.now up.now (length paths.now) all.items) }
 {

@@ -1,5 +1,5 @@
 use Rattle.jn_table.proofs.Ups.{not_under}
-use Rattle.jn_table.proofs.spot.Spot.under.Goals as goal
+use Rattle.jn_table.proofs.route.Route.under.Goals as goal
 
 pub returns-clause-none : goal.returns-clause-none
 returns-clause-none c =

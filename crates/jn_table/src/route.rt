@@ -11,17 +11,17 @@ use std::marker::Model;
 
 /// A path, which contracts see as its names, the innermost first.
 #[derive(Drop)]
-pub struct Spot {
+pub struct Route {
     names: Items<Name>,
 }
 
-impl Model for Spot {
+impl Model for Route {
     ghost use Rattle.std.specs.Prelude.{List, reverse};
     ghost use Rattle.jn_base.specs.declared.tree.Name.{Name as AName};
 
     ghost Value = { List AName };
 
-    ghost view = { λ spot. reverse spot.names };
+    ghost view = { λ route. reverse route.names };
 }
 
 /// The one name that the names have behind those of `up`, where they are these and one more.
@@ -39,50 +39,50 @@ fn one_more(names: &[Name], up: &[Name]) -> Option<Name>
     None
 }
 
-impl Spot {
+impl Route {
     /// The program itself, the namespace of the top-level names.
-    pub fn root(alloc: Global) -> Spot
+    pub fn root(alloc: Global) -> Route
         ensures { result ≡ [] }
     {
-        Spot {
+        Route {
             names: Items::new(alloc),
         }
     }
 
     /// The path that is given with the outermost name first.
-    pub fn of(alloc: Global, path: &Path) -> Result<Spot, AllocError>
-        ensures { IfOk result (λ spot. spot ≡ reverse path.now.names) }
+    pub fn of(alloc: Global, path: &Path) -> Result<Route, AllocError>
+        ensures { IfOk result (λ route. route ≡ reverse path.now.names) }
     {
         let names = Items::from_slice(alloc, path.names.as_slice())?;
-        Ok(Spot { names })
+        Ok(Route { names })
     }
 
     /// Whether both are one path.
-    pub fn is(&self, other: &Spot) -> bool
+    pub fn is(&self, other: &Route) -> bool
         ensures { IsTrue result ↔ (self.now ≡ other.now) }
     {
         same_names(self.names.as_slice(), other.names.as_slice())
     }
 
     /// The same path.
-    pub fn copy(&self, alloc: Global) -> Result<Spot, AllocError>
-        ensures { IfOk result (λ spot. spot ≡ self.now) }
+    pub fn copy(&self, alloc: Global) -> Result<Route, AllocError>
+        ensures { IfOk result (λ route. route ≡ self.now) }
     {
         let names = Items::from_slice(alloc, self.names.as_slice())?;
-        Ok(Spot { names })
+        Ok(Route { names })
     }
 
     /// The path with one more name behind its last one.
-    pub fn down(&self, alloc: Global, name: Name) -> Result<Spot, AllocError>
-        ensures { IfOk result (λ spot. spot ≡ name ∷ self.now) }
+    pub fn down(&self, alloc: Global, name: Name) -> Result<Route, AllocError>
+        ensures { IfOk result (λ route. route ≡ name ∷ self.now) }
     {
         let mut names = Items::from_slice(alloc, self.names.as_slice())?;
         names.push(name)?;
-        Ok(Spot { names })
+        Ok(Route { names })
     }
 
     /// The last name of the path, where `up` is the path without it.
-    pub fn under(&self, up: &Spot) -> Option<Name>
+    pub fn under(&self, up: &Route) -> Option<Name>
         ensures some { IfSome result (λ C. self.now ≡ C ∷ up.now) }
         ensures none { IfNone result ((C : AName) → self.now ≡ C ∷ up.now → ⊥) }
     {
@@ -90,7 +90,7 @@ impl Spot {
     }
 
     /// Whether `up` is the path without its last name.
-    pub fn is_under(&self, up: &Spot) -> bool
+    pub fn is_under(&self, up: &Route) -> bool
         ensures { IsTrue result ↔ IsUnder self.now up.now }
     {
         match self.under(up) {

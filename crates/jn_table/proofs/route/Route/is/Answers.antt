@@ -1,6 +1,6 @@
 use Rattle.std.proofs.Common.{ap, sym, ◌∙◌, reverse}
 use Rattle.std.proofs.lemmas.List.{reverse-reverse}
-use Rattle.jn_table.proofs.spot.Spot.is.Goals as goal
+use Rattle.jn_table.proofs.route.Route.is.Goals as goal
 
 pub returns : goal.returns
 returns c =
