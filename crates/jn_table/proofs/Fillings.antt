@@ -12,7 +12,7 @@ use Rattle.jn_table.specs.Order.{IsOrderOf, entry_name}
 use Rattle.jn_base.specs.ProgramNames.{IsNamed}
 use Rattle.jn_table.specs.Own.{IsOwnOf}
 use Rattle.jn_table.specs.Depths.{AreOf}
-use Rattle.jn_table.specs.Universes.{FitUniverse, IsUniverseOf, RowsOf, CycleAt, TwoKindsAt, NoneAt, RefusedBy, cycle_at, kinds_at, PassedBy}
+use Rattle.jn_table.specs.Universes.{FitUniverse, RowsOf, CycleAt, TwoKindsAt, NoneAt, RefusedBy, cycle_at, kinds_at, PassedBy}
 use Rattle.jn_table.specs.Answers.{UniverseRefused, too_many}
 use Rattle.jn_table.specs.Fills.{Fills, FillsAll, NodesAll, UniverseAll, RefusesAll}
 use Rattle.jn_table.specs.Tables.{IsTableOf}

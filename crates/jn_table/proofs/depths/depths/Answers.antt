@@ -1,4 +1,4 @@
-use Rattle.std.proofs.Common.{arith, refl, ap}
+use Rattle.std.proofs.Common.{arith, refl}
 use Rattle.jn_table.proofs.DepthSteps.{stage_root, stage_next, stage_few, stage_last, stage_over, below_long}
 use Rattle.jn_table.proofs.depths.depths.Goals as goal
 
