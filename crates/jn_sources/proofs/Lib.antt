@@ -5,3 +5,5 @@ pub mod ProgramWords
 pub mod PlaceOrder
 pub mod Ascending
 pub mod Answered
+pub mod TokensThere
+pub mod WordsThere
