@@ -11,16 +11,15 @@ use Rattle.jn_base.specs.declared.tree.TypeTerm.{TypeTerm}
 use Rattle.jn_base.specs.declared.tree.Link.{Link}
 use Rattle.jn_base.specs.declared.tree.Level.{Level}
 use Rattle.jn_base.specs.declared.tree.Expr.{Expr}
-use Rattle.jn_base.specs.declared.tree.Suffix.{Suffix, out-Suffix, roll-Suffix, out-roll-Suffix}
+use Rattle.jn_base.specs.declared.tree.Suffix.{out-roll-Suffix}
 use Rattle.jn_base.specs.declared.tree.Stmt.{Stmt}
 use Rattle.jn_base.specs.declared.tree.Stmt.TheVariants as stmt
 use Rattle.jn_base.specs.Parts.{suffix, named}
 use Rattle.jn_base.specs.ExampleTrees.{line}
 use Rattle.jn_sem.specs.Values.{Value, Number, Truth, Null}
 use Rattle.jn_sem.specs.State.{Heap, Frame}
-use Rattle.jn_sem.specs.Does.{Did}
 use Rattle.jn_sem.specs.Run.{running, settled, Charge}
-use Rattle.jn_sem.specs.Acts.{Push, Read, This, Call, Bind, Choose, Return, Print, Todo, todo, expr_does, acts, call_acts, stmts_acts, path_behind}
+use Rattle.jn_sem.specs.Acts.{Push, Read, This, Call, Bind, Choose, Return, Print, Todo, todo, expr_does, acts, stmts_acts, path_behind}
 use Rattle.jn_sem.specs.LawsOfActs.{args_acts, links_acts, part_acts, suffix_acts}
 use Rattle.jn_sem.proofs.ActLaws.{acts_are}
 use Rattle.jn_sem_rows.specs.MainAlone.{this, null, number, truth, variable, call, chain, print}

@@ -1,34 +1,32 @@
 -- A field that has two slots by those of another field alone.
-use Rattle.std.proofs.Common.{◌≡◌, ℕ, zero, suc, List, [], ◌∷◌, drop, length, Contains, Bool, true, false, nat_eq, refl, sym, ap, ◌∙◌, subst, ◌⊎◌, inl, inr, arith}
+use Rattle.std.proofs.Common.{◌≡◌, List, [], ◌∷◌, drop, length, Contains, true, false, nat_eq, refl, sym, ap, ◌∙◌, subst, ◌⊎◌, inl, inr, arith}
 use Rattle.std.specs.Prelude.{Result, Ok}
-use Rattle.std.specs.List.{list_all}
 use Rattle.jn_reach.specs.Derived.{seed, rule}
 use Rattle.jn_base.specs.declared.tree.Name.{Name}
 use Rattle.jn_base.specs.declared.tree.Decl.{Decl}
 use Rattle.jn_base.specs.declared.tree.Field.{Field}
 use Rattle.jn_base.specs.declared.tree.Kind.TheVariants as kind
 use Rattle.jn_base.specs.declared.tree.Member.{Member as Inside}
-use Rattle.jn_base.specs.declared.tree.Member.TheVariants.{outs-Inner, outs-Slot, outs-Body}
+use Rattle.jn_base.specs.declared.tree.Member.TheVariants.{outs-Inner, outs-Slot}
 use Rattle.jn_base.specs.declared.tree.TypeTerm.TheVariants as type
 use Rattle.jn_base.specs.declared.types.Ty.{Ty}
 use Rattle.jn_base.specs.declared.refusal.Refusal.{Refusal}
 use Rattle.jn_base.specs.Duplicates.{has_name, duplicates}
 use Rattle.jn_base.specs.ExampleTrees.{declaration, class_in, field, word}
 use Rattle.jn_base.specs.Paths.{Path, nested, fields}
-use Rattle.jn_base.specs.Supers.{Sup, itself, above, Member}
+use Rattle.jn_base.specs.Supers.{Sup, itself, Member}
 use Rattle.jn_base.specs.Members.{FieldAt, FieldDecls}
-use Rattle.jn_base.specs.Universe.{InUniverse}
 use Rattle.jn_base.specs.ResolveTypes.{mask_names}
 use Rattle.jn_base.proofs.NameTests.{in_cons, in_none, has_in, same_name, itself_named, implies, implied, first as at_first, later as behind}
-use Rattle.jn_base.proofs.SuperLaws.{sup_joined, sup_inherited, member_heir}
+use Rattle.jn_base.proofs.SuperLaws.{sup_joined, sup_inherited}
 use Rattle.jn_base.proofs.ResolveOnce.{type_once}
 use Rattle.jn_base.proofs.Unique.{decl_opened, member_opened, one_field_at}
-use Rattle.jn_base.proofs.ExampleTools.{at_inner, at_top, tops, inner_has, anything, is_class, inner_member, inner_class, inners, field_in, same, OneOf, one, sups_kept, has_only, keeps}
+use Rattle.jn_base.proofs.ExampleTools.{at_inner, inner_has, anything, is_class, inner_member, inner_class, inners, field_in, same, OneOf, one, sups_kept, has_only}
 use Rattle.jn_base.proofs.VerdictTools.{TwoLevels, package_of, class_of, universe_of}
 use Rattle.jn_sem.specs.Values.{HasField}
 use Rattle.jn_sem.specs.Sharing.{IsClass, Related}
 use Rattle.jn_sem.specs.Sets.{InType}
-use Rattle.jn_sem.specs.Slots.{BothHang, BothHave, ClassAt, MatchAt, Unmatched, IsApart, only_other, only_one, MakesTwo, declared_apart, unmatched, unmatched_back, fields_apart, MakesTwoBy, Compared, compared, Diff, this_viewed}
+use Rattle.jn_sem.specs.Slots.{BothHang, ClassAt, MatchAt, IsApart, only_other, only_one, MakesTwo, declared_apart, unmatched, unmatched_back, fields_apart, compared, Diff, this_viewed}
 use Rattle.jn_sem.specs.Terms.{FieldTypeIs}
 use Rattle.jn_sem_rows.specs.SlotsExample.{base, disp, Exp, Add, Lit, l, r, tag, in_base, in_disp, named_type, field_of}
 use Rattle.jn_sem_rows.specs.SlotRows.{deep_slots, DeepSlots}

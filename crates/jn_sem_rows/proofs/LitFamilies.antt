@@ -1,5 +1,5 @@
 -- Programs of two families with one class Lit: their declarations pass, and what is asked of them has one answer.
-use Rattle.std.proofs.Common.{◌≡◌, ◌<◌, ℕ, zero, suc, List, [], ◌∷◌, length, Option, Some, None, Contains, Bool, true, false, nat_eq, refl, sym, ap, ◌∙◌, subst, slice_get, arith}
+use Rattle.std.proofs.Common.{◌≡◌, ◌<◌, ℕ, zero, suc, List, [], ◌∷◌, length, Some, Contains, Bool, true, false, nat_eq, refl, sym, ap, ◌∙◌, subst, slice_get, arith}
 use Rattle.std.specs.Prelude.{not, ◌&&◌, if◌then◌else◌}
 use Rattle.std.specs.List.{list_all}
 use Rattle.std.proofs.lemmas.List.Elements.{All-nil, All-cons}
@@ -8,17 +8,17 @@ use Rattle.jn_base.specs.declared.tree.Text.{Text}
 use Rattle.jn_base.specs.declared.tree.Decl.{Decl}
 use Rattle.jn_base.specs.declared.tree.Member.{Member as Inside}
 use Rattle.jn_base.specs.declared.tree.Program.{Program}
-use Rattle.jn_base.specs.ClassOrder.{HasDistinctNames, HasItsNames}
+use Rattle.jn_base.specs.ClassOrder.{HasDistinctNames}
 use Rattle.jn_base.specs.Duplicates.{has_name, duplicates}
-use Rattle.jn_base.specs.Paths.{Path, StandsAt, Declared}
+use Rattle.jn_base.specs.Paths.{Path, StandsAt}
 use Rattle.jn_base.specs.Supers.{Member, IsOwnSuper}
 use Rattle.jn_base.specs.Universe.{InUniverse}
 use Rattle.jn_base.specs.Members.{HasTwoKinds}
-use Rattle.jn_base.specs.TableRules.{NoneIs, IsOver, TablePasses, DeclarationsPass}
+use Rattle.jn_base.specs.TableRules.{TablePasses}
 use Rattle.jn_base.specs.LawsOfTable.{NamesItsPaths}
 use Rattle.jn_base.proofs.NameTests.{and_both, has_in, passes, first, later}
 use Rattle.jn_base.proofs.ExampleTools.{tops, inners, at_top, at_inner, same, keeps, top_member, of_each}
-use Rattle.jn_base.proofs.VerdictTools.{TwoLevels, package_of, class_of, top_of, plain_of, universe_of, few_paths, no_top_cycle, lower_tops, IsRanked, lower_written, no_class_cycle, package_alone, classes_in, class_alone, known_classes, all_known}
+use Rattle.jn_base.proofs.VerdictTools.{TwoLevels, package_of, class_of, top_of, plain_of, universe_of, few_paths, no_top_cycle, IsRanked, lower_written, no_class_cycle, package_alone, classes_in, class_alone, known_classes, all_known}
 use Rattle.jn_sem.specs.LawsOfFinding.{FoundOnceIn}
 use Rattle.jn_sem.proofs.FindingLaws.{finds_one_in}
 use Rattle.jn_sem_rows.specs.SlotsExample.{base, disp, Lit, adapting}

@@ -1,7 +1,7 @@
 -- The runs of the class Main alone: operators.
-use Rattle.std.proofs.Common.{◌≡◌, ℕ, List, [], ◌∷◌, Some, None, true, false, refl, sym, ap, ◌∙◌}
-use Rattle.std.specs.Prelude.{pos, codes}
-use Rattle.jn_steps.specs.Runs.{On, End}
+use Rattle.std.proofs.Common.{◌≡◌, List, [], ◌∷◌, Some, None, true, false, refl, sym, ap}
+use Rattle.std.specs.Prelude.{pos}
+use Rattle.jn_steps.specs.Runs.{On}
 use Rattle.jn_steps.specs.Steps.{Goes}
 use Rattle.jn_base.specs.declared.tree.Op.TheVariants as op
 use Rattle.jn_base.specs.declared.tree.Method.{Method}
@@ -10,7 +10,7 @@ use Rattle.jn_sem.specs.declared.outcome.Why.TheVariants as why
 use Rattle.jn_sem.specs.Values.{Value, Number, Truth}
 use Rattle.jn_sem.specs.Acts.{Push, Operate, Decide, Print, Todo, todo, stmts_acts}
 use Rattle.jn_sem.specs.State.{Frame}
-use Rattle.jn_sem.specs.Does.{Ends, Stuck, Did}
+use Rattle.jn_sem.specs.Does.{Ends, Stuck}
 use Rattle.jn_sem.specs.Run.{running, Charge}
 use Rattle.jn_sem_rows.specs.MainAlone.{main_method, number, truth}
 use Rattle.jn_sem_rows.specs.MainRuns.{Operators, and_number, or_body, and_body, sum_body}

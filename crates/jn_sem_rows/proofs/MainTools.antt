@@ -1,6 +1,6 @@
 -- What is found in a program of the class Main alone.
 use Rattle.std.proofs.Common.{◌≡◌, ℕ, zero, suc, List, [], ◌∷◌, length, map, Option, Some, None, Contains, Bool, true, false, nat_eq, refl, sym, ap, ◌∙◌, subst, ◌⊎◌, inl, inr, slice_get, get_or, arith}
-use Rattle.std.specs.Prelude.{◌≤◌, codes, cond, nat_lt, nat_le}
+use Rattle.std.specs.Prelude.{codes, cond, nat_lt, nat_le}
 use Rattle.std.specs.List.{list_all}
 use Rattle.std.specs.List.Sorted.{IsStrictlySortedBy}
 use Rattle.jn_reach.specs.Each.{Each, none, more}

@@ -1,5 +1,5 @@
 -- The types `int` and `Main` in a body of Main.
-use Rattle.std.proofs.Common.{◌≡◌, ◌<◌, ◌≤◌, ℕ, zero, suc, List, [], ◌∷◌, length, map, drop, Option, Some, None, Contains, refl, sym, ap, ◌∙◌, subst, inl, inr, arith}
+use Rattle.std.proofs.Common.{◌≡◌, ◌<◌, ℕ, zero, suc, List, [], ◌∷◌, length, drop, None, Contains, refl, sym, ap, ◌∙◌, subst, inl, inr, arith}
 use Rattle.std.specs.Prelude.{Ok}
 use Rattle.std.specs.List.Sorted.{IsStrictlySortedBy}
 use Rattle.jn_base.specs.declared.tree.Name.{Name}
@@ -14,7 +14,7 @@ use Rattle.jn_base.specs.declared.types.Ty.{Ty}
 use Rattle.jn_base.specs.declared.types.Ty.TheVariants as ty
 use Rattle.jn_base.specs.Paths.{Path}
 use Rattle.jn_base.specs.Supers.{Member}
-use Rattle.jn_base.specs.Scopes.{Bind, Scope}
+use Rattle.jn_base.specs.Scopes.{Scope}
 use Rattle.jn_base.specs.Atoms.{Atom, atom, shown_atom, no_masks, Among, first, later}
 use Rattle.jn_base.specs.Resolve.{found, in_class}
 use Rattle.jn_base.specs.ResolveTypes.{mask_names, none, first as first_term, one}

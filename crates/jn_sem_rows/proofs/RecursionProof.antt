@@ -16,7 +16,7 @@ use Rattle.jn_sem.specs.Asks.{found, holds}
 use Rattle.jn_sem.specs.Values.{Value, Number, Truth, number}
 use Rattle.jn_sem.specs.Acts.{Push, Read, This, Operate, Call, Choose, Todo, todo, stmts_acts}
 use Rattle.jn_sem.specs.State.{Variable, Frame, frame_views, IsIn}
-use Rattle.jn_sem.specs.Does.{Ending, Ends, Depth, AreParams, var, Did}
+use Rattle.jn_sem.specs.Does.{Ending, Ends, Depth, AreParams, var}
 use Rattle.jn_sem.specs.Run.{Running, running, start, shown, settled, Charge}
 use Rattle.jn_sem.proofs.Sure.{if_so}
 use Rattle.jn_sem_rows.specs.MainAlone.{Main, text, method, main_method, an_int}

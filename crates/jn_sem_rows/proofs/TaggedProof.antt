@@ -1,24 +1,22 @@
 -- What is found in the families of one class where each has a field of its own.
-use Rattle.std.proofs.Common.{◌≡◌, ◌<◌, ℕ, zero, suc, List, [], ◌∷◌, length, drop, Option, Some, None, Contains, Bool, true, false, nat_eq, refl, sym, ap, ◌∙◌, subst, ◌⊎◌, inl, inr, arith}
+use Rattle.std.proofs.Common.{◌≡◌, ◌<◌, ℕ, zero, suc, List, [], ◌∷◌, length, drop, None, Contains, Bool, true, nat_eq, refl, sym, subst, inl, inr, arith}
 use Rattle.std.specs.Prelude.{pos, Ok, ◌↔◌}
 use Rattle.std.specs.List.Sorted.{IsStrictlySortedBy}
-use Rattle.jn_reach.specs.Each.{Each, none, more}
+use Rattle.jn_reach.specs.Each.{none, more}
 use Rattle.jn_reach.specs.Equivalent as link
 use Rattle.jn_base.specs.declared.tree.Name.{Name}
 use Rattle.jn_base.specs.declared.tree.Decl.{Decl}
 use Rattle.jn_base.specs.declared.tree.Method.{Method}
 use Rattle.jn_base.specs.declared.tree.Term.{Term}
 use Rattle.jn_base.specs.declared.tree.Head.TheVariants as head
-use Rattle.jn_base.specs.declared.tree.Member.TheVariants.{outs-Inner, outs-Slot, outs-Body}
+use Rattle.jn_base.specs.declared.tree.Member.TheVariants.{outs-Inner, outs-Slot}
 use Rattle.jn_base.specs.declared.types.Ty.TheVariants as ty
 use Rattle.jn_base.specs.declared.types.Anchor.TheVariants.{Up}
-use Rattle.jn_base.specs.declared.names.Role.TheVariants as role
 use Rattle.jn_base.specs.ExampleTrees.{line}
-use Rattle.jn_base.specs.Duplicates.{has_name, duplicates}
+use Rattle.jn_base.specs.Duplicates.{has_name}
 use Rattle.jn_base.specs.Paths.{Path, methods}
 use Rattle.jn_base.specs.Supers.{Sup, itself, Member}
-use Rattle.jn_base.specs.Members.{MethodAt, IsField, FieldDecls}
-use Rattle.jn_base.specs.Universe.{InUniverse}
+use Rattle.jn_base.specs.Members.{MethodAt}
 use Rattle.jn_base.specs.Atoms.{Atom, atom, shown_atom}
 use Rattle.jn_base.specs.Resolve.{found as found_at, in_class}
 use Rattle.jn_base.proofs.Unique.{decl_opened, member_opened}
@@ -29,10 +27,10 @@ use Rattle.jn_sem.specs.Values.{Value, HasField, Number}
 use Rattle.jn_sem.specs.Sharing.{Related}
 use Rattle.jn_sem.specs.Acts.{Todo}
 use Rattle.jn_sem.specs.Slots.{FieldType, IsSlot, IsSize}
-use Rattle.jn_sem.specs.State.{Stored, Frame}
-use Rattle.jn_sem.specs.Does.{Body, IsBody, IsConstructorBody, AreFresh, IsFresh, IsNewClass}
+use Rattle.jn_sem.specs.State.{Stored}
+use Rattle.jn_sem.specs.Does.{Body, IsConstructorBody, AreFresh, IsFresh, IsNewClass}
 use Rattle.jn_sem.proofs.FindingLaws.{finds_one}
-use Rattle.jn_sem_rows.specs.SlotsExample.{base, disp, Lit, v, tag, in_base, in_disp, tagged}
+use Rattle.jn_sem_rows.specs.SlotsExample.{base, Lit, v, tag, in_base, in_disp, tagged}
 use Rattle.jn_sem_rows.specs.Views.{working}
 use Rattle.jn_sem_rows.proofs.SlotTools.{no_member}
 use Rattle.jn_sem_rows.proofs.SlotsProof.{tagged_own, tagged_further, tagged_flat, tagged_lits, tagged_bare, has_lit, lits, lits_back, base_itself, disp_itself, field_v, field_tag, v_at, its_tag_at, lit_above, v_here, v_there, tag_there, is_v, is_tag, its_name, not_tagged, slot_v, slot_tag, first_v, first_tag, base_size}

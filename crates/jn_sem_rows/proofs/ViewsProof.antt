@@ -1,16 +1,12 @@
 -- The runs of one method at two views.
-use Rattle.std.proofs.Common.{◌≡◌, ◌<◌, ℕ, zero, suc, List, [], ◌∷◌, length, drop, Option, Some, None, Contains, Bool, true, false, refl, sym, ap, ◌∙◌, subst, inl, inr, arith}
+use Rattle.std.proofs.Common.{◌≡◌, ◌<◌, ℕ, zero, suc, List, [], ◌∷◌, length, drop, Some, None, Contains, true, false, refl, sym, ap, ◌∙◌, inl, inr, arith}
 use Rattle.std.specs.Prelude.{pos, codes, Ok}
 use Rattle.std.specs.Fmt.{digits}
-use Rattle.jn_steps.specs.Runs.{Report, On, End}
-use Rattle.jn_steps.specs.Reports.{Reports}
+use Rattle.jn_steps.specs.Runs.{On, End}
 use Rattle.jn_steps.specs.Steps.{Goes}
 use Rattle.jn_steps.specs.Numbers.{number_line}
-use Rattle.jn_base.specs.declared.tree.Name.{Name}
-use Rattle.jn_base.specs.declared.tree.Stmt.TheVariants as stmt
 use Rattle.jn_base.specs.declared.types.Anchor.TheVariants.{Root}
 use Rattle.jn_base.specs.declared.types.Ty.TheVariants as ty
-use Rattle.jn_base.specs.ExampleTrees.{line}
 use Rattle.jn_base.specs.Paths.{Path}
 use Rattle.jn_base.specs.Supers.{Member}
 use Rattle.jn_base.specs.Atoms.{Atom, atom, shown_atom, no_masks}
@@ -20,12 +16,12 @@ use Rattle.jn_base.proofs.NameTests.{in_cons, in_none}
 use Rattle.jn_base.proofs.ExampleTools.{top_member}
 use Rattle.jn_base.proofs.VerdictTools.{class_named}
 use Rattle.jn_sem.specs.Asks.{Only, found, holds}
-use Rattle.jn_sem.specs.Values.{Value, Number, Null, Reference, number}
-use Rattle.jn_sem.specs.Acts.{Push, Return, Print, View, Call, Todo, todo, stmts_acts}
-use Rattle.jn_sem.specs.State.{Heap, Frame}
+use Rattle.jn_sem.specs.Values.{Value, Number, Null, number}
+use Rattle.jn_sem.specs.Acts.{Push, Return, Print, Todo, todo, stmts_acts}
+use Rattle.jn_sem.specs.State.{Frame}
 use Rattle.jn_sem.specs.Sharing.{Counterpart}
-use Rattle.jn_sem.specs.Does.{Ending, Ends, AtNull, Body, IsBody, AreParams, IsTargetFamily, Did}
-use Rattle.jn_sem.specs.Run.{running, shown, settled, Charge}
+use Rattle.jn_sem.specs.Does.{Ends, IsBody, IsTargetFamily}
+use Rattle.jn_sem.specs.Run.{running, settled, Charge}
 use Rattle.jn_sem.proofs.FindingLaws.{finds_one}
 use Rattle.jn_sem_rows.specs.SlotsExample.{base, disp, Lit, eval, in_base, in_disp}
 use Rattle.jn_sem_rows.specs.Views.{working, ComesTo, seen, dispatch, evaluating, one_lit, to_disp_lit, eval_and_print, Dispatch}

@@ -1,25 +1,21 @@
 -- The runs in which a body gives none where its result is wanted.
-use Rattle.std.proofs.Common.{◌≡◌, ℕ, suc, List, [], ◌∷◌, Option, Some, None, Bool, true, false, refl, sym, ap, ◌∙◌, subst}
-use Rattle.std.specs.Prelude.{pos, codes, length, map, nat_lt}
-use Rattle.jn_steps.specs.Runs.{Report, On, End}
+use Rattle.std.proofs.Common.{◌≡◌, ℕ, suc, List, [], ◌∷◌, Some, None, true, false, refl, sym, ap}
+use Rattle.std.specs.Prelude.{pos}
+use Rattle.jn_steps.specs.Runs.{Report, On}
 use Rattle.jn_steps.specs.Reports.{Reports}
-use Rattle.jn_steps.specs.Steps.{Goes, Enters, Leaves}
-use Rattle.jn_base.specs.declared.tree.Name.{Name}
 use Rattle.jn_base.specs.declared.tree.Text.{Text}
 use Rattle.jn_base.specs.declared.tree.Stmt.{Stmt}
 use Rattle.jn_base.specs.declared.tree.Stmt.TheVariants as stmt
 use Rattle.jn_base.specs.declared.tree.Method.{Method}
 use Rattle.jn_base.specs.ExampleTrees.{line}
 use Rattle.jn_sem.specs.declared.outcome.Why.TheVariants as why
-use Rattle.jn_sem.specs.Asks.{found, not_found, holds}
-use Rattle.jn_sem.specs.Values.{Value, Number, Reference}
-use Rattle.jn_sem.specs.Acts.{Push, This, Call, Open, Return, Todo, todo, stmts_acts, acts, call_acts}
-use Rattle.jn_sem.specs.State.{Heap, Frame}
-use Rattle.jn_sem.specs.Does.{Ending, Stuck, Entry}
-use Rattle.jn_sem.specs.Run.{Running, running, start, shown, settled, Charge, Run}
-use Rattle.jn_sem.specs.LawsOfActs.{args_acts}
-use Rattle.jn_sem.proofs.ActLaws.{acts_are}
-use Rattle.jn_sem_rows.specs.MainAlone.{Main, main, main_alone, method, main_method, this, number, call}
+use Rattle.jn_sem.specs.Asks.{found, holds}
+use Rattle.jn_sem.specs.Values.{Number}
+use Rattle.jn_sem.specs.Acts.{Push, This, Call, Return, Todo, todo, stmts_acts, acts}
+use Rattle.jn_sem.specs.State.{Frame}
+use Rattle.jn_sem.specs.Does.{Ending, Stuck}
+use Rattle.jn_sem.specs.Run.{Running, running, start, shown, settled, Charge}
+use Rattle.jn_sem_rows.specs.MainAlone.{method}
 use Rattle.jn_sem_rows.specs.VoidOperand.{VoidOperand, void_operand, names, caller, g, h, v, g_method, h_method}
 use Rattle.jn_sem_rows.specs.TwoPrints.{one_object, the_object, starting}
 use Rattle.jn_sem_rows.proofs.MainTools.{make, open_main, in_body, body_of, body, only_params}

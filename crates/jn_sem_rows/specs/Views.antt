@@ -1,10 +1,9 @@
 -- What two views of one object do: which body a call runs, view changes, fields, and new objects.
-use Rattle.std.specs.Prelude.{ℕ, pos, List, [], ◌∷◌, true, false, Option, Some, None, codes}
-use Rattle.jn_steps.specs.Runs.{Report, On}
+use Rattle.std.specs.Prelude.{ℕ, pos, List, [], ◌∷◌, true, false, Option, Some, codes}
+use Rattle.jn_steps.specs.Runs.{On}
 use Rattle.jn_steps.specs.Reports.{Reports}
 use Rattle.jn_base.specs.declared.tree.Name.{Name}
 use Rattle.jn_base.specs.declared.tree.Head.TheVariants as head
-use Rattle.jn_base.specs.declared.tree.Term.{Term}
 use Rattle.jn_base.specs.declared.tree.ViewTerm.{ViewTerm}
 use Rattle.jn_base.specs.declared.tree.TypeTerm.TheVariants as type
 use Rattle.jn_base.specs.declared.tree.Method.{Method}
