@@ -57,8 +57,6 @@ record IsTested (p : Program) : Type 0 where
   plain : inners (plain_of Cs) p ≡ true
   adds : inners (λ A. keeps (Add ∷ [])) p ≡ true
   bare : inners (λ A. no_field_in) p ≡ true
-  exp_there : inner_has p base Exp anything ≡ true
-  exp_class : inner_has p base Exp is_class ≡ true
   base_there : IsClass p (in_base Exp)
 
 module _ (p : Program) (t : IsTested p) where
@@ -134,8 +132,6 @@ of_sharing = record {
   plain = simp (outs-Inner);
   adds = simp (outs-Inner);
   bare = simp (outs-Inner);
-  exp_there = simp (outs-Inner);
-  exp_class = simp (outs-Inner);
   base_there = shares.other;
 }
 
@@ -166,8 +162,6 @@ of_plain = record {
   plain = simp (outs-Inner);
   adds = simp (outs-Inner);
   bare = simp (outs-Inner);
-  exp_there = plain_exp;
-  exp_class = plain_class;
   base_there = record {
     universe = ((tt, top_member plain_heir base refl), inner_member plain_heir base base Exp itself plain_exp);
     kind = inner_class plain_heir (in_base Exp) base Exp itself plain_class;

@@ -35,6 +35,7 @@ use Rattle.jn_sem.specs.Run.{Running, running, start, shown, settled, Charge}
 use Rattle.jn_sem.proofs.Sure.{if_so}
 use Rattle.jn_sem.proofs.FindingLaws.{finds_one}
 use Rattle.jn_sem_rows.specs.MainAlone.{Main, main, text, main_class, main_alone, main_method}
+use Rattle.jn_sem_rows.proofs.ActTools.{ByCharges, by_charges}
 use Rattle.jn_sem_rows.specs.TwoPrints.{one_object, the_object, starting}
 
 -- ---- names
@@ -331,6 +332,6 @@ module _ (names : List Text) (ms : List Method) where
     -- the two charges before the first act of `main`
     pub begun : (d : ℕ) (ss : List Stmt) (t : Todo) (k : List Todo) → nat_lt 0 d ≡ true → with_name ms main ≡ main_method ss ∷ [] → with_name ms Main ≡ []
         → stmts_acts 0 1 ss [] ≡ t ∷ k → (n : ℕ) (r : Report Ending)
-        → Reports (Charge p 1 d) shown n (On (running (in_body (main_method ss) (t ∷ k) ∷ starting [] [] ∷ []) one_object [])) r
+        → ByCharges p 1 d n (On (running (in_body (main_method ss) (t ∷ k) ∷ starting [] [] ∷ []) one_object [])) r
         → Reports (Charge p 1 d) shown (suc (suc n)) (On start) r
-    begun d ss t k deep one other acts n r then = (_, make 1 d refl other, (_, open_main 1 d ss t k deep one acts, then))
+    begun d ss t k deep one other acts n r then = (_, make 1 d refl other, (_, open_main 1 d ss t k deep one acts, by_charges p 1 d then))

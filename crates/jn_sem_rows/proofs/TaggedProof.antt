@@ -7,12 +7,9 @@ use Rattle.jn_reach.specs.Equivalent as link
 use Rattle.jn_base.specs.declared.tree.Name.{Name}
 use Rattle.jn_base.specs.declared.tree.Decl.{Decl}
 use Rattle.jn_base.specs.declared.tree.Method.{Method}
-use Rattle.jn_base.specs.declared.tree.Term.{Term}
-use Rattle.jn_base.specs.declared.tree.Head.TheVariants as head
 use Rattle.jn_base.specs.declared.tree.Member.TheVariants.{outs-Inner, outs-Slot}
 use Rattle.jn_base.specs.declared.types.Ty.TheVariants as ty
 use Rattle.jn_base.specs.declared.types.Anchor.TheVariants.{Up}
-use Rattle.jn_base.specs.ExampleTrees.{line}
 use Rattle.jn_base.specs.Duplicates.{has_name}
 use Rattle.jn_base.specs.Paths.{Path, methods}
 use Rattle.jn_base.specs.Supers.{Sup, itself, Member}
@@ -31,7 +28,7 @@ use Rattle.jn_sem.specs.State.{Stored}
 use Rattle.jn_sem.specs.Does.{Body, IsConstructorBody, AreFresh, IsFresh, IsNewClass}
 use Rattle.jn_sem.proofs.FindingLaws.{finds_one}
 use Rattle.jn_sem_rows.specs.SlotsExample.{base, Lit, v, tag, in_base, in_disp, tagged}
-use Rattle.jn_sem_rows.specs.Views.{working}
+use Rattle.jn_sem_rows.specs.Views.{working, lit_term}
 use Rattle.jn_sem_rows.proofs.SlotTools.{no_member}
 use Rattle.jn_sem_rows.proofs.SlotsProof.{tagged_own, tagged_further, tagged_flat, tagged_lits, tagged_bare, has_lit, lits, lits_back, base_itself, disp_itself, field_v, field_tag, v_at, its_tag_at, lit_above, v_here, v_there, tag_there, is_v, is_tag, its_name, not_tagged, slot_v, slot_tag, first_v, first_tag, base_size}
 use Rattle.jn_sem_rows.proofs.LitFamilies.{Lits, Families, IsTested, found_once}
@@ -198,9 +195,6 @@ pub no_constructor : (A : Name) → has_name Families A ≡ true → (b : Body) 
 no_constructor A a b o = no_method_at b.class Lit b.method (lit_sups A a b.class o.is.least.among.super) o.is.at
 
 -- ---- the class of `new Lit()` in a body of base.Lit
-
-abbrev pub lit_term : Term
-lit_term = record { head = head.Plain; exact = []; names = Lit ∷ []; at = line 1 }
 
 abbrev lit_atom : Atom
 lit_atom = atom (Up 0 1) [] (Lit ∷ [])
