@@ -1,5 +1,5 @@
 -- A constraint at a class and at its heir, with sharing and without.
-use Rattle.std.proofs.Common.{◌≡◌, ℕ, suc, List, [], ◌∷◌, drop, length, Some, Contains, Bool, true, nat_eq, refl, sym, ap, ◌∙◌, subst, ◌⊎◌, inl, inr, arith}
+use Rattle.std.proofs.Common.{◌≡◌, ℕ, List, [], ◌∷◌, drop, length, Some, Contains, Bool, true, nat_eq, refl, sym, ap, ◌∙◌, subst, ◌⊎◌, inl, inr, arith}
 use Rattle.jn_reach.specs.Equivalent as link
 use Rattle.jn_reach.specs.Equivalent.{Equivalent}
 use Rattle.jn_base.specs.declared.tree.Name.{Name}
@@ -24,7 +24,7 @@ use Rattle.jn_sem.specs.Sharing.{IsClass, Related, Shares, adapted, shared, in_f
 use Rattle.jn_sem.specs.Holds.{HoldsAt, with_this, Turns, IsGranted, Fails, no_counterpart}
 use Rattle.jn_sem_rows.specs.SlotsExample.{base, disp, Exp, Add, in_base, in_disp}
 use Rattle.jn_sem_rows.specs.SlotRows.{sharing_heir, plain_heir, pair_of_classes, to_own_exp, AtAnHeir}
-use Rattle.jn_sem_rows.proofs.SlotTools.{the_related, back}
+use Rattle.jn_sem_rows.proofs.SlotTools.{the_related, back, none_of}
 
 abbrev Cs : List Name
 Cs = Exp ∷ Add ∷ []
@@ -34,12 +34,6 @@ As = base ∷ disp ∷ []
 
 abbrev no_field_in : Decl → Bool
 no_field_in d = nat_eq (length (fields d.members)) 0
-
-none_of : {X : Type 0} (xs : List X) (x : X) → nat_eq (length xs) 0 ≡ true → Contains xs x → ⊥
-none_of [] x e c = in_none x c
-none_of (y ∷ ys) x e c = absurd (too_long (length ys) e) where
-  too_long : (n : ℕ) → nat_eq (suc n) 0 ≡ true → ⊥
-  too_long n h = grind arith
 
 abbrev exps_of : Name → Atom
 exps_of A = atom Root (A ∷ []) (Exp ∷ [])

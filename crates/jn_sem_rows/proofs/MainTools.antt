@@ -47,10 +47,10 @@ is_short t = nat_lt (length t.bytes) 4
 none_there : (t : Text) → None ≡ Some t → ⊥
 none_there t e = cc
 
-some_text : (s t : Text) → Some s ≡ Some t → s ≡ t
+pub some_text : (s t : Text) → Some s ≡ Some t → s ≡ t
 some_text s t e = cc
 
-in_list : (xs : List Text) (n : ℕ) (t : Text) → slice_get xs n ≡ Some t → Contains xs t
+pub in_list : (xs : List Text) (n : ℕ) (t : Text) → slice_get xs n ≡ Some t → Contains xs t
 in_list [] zero t e = absurd (none_there t e)
 in_list [] (suc n) t e = absurd (none_there t e)
 in_list (x ∷ xs) zero t e = subst (Contains (x ∷ xs)) (some_text x t e) (first x xs)

@@ -29,7 +29,7 @@ use Rattle.jn_sem.specs.Does.{Body, IsConstructorBody, AreFresh, IsFresh, IsNewC
 use Rattle.jn_sem.proofs.FindingLaws.{finds_one}
 use Rattle.jn_sem_rows.specs.SlotsExample.{base, Lit, v, tag, in_base, in_disp, tagged}
 use Rattle.jn_sem_rows.specs.Views.{working, lit_term}
-use Rattle.jn_sem_rows.proofs.SlotTools.{no_member}
+use Rattle.jn_sem_rows.proofs.SlotTools.{none_of, no_member}
 use Rattle.jn_sem_rows.proofs.SlotsProof.{tagged_own, tagged_further, tagged_flat, tagged_lits, tagged_bare, has_lit, lits, lits_back, base_itself, disp_itself, field_v, field_tag, v_at, its_tag_at, lit_above, v_here, v_there, tag_there, is_v, is_tag, its_name, not_tagged, slot_v, slot_tag, first_v, first_tag, base_size}
 use Rattle.jn_sem_rows.proofs.LitFamilies.{Lits, Families, IsTested, found_once}
 
@@ -178,12 +178,6 @@ no_methods A d = nat_eq (length (methods d.members)) 0
 
 none_declared : inners no_methods tagged ≡ true
 none_declared = simp (outs-Inner, outs-Slot)
-
-none_of : (ms : List Method) (m : Method) → nat_eq (length ms) 0 ≡ true → Contains ms m → ⊥
-none_of [] m e c = in_none m c
-none_of (x ∷ ms) m e c = absurd (too_long (length ms) e) where
-  too_long : (n : ℕ) → nat_eq (suc n) 0 ≡ true → ⊥
-  too_long n h = grind arith
 
 no_method_at : (S : Path) (m : Name) (x : Method) → OneOf Lits Families S → MethodAt tagged S m x → ⊥
 no_method_at S m x (one C A c a) h = none_of (methods h.decl.members) x (at_inner tagged no_methods none_declared C A h.decl h.stands) h.has
