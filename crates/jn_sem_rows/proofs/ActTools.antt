@@ -4,6 +4,8 @@ use Rattle.std.specs.Prelude.{pos, length, codes, take, ◌++◌}
 use Rattle.std.specs.Fmt.{digits}
 use Rattle.jn_steps.specs.Numbers.{number_line}
 use Rattle.jn_steps.specs.Steps.{Goes}
+use Rattle.jn_steps.specs.Runs.{Report, On, report}
+use Rattle.jn_steps.specs.Reports.{Reports}
 use Rattle.jn_base.specs.declared.tree.Program.{Program}
 use Rattle.jn_base.specs.declared.tree.Name.{Name}
 use Rattle.jn_base.specs.declared.tree.Named.{Named}
@@ -11,16 +13,16 @@ use Rattle.jn_base.specs.declared.tree.TypeTerm.{TypeTerm}
 use Rattle.jn_base.specs.declared.tree.Link.{Link}
 use Rattle.jn_base.specs.declared.tree.Level.{Level}
 use Rattle.jn_base.specs.declared.tree.Expr.{Expr}
-use Rattle.jn_base.specs.declared.tree.Suffix.{Suffix, out-Suffix, roll-Suffix, out-roll-Suffix}
+use Rattle.jn_base.specs.declared.tree.Suffix.{out-roll-Suffix}
 use Rattle.jn_base.specs.declared.tree.Stmt.{Stmt}
 use Rattle.jn_base.specs.declared.tree.Stmt.TheVariants as stmt
 use Rattle.jn_base.specs.Parts.{suffix, named}
 use Rattle.jn_base.specs.ExampleTrees.{line}
 use Rattle.jn_sem.specs.Values.{Value, Number, Truth, Null}
 use Rattle.jn_sem.specs.State.{Heap, Frame}
-use Rattle.jn_sem.specs.Does.{Did}
-use Rattle.jn_sem.specs.Run.{running, settled, Charge}
-use Rattle.jn_sem.specs.Acts.{Push, Read, This, Call, Bind, Choose, Return, Print, Todo, todo, expr_does, acts, call_acts, stmts_acts, path_behind}
+use Rattle.jn_sem.specs.Does.{Ending}
+use Rattle.jn_sem.specs.Run.{Running, Then, running, shown, settled, Charge}
+use Rattle.jn_sem.specs.Acts.{Push, Read, This, Call, Bind, Choose, Return, Print, Todo, todo, expr_does, acts, stmts_acts, path_behind}
 use Rattle.jn_sem.specs.LawsOfActs.{args_acts, links_acts, part_acts, suffix_acts}
 use Rattle.jn_sem.proofs.ActLaws.{acts_are}
 use Rattle.jn_sem_rows.specs.MainAlone.{this, null, number, truth, variable, call, chain, print}
@@ -95,3 +97,12 @@ shows_one p a d f n vs k fs h out = record {
   does = ap (λ (bytes : List ℕ). Goes (record f { vars = take n f.vars; vals = vs; todo = k }) h bytes) (sym one_line);
   proceeds = refl;
 }
+
+-- a run, charge by charge
+pub data ByCharges (p : Program) (a d : ℕ) : ℕ → Then → Report Ending → Type 0 where
+  stop : {x : Then} {r : Report Ending} → r ≡ report shown x → ByCharges p a d 0 x r
+  charge : {n : ℕ} {s : Running} {y : Then} {r : Report Ending} → Charge p a d s y → ByCharges p a d n y r → ByCharges p a d (suc n) (On s) r
+
+pub by_charges : (p : Program) (a d : ℕ) {n : ℕ} {x : Then} {r : Report Ending} → ByCharges p a d n x r → Reports (Charge p a d) shown n x r
+by_charges p a d (stop e) = e
+by_charges p a d (charge c k) = (_, c, by_charges p a d k)

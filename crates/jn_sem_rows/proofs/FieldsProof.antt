@@ -1,22 +1,20 @@
 -- The runs of fields at two views, and of new objects.
-use Rattle.std.proofs.Common.{◌≡◌, ℕ, List, [], ◌∷◌, Option, Some, None, refl, sym, ap}
+use Rattle.std.proofs.Common.{◌≡◌, ℕ, List, [], ◌∷◌, refl, sym, ap}
 use Rattle.std.specs.Prelude.{pos, codes}
 use Rattle.std.specs.Fmt.{digits}
-use Rattle.jn_steps.specs.Runs.{On, End}
+use Rattle.jn_steps.specs.Runs.{End}
 use Rattle.jn_steps.specs.Steps.{Goes}
 use Rattle.jn_steps.specs.Numbers.{number_line}
-use Rattle.jn_base.specs.declared.tree.Name.{Name}
 use Rattle.jn_base.specs.declared.types.Ty.TheVariants as ty
 use Rattle.jn_base.specs.Paths.{Path}
-use Rattle.jn_sem.specs.declared.outcome.Why.TheVariants as why
 use Rattle.jn_sem.specs.Asks.{found, not_found, holds}
-use Rattle.jn_sem.specs.Values.{Value, Number, number}
+use Rattle.jn_sem.specs.Values.{Number, number}
 use Rattle.jn_sem.specs.Acts.{Print, todo}
-use Rattle.jn_sem.specs.State.{Heap, Frame}
-use Rattle.jn_sem.specs.Does.{Ends, Arena, Stuck, Did}
+use Rattle.jn_sem.specs.State.{Heap}
+use Rattle.jn_sem.specs.Does.{Ends}
 use Rattle.jn_sem.specs.Run.{running, Charge}
 use Rattle.jn_sem_rows.specs.SlotsExample.{base, disp, Lit, v, tag, in_base, in_disp, tagged}
-use Rattle.jn_sem_rows.specs.Views.{working, seen, five_in_v, FieldViews, NewObjects, new_and_print, get_and_print}
+use Rattle.jn_sem_rows.specs.Views.{working, FieldViews, NewObjects, get_and_print}
 use Rattle.jn_sem_rows.proofs.SlotsProof.{slot_v, slot_tag, lits}
 use Rattle.jn_sem_rows.proofs.TaggedProof.{v_of_base, v_of_disp, tag_of_disp, v_slot_of_base, v_slot_of_disp, tag_slot, size_of_base, size_of_disp, zero_v, zero_tag, fresh_of_base, fresh_of_disp, no_constructor, only_new}
 

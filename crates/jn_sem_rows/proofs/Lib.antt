@@ -16,6 +16,7 @@ mod TaggedProof
 mod FieldsProof
 mod LinkedProof
 mod NextProof
+mod HeirProof
 mod DeepSlotsProof
 mod MaskedSideProof
 mod RefutedProof

@@ -1,5 +1,5 @@
 -- Programs of two families with one class Lit: their declarations pass, and what is asked of them has one answer.
-use Rattle.std.proofs.Common.{◌≡◌, ◌<◌, ℕ, zero, suc, List, [], ◌∷◌, length, Option, Some, None, Contains, Bool, true, false, nat_eq, refl, sym, ap, ◌∙◌, subst, slice_get, arith}
+use Rattle.std.proofs.Common.{◌≡◌, ◌<◌, ℕ, zero, suc, List, [], ◌∷◌, length, Some, Bool, true, false, nat_eq, refl, sym, ap, ◌∙◌, subst, slice_get, arith}
 use Rattle.std.specs.Prelude.{not, ◌&&◌, if◌then◌else◌}
 use Rattle.std.specs.List.{list_all}
 use Rattle.std.proofs.lemmas.List.Elements.{All-nil, All-cons}
@@ -8,20 +8,21 @@ use Rattle.jn_base.specs.declared.tree.Text.{Text}
 use Rattle.jn_base.specs.declared.tree.Decl.{Decl}
 use Rattle.jn_base.specs.declared.tree.Member.{Member as Inside}
 use Rattle.jn_base.specs.declared.tree.Program.{Program}
-use Rattle.jn_base.specs.ClassOrder.{HasDistinctNames, HasItsNames}
+use Rattle.jn_base.specs.ClassOrder.{HasDistinctNames}
 use Rattle.jn_base.specs.Duplicates.{has_name, duplicates}
-use Rattle.jn_base.specs.Paths.{Path, StandsAt, Declared}
+use Rattle.jn_base.specs.Paths.{Path, StandsAt}
 use Rattle.jn_base.specs.Supers.{Member, IsOwnSuper}
 use Rattle.jn_base.specs.Universe.{InUniverse}
 use Rattle.jn_base.specs.Members.{HasTwoKinds}
-use Rattle.jn_base.specs.TableRules.{NoneIs, IsOver, TablePasses, DeclarationsPass}
+use Rattle.jn_base.specs.TableRules.{TablePasses}
 use Rattle.jn_base.specs.LawsOfTable.{NamesItsPaths}
-use Rattle.jn_base.proofs.NameTests.{and_both, has_in, passes, first, later}
+use Rattle.jn_base.proofs.NameTests.{and_both, has_in, passes}
 use Rattle.jn_base.proofs.ExampleTools.{tops, inners, at_top, at_inner, same, keeps, top_member, of_each}
-use Rattle.jn_base.proofs.VerdictTools.{TwoLevels, package_of, class_of, top_of, plain_of, universe_of, few_paths, no_top_cycle, lower_tops, IsRanked, lower_written, no_class_cycle, package_alone, classes_in, class_alone, known_classes, all_known}
+use Rattle.jn_base.proofs.VerdictTools.{TwoLevels, package_of, class_of, top_of, plain_of, universe_of, few_paths, no_top_cycle, IsRanked, lower_written, no_class_cycle, package_alone, classes_in, class_alone, known_classes, all_known}
 use Rattle.jn_sem.specs.LawsOfFinding.{FoundOnceIn}
 use Rattle.jn_sem.proofs.FindingLaws.{finds_one_in}
 use Rattle.jn_sem_rows.specs.SlotsExample.{base, disp, Lit, adapting}
+use Rattle.jn_sem_rows.proofs.MainTools.{some_text, in_list}
 use Rattle.jn_sem_rows.proofs.SlotTools.{is_flat, deep, one_name, bare}
 
 -- ---- distinct texts
@@ -51,14 +52,6 @@ apart (t ∷ ts) = list_all (λ u. not (same_bytes t.bytes u.bytes)) ts && apart
 none_there : (n : ℕ) (t : Text) → slice_get [] n ≡ Some t → ⊥
 none_there zero t e = cc
 none_there (suc n) t e = cc
-
-some_text : (s t : Text) → Some s ≡ Some t → s ≡ t
-some_text s t e = cc
-
-in_list : (xs : List Text) (n : ℕ) (t : Text) → slice_get xs n ≡ Some t → Contains xs t
-in_list [] n t e = absurd (none_there n t e)
-in_list (x ∷ xs) zero t e = subst (Contains (x ∷ xs)) (some_text x t e) (first x xs)
-in_list (x ∷ xs) (suc n) t e = later x xs t (in_list xs n t e)
 
 not_same : (b : Bool) → not b ≡ true → b ≡ true → ⊥
 not_same true e f = cc

@@ -1,6 +1,6 @@
 -- What is found in a program of the class Main alone.
 use Rattle.std.proofs.Common.{◌≡◌, ℕ, zero, suc, List, [], ◌∷◌, length, map, Option, Some, None, Contains, Bool, true, false, nat_eq, refl, sym, ap, ◌∙◌, subst, ◌⊎◌, inl, inr, slice_get, get_or, arith}
-use Rattle.std.specs.Prelude.{◌≤◌, codes, cond, nat_lt, nat_le}
+use Rattle.std.specs.Prelude.{codes, cond, nat_lt, nat_le}
 use Rattle.std.specs.List.{list_all}
 use Rattle.std.specs.List.Sorted.{IsStrictlySortedBy}
 use Rattle.jn_reach.specs.Each.{Each, none, more}
@@ -35,6 +35,7 @@ use Rattle.jn_sem.specs.Run.{Running, running, start, shown, settled, Charge}
 use Rattle.jn_sem.proofs.Sure.{if_so}
 use Rattle.jn_sem.proofs.FindingLaws.{finds_one}
 use Rattle.jn_sem_rows.specs.MainAlone.{Main, main, text, main_class, main_alone, main_method}
+use Rattle.jn_sem_rows.proofs.ActTools.{ByCharges, by_charges}
 use Rattle.jn_sem_rows.specs.TwoPrints.{one_object, the_object, starting}
 
 -- ---- names
@@ -46,10 +47,10 @@ is_short t = nat_lt (length t.bytes) 4
 none_there : (t : Text) → None ≡ Some t → ⊥
 none_there t e = cc
 
-some_text : (s t : Text) → Some s ≡ Some t → s ≡ t
+pub some_text : (s t : Text) → Some s ≡ Some t → s ≡ t
 some_text s t e = cc
 
-in_list : (xs : List Text) (n : ℕ) (t : Text) → slice_get xs n ≡ Some t → Contains xs t
+pub in_list : (xs : List Text) (n : ℕ) (t : Text) → slice_get xs n ≡ Some t → Contains xs t
 in_list [] zero t e = absurd (none_there t e)
 in_list [] (suc n) t e = absurd (none_there t e)
 in_list (x ∷ xs) zero t e = subst (Contains (x ∷ xs)) (some_text x t e) (first x xs)
@@ -331,6 +332,6 @@ module _ (names : List Text) (ms : List Method) where
     -- the two charges before the first act of `main`
     pub begun : (d : ℕ) (ss : List Stmt) (t : Todo) (k : List Todo) → nat_lt 0 d ≡ true → with_name ms main ≡ main_method ss ∷ [] → with_name ms Main ≡ []
         → stmts_acts 0 1 ss [] ≡ t ∷ k → (n : ℕ) (r : Report Ending)
-        → Reports (Charge p 1 d) shown n (On (running (in_body (main_method ss) (t ∷ k) ∷ starting [] [] ∷ []) one_object [])) r
+        → ByCharges p 1 d n (On (running (in_body (main_method ss) (t ∷ k) ∷ starting [] [] ∷ []) one_object [])) r
         → Reports (Charge p 1 d) shown (suc (suc n)) (On start) r
-    begun d ss t k deep one other acts n r then = (_, make 1 d refl other, (_, open_main 1 d ss t k deep one acts, then))
+    begun d ss t k deep one other acts n r then = (_, make 1 d refl other, (_, open_main 1 d ss t k deep one acts, by_charges p 1 d then))

@@ -1,5 +1,5 @@
 -- The types `int` and `Main` in a body of Main.
-use Rattle.std.proofs.Common.{◌≡◌, ◌<◌, ◌≤◌, ℕ, zero, suc, List, [], ◌∷◌, length, map, drop, Option, Some, None, Contains, refl, sym, ap, ◌∙◌, subst, inl, inr, arith}
+use Rattle.std.proofs.Common.{◌≡◌, ◌<◌, ℕ, zero, suc, List, [], ◌∷◌, drop, None, refl, sym, subst, arith}
 use Rattle.std.specs.Prelude.{Ok}
 use Rattle.std.specs.List.Sorted.{IsStrictlySortedBy}
 use Rattle.jn_base.specs.declared.tree.Name.{Name}
@@ -12,19 +12,17 @@ use Rattle.jn_base.specs.declared.names.Var.{Var}
 use Rattle.jn_base.specs.declared.types.Anchor.TheVariants.{Root}
 use Rattle.jn_base.specs.declared.types.Ty.{Ty}
 use Rattle.jn_base.specs.declared.types.Ty.TheVariants as ty
-use Rattle.jn_base.specs.Paths.{Path}
 use Rattle.jn_base.specs.Supers.{Member}
-use Rattle.jn_base.specs.Scopes.{Bind, Scope}
+use Rattle.jn_base.specs.Scopes.{Scope}
 use Rattle.jn_base.specs.Atoms.{Atom, atom, shown_atom, no_masks, Among, first, later}
 use Rattle.jn_base.specs.Resolve.{found, in_class}
 use Rattle.jn_base.specs.ResolveTypes.{mask_names, none, first as first_term, one}
-use Rattle.jn_base.proofs.NameTests.{in_cons, in_none}
 use Rattle.jn_sem.specs.Asks.{Only}
 use Rattle.jn_sem.specs.Normal.{normal, moved, same_path, IsSubst}
 use Rattle.jn_sem.specs.Terms.{Site, TypeIs}
 use Rattle.jn_sem.proofs.FindingLaws.{finds_one}
 use Rattle.jn_sem_rows.specs.MainAlone.{Main, main_alone, of_main}
-use Rattle.jn_sem_rows.proofs.SlotTools.{masks_none}
+use Rattle.jn_sem_rows.proofs.SlotTools.{one_depth, masks_none}
 use Rattle.jn_sem_rows.proofs.MainTools.{is_class, the_member, nothing_in}
 
 abbrev pub main_atom : Atom
@@ -65,12 +63,6 @@ module _ (names : List Text) (ms : List Method) (m : Name) (vars : List Var) whe
   pub int_type : Only (TypeIs (main_alone names ms) here type.Int) ty.Int
   int_type = int_anywhere (main_alone names ms) here
 
-  alone : (B : Path) → Contains ((Main ∷ []) ∷ []) B → Main ∷ [] ≡ B
-  alone B h = elim (in_cons (Main ∷ []) [] B h) [ inl i ↦ i | inr n ↦ absurd (in_none B n) ]
-
-  one_depth : (B E : Path) → Contains ((Main ∷ []) ∷ []) B → Contains ((Main ∷ []) ∷ []) E → length B ≡ length E
-  one_depth B E h i = ap length (sym (alone B h) ∙ alone E i)
-
   inner : (j : ℕ) → j < 1 → Member (main_alone names ms) (drop j (Main ∷ [])) Main → ⊥
   inner zero l h = nothing_in names ms Main h
   inner (suc j) l h = absurd (omega (arith, l))
@@ -89,7 +81,7 @@ module _ (names : List Text) (ms : List Method) (m : Name) (vars : List Var) whe
         };
         gives = in_class (is_class names ms).kind refl;
       }) (none refl) refl;
-      gives = one one_depth (record { first = None; unfit = refl; gives = record { masks = no_masks; are = masks_none (mask_names (main_alone names ms)); gives = refl } });
+      gives = one (one_depth (Main ∷ [])) (record { first = None; unfit = refl; gives = record { masks = no_masks; are = masks_none (mask_names (main_alone names ms)); gives = refl } });
     };
     normal = (its_own _, refl);
   })

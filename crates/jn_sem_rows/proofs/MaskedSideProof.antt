@@ -1,5 +1,5 @@
 -- A constraint whose first side has a mask.
-use Rattle.std.proofs.Common.{◌≡◌, ℕ, zero, suc, List, [], ◌∷◌, drop, length, Option, Some, None, refl, sym, ap, ◌∙◌, subst, ◌⊎◌, inl, inr, slice_get, arith}
+use Rattle.std.proofs.Common.{◌≡◌, ℕ, zero, suc, [], ◌∷◌, drop, length, Some, None, refl, sym, ap, ◌∙◌, subst, ◌⊎◌, inl, inr, slice_get, arith}
 use Rattle.std.specs.declared.cmp.Ordering.TheVariants.{Less}
 use Rattle.jn_base.specs.declared.tree.Name.{Name}
 use Rattle.jn_base.specs.declared.types.Masks.{Masks}
@@ -9,9 +9,8 @@ use Rattle.jn_base.specs.Paths.{Path}
 use Rattle.jn_base.specs.Supers.{itself}
 use Rattle.jn_base.specs.Atoms.{Atom, atom, no_masks, Among, first, later, HasMask}
 use Rattle.jn_sem.specs.Sets.{no_views, InAtom, InAtoms}
-use Rattle.jn_sem.specs.Values.{HasField, Masked}
+use Rattle.jn_sem.specs.Values.{HasField}
 use Rattle.jn_sem.specs.Sharing.{IsClass, in_family}
-use Rattle.jn_sem.specs.Slots.{IsSlot, Slot}
 use Rattle.jn_sem.specs.Holds.{Turns, Passes, masked, same_slot, IsGranted, Fails, Blocks, unshared}
 use Rattle.jn_sem_rows.specs.SlotsExample.{base, disp, Lit, v, tag, in_base, in_disp, tagged}
 use Rattle.jn_sem_rows.specs.SlotRows.{v_masked, tag_masked, to_disp_lit, MaskedSide}
@@ -57,8 +56,9 @@ v_passes = same_slot slot_v v_here (first_v (in_base Lit) base_itself v_here) (f
 
 passes : (f : Name) → HasField tagged (in_disp Lit) f → Passes tagged (to_disp_lit no_masks) (in_base Lit) (in_disp Lit) f
 passes f h = elim (its_name h.at f h.declares.field h.declares.at) [
-  inl e ↦ subst (Passes tagged (to_disp_lit no_masks) (in_base Lit) (in_disp Lit)) (sym e) v_passes
-  | inr e ↦ subst (Passes tagged (to_disp_lit no_masks) (in_base Lit) (in_disp Lit)) (sym e) (tag_passes no_masks) ]
+  | inl e ↦ subst (Passes tagged (to_disp_lit no_masks) (in_base Lit) (in_disp Lit)) (sym e) v_passes
+  | inr e ↦ subst (Passes tagged (to_disp_lit no_masks) (in_base Lit) (in_disp Lit)) (sym e) (tag_passes no_masks)
+]
 
 granted : IsGranted tagged (to_disp_lit no_masks) (in_base Lit)
 granted = record { view = in_disp Lit; turns = turns no_masks; fields = passes }

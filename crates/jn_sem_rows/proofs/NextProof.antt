@@ -1,5 +1,5 @@
 -- A field whose type hangs on `this`, read at two views.
-use Rattle.std.proofs.Common.{◌≡◌, [], ◌∷◌, refl, inl, inr}
+use Rattle.std.proofs.Common.{[], refl, inl, inr}
 use Rattle.jn_base.specs.declared.tree.Name.{Name}
 use Rattle.jn_base.specs.declared.tree.Member.TheVariants.{outs-Inner, outs-Slot}
 use Rattle.jn_base.specs.Paths.{Path}
@@ -7,9 +7,8 @@ use Rattle.jn_base.proofs.Unique.{decl_opened, member_opened}
 use Rattle.jn_sem.specs.Asks.{Only, found, holds}
 use Rattle.jn_sem.specs.Sharing.{Related, Counterpart, in_family}
 use Rattle.jn_sem.specs.Slots.{FieldType, IsSlot}
-use Rattle.jn_sem.proofs.FindingLaws.{finds_one}
 use Rattle.jn_sem_rows.specs.SlotsExample.{base, disp, Lit, next, in_base, in_disp, linked}
-use Rattle.jn_sem_rows.specs.Views.{NextIs, NextViews}
+use Rattle.jn_sem_rows.specs.Views.{NextViews}
 use Rattle.jn_sem_rows.proofs.SlotTools.{in_namespace, it_hangs, IsLit}
 use Rattle.jn_sem_rows.proofs.LinkedProof.{own, is_flat_here, lits_only, bare_tops, place, field_next, next_at, next_type, lits_back, base_itself, to_base, slot_next, first_next}
 use Rattle.jn_sem_rows.proofs.LitFamilies.{IsTested, found_once}

@@ -16,13 +16,13 @@ use Rattle.jn_sem.specs.Asks.{found, holds}
 use Rattle.jn_sem.specs.Values.{Value, Number, Truth, number}
 use Rattle.jn_sem.specs.Acts.{Push, Read, This, Operate, Call, Choose, Todo, todo, stmts_acts}
 use Rattle.jn_sem.specs.State.{Variable, Frame, frame_views, IsIn}
-use Rattle.jn_sem.specs.Does.{Ending, Ends, Depth, AreParams, var, Did}
+use Rattle.jn_sem.specs.Does.{Ending, Ends, Depth, AreParams, var}
 use Rattle.jn_sem.specs.Run.{Running, running, start, shown, settled, Charge}
 use Rattle.jn_sem.proofs.Sure.{if_so}
 use Rattle.jn_sem_rows.specs.MainAlone.{Main, text, method, main_method, an_int}
 use Rattle.jn_sem_rows.specs.MainRuns.{Recursion, recursion, x, f, turns, in_turn, first_turn}
 use Rattle.jn_sem_rows.specs.TwoPrints.{one_object, the_object, starting}
-use Rattle.jn_sem_rows.proofs.ActTools.{this_is, number_is, variable_is, chain_is, call_is, do_is, if_is}
+use Rattle.jn_sem_rows.proofs.ActTools.{ByCharges, stop, charge, this_is, number_is, variable_is, chain_is, call_is, do_is, if_is}
 use Rattle.jn_sem_rows.proofs.MainTools.{begun, in_body, body, body_of, only_params}
 use Rattle.jn_sem_rows.proofs.MainTypes.{int_type}
 
@@ -140,7 +140,7 @@ compares d z b fs less = record {
 -- ---- parts of the runs
 
 abbrev Reported : (d n : ℕ) → Running → Report Ending → Type 0
-Reported d n s r = Reports (Charge recursion 1 d) shown n (On s) r
+Reported d n s r = ByCharges recursion 1 d n (On s) r
 
 -- eight more, nine more
 abbrev eight : ℕ → ℕ
@@ -153,35 +153,15 @@ nine n = suc (eight n)
 calls_again : (d : ℕ) (z y : ℤ) (fs : List Frame) → int_lt (pos 0) z ≡ true → difference_of z (pos 1) ≡ y → (n : ℕ) (r : Report Ending)
     → Reported d n (running (calling (frame z [] []) 1 y ∷ fs) one_object []) r
     → Reported d (eight n) (running (frame z [] turn ∷ fs) one_object []) r
-calls_again d z y fs more less n r then = (
-  _,
-  record { did = _; does = refl; proceeds = refl },
-  (
-    _,
-    record { did = _; does = refl; proceeds = refl },
-    (
-      _,
-      compares d z true fs more,
-      (
-        _,
-        chooses d z fs,
-        (
-          _,
-          record { did = _; does = refl; proceeds = refl },
-          (
-            _,
-            record { did = _; does = refl; proceeds = refl },
-            (
-              _,
-              record { did = _; does = refl; proceeds = refl },
-              (_, subtracts d z y fs less, then),
-            ),
-          ),
-        ),
-      ),
-    ),
-  ),
-)
+calls_again d z y fs more less n r then =
+    charge (record { did = _; does = refl; proceeds = refl })
+    (charge (record { did = _; does = refl; proceeds = refl })
+    (charge (compares d z true fs more)
+    (charge (chooses d z fs)
+    (charge (record { did = _; does = refl; proceeds = refl })
+    (charge (record { did = _; does = refl; proceeds = refl })
+    (charge (record { did = _; does = refl; proceeds = refl })
+    (charge (subtracts d z y fs less) then)))))))
 
 abbrev in_main : Frame
 in_main = in_body x_and_f its_methods refl (main_method first_turn) []
@@ -195,37 +175,25 @@ below_one = frame (pos 2) [] [] ∷ below_two
 -- in 22 charges to the call of f(0), where there is room for three frames
 to_zero : (d : ℕ) → nat_lt 0 d ≡ true → nat_lt 1 d ≡ true → nat_lt 2 d ≡ true → (n : ℕ) (r : Report Ending)
     → Reported d n (running (calling (frame (pos 1) [] []) 1 (pos 0) ∷ below_one) one_object []) r
-    → Reported d (suc (suc (suc (suc (suc (eight (nine n))))))) start r
+    → Reports (Charge recursion 1 d) shown (suc (suc (suc (suc (suc (eight (nine n))))))) (On start) r
 to_zero d one two three n r then =
-    begun x_and_f its_methods refl d first_turn _ _ one refl refl first_acts (suc (suc (suc (eight (nine n))))) r (
-      _,
-      record { did = _; does = refl; proceeds = refl },
-      (
-        _,
-        record { did = _; does = refl; proceeds = refl },
-        (
-          _,
-          enters d in_main 0 (pos 2) (starting [] [] ∷ []) two,
-          calls_again d (pos 2) (pos 1) below_two refl two_less (nine n) r (
-            _,
-            enters d (frame (pos 2) [] []) 1 (pos 1) below_two three,
-            calls_again d (pos 1) (pos 0) below_one refl one_less n r then,
-          ),
-        ),
-      ),
-    )
+    begun x_and_f its_methods refl d first_turn _ _ one refl refl first_acts (suc (suc (suc (eight (nine n))))) r
+    (charge (record { did = _; does = refl; proceeds = refl })
+    (charge (record { did = _; does = refl; proceeds = refl })
+    (charge (enters d in_main 0 (pos 2) (starting [] [] ∷ []) two)
+    (calls_again d (pos 2) (pos 1) below_two refl two_less (nine n) r
+    (charge (enters d (frame (pos 2) [] []) 1 (pos 1) below_two three)
+    (calls_again d (pos 1) (pos 0) below_one refl one_less n r then))))))
 
-zero_turn : (n : ℕ) (r : Report Ending) → Reported 4 n (running (frame (pos 0) (Number (pos 0) ∷ Number (pos 0) ∷ []) (todo 1 (Operate op.Lt) ∷ todo 1 (Choose 2 in_turn []) ∷ []) ∷ frame (pos 1) [] [] ∷ below_one) one_object []) r
+abbrev in_zero : Frame
+in_zero = frame (pos 0) (Number (pos 0) ∷ Number (pos 0) ∷ []) (todo 1 (Operate op.Lt) ∷ todo 1 (Choose 2 in_turn []) ∷ [])
+
+zero_turn : (n : ℕ) (r : Report Ending) → Reported 4 n (running (in_zero ∷ frame (pos 1) [] [] ∷ below_one) one_object []) r
     → Reported 4 (suc (suc (suc n))) (running (calling (frame (pos 1) [] []) 1 (pos 0) ∷ below_one) one_object []) r
-zero_turn n r then = (
-  _,
-  enters 4 (frame (pos 1) [] []) 1 (pos 0) below_one refl,
-  (
-    _,
-    record { did = _; does = refl; proceeds = refl },
-    (_, record { did = _; does = refl; proceeds = refl }, then),
-  ),
-)
+zero_turn n r then =
+    charge (enters 4 (frame (pos 1) [] []) 1 (pos 0) below_one refl)
+    (charge (record { did = _; does = refl; proceeds = refl })
+    (charge (record { did = _; does = refl; proceeds = refl }) then))
 
 -- ---- the runs
 
@@ -234,17 +202,18 @@ recursions = record {
   four = record {
     ending = Some Ends;
     outcome = refl;
-    reports = to_zero 4 refl refl refl 5 _ (zero_turn 2 _ (_, compares 4 (pos 0) false _ refl, (_, record { did = _; does = refl; proceeds = refl }, refl)));
+    reports = to_zero 4 refl refl refl 5 _
+        (zero_turn 2 _ (charge (compares 4 (pos 0) false _ refl) (charge (record { did = _; does = refl; proceeds = refl }) (stop refl))));
   };
   four_before = record {
     ending = None;
     outcome = refl;
-    reports = to_zero 4 refl refl refl 4 _ (zero_turn 1 _ (_, compares 4 (pos 0) false _ refl, refl));
+    reports = to_zero 4 refl refl refl 4 _ (zero_turn 1 _ (charge (compares 4 (pos 0) false _ refl) (stop refl)));
   };
   three = record {
     ending = Some Depth;
     outcome = refl;
-    reports = to_zero 3 refl refl refl 1 _ (_, too_deep (frame (pos 1) [] []) 1 (pos 0) _ _ _, refl);
+    reports = to_zero 3 refl refl refl 1 _ (charge (too_deep (frame (pos 1) [] []) 1 (pos 0) _ _ _) (stop refl));
   };
-  three_before = record { ending = None; outcome = refl; reports = to_zero 3 refl refl refl 0 _ refl };
+  three_before = record { ending = None; outcome = refl; reports = to_zero 3 refl refl refl 0 _ (stop refl) };
 }

@@ -19,7 +19,7 @@ use Rattle.jn_base.specs.Members.{HasKind, FieldAt}
 use Rattle.jn_base.specs.Atoms.{Atom, atom, shown_atom, no_masks, Among, first, later}
 use Rattle.jn_base.specs.ExampleTrees.{word}
 use Rattle.jn_base.specs.Resolve.{found, in_class}
-use Rattle.jn_base.specs.ResolveTypes.{mask_names, MasksAre, none, first as first_term, one}
+use Rattle.jn_base.specs.ResolveTypes.{mask_names, MasksAre, OneDepth, none, first as first_term, one}
 use Rattle.jn_base.proofs.NameTests.{in_cons, in_none, has_in, first as at_first, later as behind}
 use Rattle.jn_base.proofs.SuperLaws.{member_heir, sup_inherited, sup_level}
 use Rattle.jn_base.proofs.ExampleTools.{tops, at_top, has_only, inners, at_inner, top_member, top_above, anything, inner_has, inner_member, inner_class, is_class}
@@ -73,9 +73,9 @@ is_flat A d = nat_eq (length (nested d.members)) 0
 nought : (n : ℕ) → nat_eq n 0 ≡ true → n ≡ 0
 nought n e = grind arith
 
-none_of : (ds : List Decl) (d : Decl) → nat_eq (length ds) 0 ≡ true → Contains ds d → ⊥
-none_of [] d e c = in_none d c
-none_of (x ∷ ds) d e c = absurd (omega (arith, nought (length (x ∷ ds)) e))
+pub none_of : {X : Type 0} (xs : List X) (x : X) → nat_eq (length xs) 0 ≡ true → Contains xs x → ⊥
+none_of [] x e c = in_none x c
+none_of (y ∷ xs) x e c = absurd (omega (arith, nought (length (y ∷ xs)) e))
 
 flat : (p : Program) → inners is_flat p ≡ true → (A B : Name) (N : Name) → Declared p (N ∷ A ∷ B ∷ []) → ⊥
 flat p e A B N x =
@@ -107,6 +107,12 @@ masks_none names = record {
   each = λ i l. (λ h. absurd (no_mask i h), λ x. absurd (in_none x.mask x.among));
 }
 
+-- one bound has one depth
+pub one_depth : (R : Path) → OneDepth (R ∷ [])
+one_depth R B E h i = ap length (sym (alone B h) ∙ alone E i) where
+  alone : (B : Path) → Contains (R ∷ []) B → R ≡ B
+  alone B h = elim (in_cons R [] B h) [ inl i ↦ i | inr n ↦ absurd (in_none B n) ]
+
 -- `C` as the type of a field of the class D of `base`
 pub type_of_name : (p : Program) → inners is_flat p ≡ true → (D C f : Name) → Member p (base ∷ []) C → HasKind p (C ∷ base ∷ []) kind.Class
     → FieldTypeIs p (D ∷ base ∷ []) f (named_type C) (in_namespace C)
@@ -121,14 +127,8 @@ type_of_name p e D C f m k = record {
     };
     gives = in_class k refl;
   }) (none refl) refl;
-  gives = one one_depth (record { masks = no_masks; are = masks_none (mask_names p); gives = refl });
+  gives = one (one_depth (C ∷ base ∷ [])) (record { masks = no_masks; are = masks_none (mask_names p); gives = refl });
 } where
-  alone : (B : Path) → Contains ((C ∷ base ∷ []) ∷ []) B → C ∷ base ∷ [] ≡ B
-  alone B h = elim (in_cons (C ∷ base ∷ []) [] B h) [ inl i ↦ i | inr n ↦ absurd (in_none B n) ]
-
-  one_depth : (B E : Path) → Contains ((C ∷ base ∷ []) ∷ []) B → Contains ((C ∷ base ∷ []) ∷ []) E → length B ≡ length E
-  one_depth B E h i = ap length (sym (alone B h) ∙ alone E i)
-
   inner : (j : ℕ) → j < 1 → Member p (drop j (D ∷ base ∷ [])) C → ⊥
   inner zero l h = no_member p e D base C h
   inner (suc j) l h = absurd (omega (arith, l))
@@ -188,10 +188,7 @@ module _ (own further : List Inside) (flat_is : inners is_flat (adapting own fur
   -- a field is declared in one of the two
   pub field_place : (R : Path) (f : Name) (x : Field) → FieldAt that R f x → (A : Name) × (R ≡ Lit ∷ A ∷ []) × ((base ≡ A) ⊎ (disp ≡ A))
   field_place [] f x h = absurd h.stands
-  field_place (A ∷ []) f x h = absurd (none_field (fields h.decl.members) x (at_top that bare bare_tops A h.decl h.stands) h.has) where
-    none_field : (fs : List Field) (y : Field) → nat_eq (length fs) 0 ≡ true → Contains fs y → ⊥
-    none_field [] y e c = in_none y c
-    none_field (z ∷ fs) y e c = absurd (omega (arith, nought (length (z ∷ fs)) e))
+  field_place (A ∷ []) f x h = absurd (none_of (fields h.decl.members) x (at_top that bare bare_tops A h.decl h.stands) h.has)
   field_place (C ∷ A ∷ []) f x h =
       let e = h.stands.0 in
       (A, ap (λ (n : Name). n ∷ A ∷ []) (sym (lit_name C A h.decl h.stands)), family_name A e.0 (e.1, e.2))

@@ -1,24 +1,19 @@
 -- What is found in the families of one class where each has a field of its own.
-use Rattle.std.proofs.Common.{◌≡◌, ◌<◌, ℕ, zero, suc, List, [], ◌∷◌, length, drop, Option, Some, None, Contains, Bool, true, false, nat_eq, refl, sym, ap, ◌∙◌, subst, ◌⊎◌, inl, inr, arith}
+use Rattle.std.proofs.Common.{◌≡◌, ◌<◌, ℕ, zero, suc, List, [], ◌∷◌, length, drop, None, Contains, Bool, true, nat_eq, refl, sym, subst, inl, inr, arith}
 use Rattle.std.specs.Prelude.{pos, Ok, ◌↔◌}
 use Rattle.std.specs.List.Sorted.{IsStrictlySortedBy}
-use Rattle.jn_reach.specs.Each.{Each, none, more}
+use Rattle.jn_reach.specs.Each.{none, more}
 use Rattle.jn_reach.specs.Equivalent as link
 use Rattle.jn_base.specs.declared.tree.Name.{Name}
 use Rattle.jn_base.specs.declared.tree.Decl.{Decl}
 use Rattle.jn_base.specs.declared.tree.Method.{Method}
-use Rattle.jn_base.specs.declared.tree.Term.{Term}
-use Rattle.jn_base.specs.declared.tree.Head.TheVariants as head
-use Rattle.jn_base.specs.declared.tree.Member.TheVariants.{outs-Inner, outs-Slot, outs-Body}
+use Rattle.jn_base.specs.declared.tree.Member.TheVariants.{outs-Inner, outs-Slot}
 use Rattle.jn_base.specs.declared.types.Ty.TheVariants as ty
 use Rattle.jn_base.specs.declared.types.Anchor.TheVariants.{Up}
-use Rattle.jn_base.specs.declared.names.Role.TheVariants as role
-use Rattle.jn_base.specs.ExampleTrees.{line}
-use Rattle.jn_base.specs.Duplicates.{has_name, duplicates}
+use Rattle.jn_base.specs.Duplicates.{has_name}
 use Rattle.jn_base.specs.Paths.{Path, methods}
 use Rattle.jn_base.specs.Supers.{Sup, itself, Member}
-use Rattle.jn_base.specs.Members.{MethodAt, IsField, FieldDecls}
-use Rattle.jn_base.specs.Universe.{InUniverse}
+use Rattle.jn_base.specs.Members.{MethodAt}
 use Rattle.jn_base.specs.Atoms.{Atom, atom, shown_atom}
 use Rattle.jn_base.specs.Resolve.{found as found_at, in_class}
 use Rattle.jn_base.proofs.Unique.{decl_opened, member_opened}
@@ -29,12 +24,12 @@ use Rattle.jn_sem.specs.Values.{Value, HasField, Number}
 use Rattle.jn_sem.specs.Sharing.{Related}
 use Rattle.jn_sem.specs.Acts.{Todo}
 use Rattle.jn_sem.specs.Slots.{FieldType, IsSlot, IsSize}
-use Rattle.jn_sem.specs.State.{Stored, Frame}
-use Rattle.jn_sem.specs.Does.{Body, IsBody, IsConstructorBody, AreFresh, IsFresh, IsNewClass}
+use Rattle.jn_sem.specs.State.{Stored}
+use Rattle.jn_sem.specs.Does.{Body, IsConstructorBody, AreFresh, IsFresh, IsNewClass}
 use Rattle.jn_sem.proofs.FindingLaws.{finds_one}
-use Rattle.jn_sem_rows.specs.SlotsExample.{base, disp, Lit, v, tag, in_base, in_disp, tagged}
-use Rattle.jn_sem_rows.specs.Views.{working}
-use Rattle.jn_sem_rows.proofs.SlotTools.{no_member}
+use Rattle.jn_sem_rows.specs.SlotsExample.{base, Lit, v, tag, in_base, in_disp, tagged}
+use Rattle.jn_sem_rows.specs.Views.{working, lit_term}
+use Rattle.jn_sem_rows.proofs.SlotTools.{none_of, no_member}
 use Rattle.jn_sem_rows.proofs.SlotsProof.{tagged_own, tagged_further, tagged_flat, tagged_lits, tagged_bare, has_lit, lits, lits_back, base_itself, disp_itself, field_v, field_tag, v_at, its_tag_at, lit_above, v_here, v_there, tag_there, is_v, is_tag, its_name, not_tagged, slot_v, slot_tag, first_v, first_tag, base_size}
 use Rattle.jn_sem_rows.proofs.LitFamilies.{Lits, Families, IsTested, found_once}
 
@@ -184,12 +179,6 @@ no_methods A d = nat_eq (length (methods d.members)) 0
 none_declared : inners no_methods tagged ≡ true
 none_declared = simp (outs-Inner, outs-Slot)
 
-none_of : (ms : List Method) (m : Method) → nat_eq (length ms) 0 ≡ true → Contains ms m → ⊥
-none_of [] m e c = in_none m c
-none_of (x ∷ ms) m e c = absurd (too_long (length ms) e) where
-  too_long : (n : ℕ) → nat_eq (suc n) 0 ≡ true → ⊥
-  too_long n h = grind arith
-
 no_method_at : (S : Path) (m : Name) (x : Method) → OneOf Lits Families S → MethodAt tagged S m x → ⊥
 no_method_at S m x (one C A c a) h = none_of (methods h.decl.members) x (at_inner tagged no_methods none_declared C A h.decl h.stands) h.has
 
@@ -200,9 +189,6 @@ pub no_constructor : (A : Name) → has_name Families A ≡ true → (b : Body) 
 no_constructor A a b o = no_method_at b.class Lit b.method (lit_sups A a b.class o.is.least.among.super) o.is.at
 
 -- ---- the class of `new Lit()` in a body of base.Lit
-
-abbrev pub lit_term : Term
-lit_term = record { head = head.Plain; exact = []; names = Lit ∷ []; at = line 1 }
 
 abbrev lit_atom : Atom
 lit_atom = atom (Up 0 1) [] (Lit ∷ [])

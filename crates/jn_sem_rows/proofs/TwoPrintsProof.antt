@@ -7,7 +7,7 @@ use Rattle.jn_steps.specs.Runs.{On, End}
 use Rattle.jn_steps.specs.Steps.{Goes}
 use Rattle.jn_sem.specs.Values.{Number}
 use Rattle.jn_sem.specs.Acts.{stmts_acts}
-use Rattle.jn_sem.specs.Does.{Did, Ends}
+use Rattle.jn_sem.specs.Does.{Ends}
 use Rattle.jn_sem.specs.Run.{start, Charge}
 use Rattle.jn_sem_rows.specs.TwoPrints.{two_prints, the_method, one_object, in_main, at_work, push, print, SixCharges}
 use Rattle.jn_sem_rows.proofs.ActTools.{number_is, print_is, shows_one}

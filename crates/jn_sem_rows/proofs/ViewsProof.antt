@@ -1,37 +1,32 @@
 -- The runs of one method at two views.
-use Rattle.std.proofs.Common.{◌≡◌, ◌<◌, ℕ, zero, suc, List, [], ◌∷◌, length, drop, Option, Some, None, Contains, Bool, true, false, refl, sym, ap, ◌∙◌, subst, inl, inr, arith}
+use Rattle.std.proofs.Common.{◌≡◌, ◌<◌, ℕ, zero, suc, List, [], ◌∷◌, drop, Some, None, true, false, refl, sym, ap, inl, arith}
 use Rattle.std.specs.Prelude.{pos, codes, Ok}
 use Rattle.std.specs.Fmt.{digits}
-use Rattle.jn_steps.specs.Runs.{Report, On, End}
-use Rattle.jn_steps.specs.Reports.{Reports}
+use Rattle.jn_steps.specs.Runs.{On, End}
 use Rattle.jn_steps.specs.Steps.{Goes}
 use Rattle.jn_steps.specs.Numbers.{number_line}
-use Rattle.jn_base.specs.declared.tree.Name.{Name}
-use Rattle.jn_base.specs.declared.tree.Stmt.TheVariants as stmt
 use Rattle.jn_base.specs.declared.types.Anchor.TheVariants.{Root}
 use Rattle.jn_base.specs.declared.types.Ty.TheVariants as ty
-use Rattle.jn_base.specs.ExampleTrees.{line}
 use Rattle.jn_base.specs.Paths.{Path}
 use Rattle.jn_base.specs.Supers.{Member}
 use Rattle.jn_base.specs.Atoms.{Atom, atom, shown_atom, no_masks}
 use Rattle.jn_base.specs.Resolve.{found as found_at, in_class}
 use Rattle.jn_base.specs.ResolveTypes.{mask_names, none, first as first_term, one}
-use Rattle.jn_base.proofs.NameTests.{in_cons, in_none}
 use Rattle.jn_base.proofs.ExampleTools.{top_member}
 use Rattle.jn_base.proofs.VerdictTools.{class_named}
 use Rattle.jn_sem.specs.Asks.{Only, found, holds}
-use Rattle.jn_sem.specs.Values.{Value, Number, Null, Reference, number}
-use Rattle.jn_sem.specs.Acts.{Push, Return, Print, View, Call, Todo, todo, stmts_acts}
-use Rattle.jn_sem.specs.State.{Heap, Frame}
+use Rattle.jn_sem.specs.Values.{Value, Number, Null, number}
+use Rattle.jn_sem.specs.Acts.{Push, Return, Print, Todo, todo, stmts_acts}
+use Rattle.jn_sem.specs.State.{Frame}
 use Rattle.jn_sem.specs.Sharing.{Counterpart}
-use Rattle.jn_sem.specs.Does.{Ending, Ends, AtNull, Body, IsBody, AreParams, IsTargetFamily, Did}
-use Rattle.jn_sem.specs.Run.{running, shown, settled, Charge}
+use Rattle.jn_sem.specs.Does.{Ends, IsBody, IsTargetFamily}
+use Rattle.jn_sem.specs.Run.{running, settled, Charge}
 use Rattle.jn_sem.proofs.FindingLaws.{finds_one}
 use Rattle.jn_sem_rows.specs.SlotsExample.{base, disp, Lit, eval, in_base, in_disp}
 use Rattle.jn_sem_rows.specs.Views.{working, ComesTo, seen, dispatch, evaluating, one_lit, to_disp_lit, eval_and_print, Dispatch}
 use Rattle.jn_sem_rows.proofs.ActTools.{number_is, result_is, one_line}
 use Rattle.jn_sem_rows.proofs.MainTypes.{int_anywhere}
-use Rattle.jn_sem_rows.proofs.SlotTools.{back, masks_none, no_member}
+use Rattle.jn_sem_rows.proofs.SlotTools.{back, one_depth, masks_none, no_member}
 use Rattle.jn_sem_rows.proofs.LitFamilies.{Lits}
 use Rattle.jn_sem_rows.proofs.DispatchProof.{own, further, tested, lits, lit_member, body, base_body, disp_body}
 
@@ -103,12 +98,6 @@ no_disp_inside (suc zero) l m = not_named (class_named dispatch Lits tested.plai
   not_named e = cc
 no_disp_inside (suc (suc j)) l m = absurd (omega (arith, l))
 
-alone : (B : Path) → Contains (in_disp Lit ∷ []) B → in_disp Lit ≡ B
-alone B h = elim (in_cons (in_disp Lit) [] B h) [ inl i ↦ i | inr n ↦ absurd (in_none B n) ]
-
-one_depth : (B E : Path) → Contains (in_disp Lit ∷ []) B → Contains (in_disp Lit ∷ []) E → length B ≡ length E
-one_depth B E h i = ap length (sym (alone B h) ∙ alone E i)
-
 abbrev viewing : List Value → Frame
 viewing vs = working (in_base Lit) vs eval_and_print
 
@@ -129,7 +118,7 @@ target vs = record {
         };
         gives = in_class lits.one.kind refl;
       }) (none refl) refl;
-      gives = one one_depth (record { first = None; unfit = refl; gives = record { masks = no_masks; are = masks_none (mask_names dispatch); gives = refl } });
+      gives = one (one_depth (in_disp Lit)) (record { first = None; unfit = refl; gives = record { masks = no_masks; are = masks_none (mask_names dispatch); gives = refl } });
     };
     is = refl;
   };

@@ -1,5 +1,5 @@
 -- Runs of the class Main alone: chains of `||`, kinds of operands and of values, null and depth at a call.
-use Rattle.std.specs.Prelude.{ℕ, pos, List, [], ◌∷◌, Bool, true, false, Some, None, codes}
+use Rattle.std.specs.Prelude.{List, [], ◌∷◌, true, false, None, codes}
 use Rattle.jn_base.specs.declared.tree.Name.{Name}
 use Rattle.jn_base.specs.declared.tree.TypeTerm.TheVariants as type
 use Rattle.jn_base.specs.declared.tree.Op.TheVariants as op
@@ -23,7 +23,8 @@ doing body = main_alone [] (main_method body ∷ [])
 
 -- print(true || true || true);
 abbrev pub or_body : List Stmt
-or_body = print (chain level.Or (truth true) (link op.Or (line 1) (truth true) ∷ link op.Or (line 1) (truth true) ∷ [])) ∷ []
+or_body =
+    print (chain level.Or (truth true) (link op.Or (line 1) (truth true) ∷ link op.Or (line 1) (truth true) ∷ [])) ∷ []
 
 abbrev pub or_chain : Program
 or_chain = doing or_body
@@ -89,7 +90,8 @@ f = name 3
 
 -- void f(..) { }, and void main() { .. }
 abbrev pub with_f : List Param → List Stmt → Program
-with_f params body = main_alone (text (codes "x") ∷ text (codes "f") ∷ []) (main_method body ∷ method None f params [] ∷ [])
+with_f params body =
+    main_alone (text (codes "x") ∷ text (codes "f") ∷ []) (main_method body ∷ method None f params [] ∷ [])
 
 -- Main x = null; x.f();
 abbrev pub receiver_body : List Stmt
@@ -136,7 +138,8 @@ first_turn = stmt.Do (call this f (number 2 ∷ [])) ∷ []
 
 -- class Main { void main() { this.f(2); } .. }
 abbrev pub recursion : Program
-recursion = main_alone (text (codes "x") ∷ text (codes "f") ∷ []) (main_method first_turn ∷ method None f (an_int x ∷ []) turns ∷ [])
+recursion = main_alone (text (codes "x") ∷ text (codes "f") ∷ [])
+    (main_method first_turn ∷ method None f (an_int x ∷ []) turns ∷ [])
 
 -- There are 5 charges until f(2) begins, 9 from f(2) to f(1), as many to f(0), and 4 in f(0), whose condition fails.
 pub record Recursion : Type 0 where

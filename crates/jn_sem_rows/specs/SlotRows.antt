@@ -1,5 +1,5 @@
--- Slots and sharing constraints: two slots by those of another field, a mask on the side that is shared, and a constraint
--- at an heir.
+-- Slots and sharing constraints: two slots by those of another field, a mask on the side that is shared, and a
+-- constraint at an heir.
 use Rattle.std.specs.Prelude.{List, [], ◌∷◌, Some, None}
 use Rattle.jn_base.specs.declared.tree.Member.{Member}
 use Rattle.jn_base.specs.declared.tree.Program.{Program}

@@ -29,7 +29,15 @@ abbrev pub starting : List Value → List Todo → Frame
 starting vs k = record start_frame { vals = vs; todo = k }
 
 abbrev pub in_main : List Value → List Todo → Frame
-in_main vs k = record { class = Main ∷ []; method = the_method; this = the_object; vars = []; vals = vs; todo = k; keeps = false }
+in_main vs k = record {
+  class = Main ∷ [];
+  method = the_method;
+  this = the_object;
+  vars = [];
+  vals = vs;
+  todo = k;
+  keeps = false;
+}
 
 -- behind the call of `main` the frame that starts the program has nothing to do
 abbrev pub at_work : Frame → List ℕ → Running
@@ -44,7 +52,8 @@ print = todo 0 Print
 -- Where at least one cell and one frame are allowed, there are six charges.
 pub record TwoPrints (a d : ℕ) : Type 0 where
   -- `new Main()`, and the call of `main`
-  pub first : Charge two_prints a d start (On (running (starting (the_object ∷ []) (todo 0 Open ∷ []) ∷ []) one_object []))
+  pub first : Charge two_prints a d start
+      (On (running (starting (the_object ∷ []) (todo 0 Open ∷ []) ∷ []) one_object []))
   pub second : Charge two_prints a d (running (starting (the_object ∷ []) (todo 0 Open ∷ []) ∷ []) one_object [])
       (On (at_work (in_main [] (push 1 ∷ print ∷ push 2 ∷ print ∷ [])) []))
   -- the literal 1, and the first `print`
@@ -55,7 +64,8 @@ pub record TwoPrints (a d : ℕ) : Type 0 where
   -- the literal 2, and the second `print`, behind which both frames are at their end
   pub fifth : Charge two_prints a d (at_work (in_main [] (push 2 ∷ print ∷ [])) (codes "1\n"))
       (On (at_work (in_main (Number (pos 2) ∷ []) (print ∷ [])) (codes "1\n")))
-  pub sixth : Charge two_prints a d (at_work (in_main (Number (pos 2) ∷ []) (print ∷ [])) (codes "1\n")) (End Ends (codes "1\n2\n"))
+  pub sixth : Charge two_prints a d (at_work (in_main (Number (pos 2) ∷ []) (print ∷ [])) (codes "1\n"))
+      (End Ends (codes "1\n2\n"))
   -- so the run with six charges ends, and the one with five needs a further one
   pub six : Run two_prints 6 a d outcome.Ends (codes "1\n2\n")
   pub five : Run two_prints 5 a d outcome.More (codes "1\n")

@@ -1,4 +1,5 @@
 ghost use Rattle.jn_sem_rows.specs.SlotsExample.{Tagged, TwoSlots, Linked, Refuted};
+ghost use Rattle.jn_sem_rows.specs.SlotRows.{DeepSlots, MaskedSide, AtAnHeir};
 ghost use Rattle.jn_sem_rows.specs.Views.{Dispatch, FieldViews, NewObjects, NextViews};
 
 /// Two families of one class: related classes and counterparts, a field that is one slot in both views, and one that only the
@@ -40,4 +41,19 @@ pub fn new_objects()
 /// What is read from a field whose type hangs on `this` is seen in the family of the view at which it is read.
 pub fn next_views()
     ensures { NextViews }
+{}
+
+/// A field has two slots by those of another field alone.
+pub fn deep_slots()
+    ensures { DeepSlots }
+{}
+
+/// A mask on the side that is shared refutes a constraint that holds without it.
+pub fn masked_side()
+    ensures { MaskedSide }
+{}
+
+/// A constraint of a header at its class, and at an heir with sharing and without.
+pub fn at_an_heir()
+    ensures { AtAnHeir }
 {}
