@@ -1,0 +1,4 @@
+pub mod OneMain
+pub mod OneVerdict
+pub mod MainRows
+pub mod OtherRows
