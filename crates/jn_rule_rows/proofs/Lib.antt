@@ -2,3 +2,4 @@ pub mod OneMain
 pub mod OneVerdict
 pub mod MainRows
 pub mod OtherRows
+pub mod NameRows

@@ -45,7 +45,7 @@ use Rattle.jn_rule_rows.specs.Rows.{column, named, number, truth, call_this, sho
 use Rattle.jn_rule_rows.proofs.OneMain.{method_at}
 use Rattle.jn_rule_rows.proofs.OneVerdict.{the_body, the_header, its_decls, its_body, passes, refuses}
 
-stmt_open : (s : Stmt) → in_stmt s ≡ stmt_step (map-Stmt _ _ in_stmt (out-Stmt s))
+pub stmt_open : (s : Stmt) → in_stmt s ≡ stmt_step (map-Stmt _ _ in_stmt (out-Stmt s))
 stmt_open s = fold_out-Stmt InStmt stmt_step s
 
 none_twice : (ss : List Stmt) → in_block (map in_stmt ss) [] ≡ [] → duplicates (main_with ss) ≡ []
@@ -59,7 +59,7 @@ inside ss = body_in (the_body ss) the_header
 abbrev start : List Stmt → Before
 start ss = at_start (the_body ss) the_header
 
-by_form : (p : Program) {A : Type 0} (x y : Plan A) (o : Result A Refusal) → x ≡ y → Gives p y o → Gives p x o
+pub by_form : (p : Program) {A : Type 0} (x y : Plan A) (o : Result A Refusal) → x ≡ y → Gives p y o → Gives p x o
 by_form p {A = A} x y o e g = subst (λ (z : Plan A). Gives p z o) (sym e) g
 
 -- ---- in a body
@@ -68,19 +68,19 @@ module _ (ss : List Stmt) where
   abbrev p : Program
   p = main_with ss
 
-  abbrev b : In
+  abbrev pub b : In
   b = inside ss
 
-  abbrev y : Before
+  abbrev pub y : Before
   y = start ss
 
-  abbrev h : Here
+  abbrev pub h : Here
   h = here b y
 
   abbrev Has : Expr → Result Typed Refusal → Type 0
   Has e o = Gives p (expr_types h e y.scope) o
 
-  abbrev Does : Stmt → Result Before Refusal → Type 0
+  abbrev pub Does : Stmt → Result Before Refusal → Type 0
   Does s o = Gives p (stmt_types b s y) o
 
   number_has : (z k : ℕ) → Has (number z k) (Ok (plain ty.Int y.scope))
@@ -127,14 +127,14 @@ module _ (ss : List Stmt) where
 -- ---- the rows
 
 -- the first statement is refused
-refused_first : (s : Stmt) (ss : List Stmt) (r : Refusal) → in_block (map in_stmt (s ∷ ss)) [] ≡ [] → Does (s ∷ ss) s (Err r) → Refuses s ss r
+pub refused_first : (s : Stmt) (ss : List Stmt) (r : Refusal) → in_block (map in_stmt (s ∷ ss)) [] ≡ [] → Does (s ∷ ss) s (Err r) → Refuses s ss r
 refused_first s ss r e g =
     refuses (s ∷ ss) (none_twice (s ∷ ss) e) r (then_refuses (main_with (s ∷ ss)) (stmt_types (inside (s ∷ ss)) s (start (s ∷ ss))) _ r g)
 
 not_below : {p : Program} {s : Scope} → Below p s ty.Bool ty.Int → ⊥
 not_below b = elim b [ ]
 
-abbrev alone : Stmt → List Stmt
+abbrev pub alone : Stmt → List Stmt
 alone s = s ∷ []
 
 print_unknown : Refuses (stmt.Print (expr (column 34) (node.Var x)) (column 28)) [] (shows rule.E06 34 x)

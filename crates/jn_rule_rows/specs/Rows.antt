@@ -6,6 +6,7 @@ use Rattle.jn_base.specs.declared.tree.Place.{Place}
 use Rattle.jn_base.specs.declared.tree.Head.TheVariants as head
 use Rattle.jn_base.specs.declared.tree.Ref.TheVariants as ref
 use Rattle.jn_base.specs.declared.tree.Term.{Term}
+use Rattle.jn_base.specs.declared.tree.TypeTerm.{TypeTerm}
 use Rattle.jn_base.specs.declared.tree.TypeTerm.TheVariants as type
 use Rattle.jn_base.specs.declared.tree.Constraint.{Constraint}
 use Rattle.jn_base.specs.declared.tree.Level.TheVariants as level
@@ -92,6 +93,16 @@ pub record MainRows : Type 0 where
   pub no_member : Refuses (stmt.Do (call_this f [] 28 33)) [] (shows rule.E16 33 f)
   -- this.main(1);
   pub arity : Refuses (stmt.Do (call_this main (number 1 38 ∷ []) 28 33)) [] (shows rule.E17 33 main)
+
+-- `Main\f`, with the term at a column and the mask five further on
+abbrev pub masked_main : ℕ → ℕ → TypeTerm
+masked_main k j = type.Class (record { head = head.Plain; exact = []; names = Main ∷ []; at = column k } ∷ []) (named f j ∷ [])
+
+pub record NameRows : Type 0 where
+  -- int x = 1; int x = 2;
+  pub twice : Refuses (stmt.Local false type.Int (named x 32) (number 1 36)) (stmt.Local false type.Int (named x 43) (number 2 47) ∷ []) (shows rule.E05 43 x)
+  -- Main\f x = null;
+  pub mask : Refuses (stmt.Local false (masked_main 28 33) (named x 35) (expr (column 39) node.Null)) [] (shows rule.E27 33 f)
 
 -- ---- the class table
 

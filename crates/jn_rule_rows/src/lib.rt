@@ -1,11 +1,16 @@
 //! Worked rows of the rules of refusal: small programs with their verdicts, and single forms with what is refused of them.
 #![tactic(auto)]
 
-ghost use Rattle.jn_rule_rows.specs.Rows.{FormsRefused, MainRows, MemberRows, TableRows, TypesRefused};
+ghost use Rattle.jn_rule_rows.specs.Rows.{FormsRefused, MainRows, MemberRows, NameRows, TableRows, TypesRefused};
 
 /// Programs of one class with one method: two that are accepted, and one for each of E06, E16, E17, E18 and E24.
 pub fn main_rows()
     ensures { MainRows }
+{}
+
+/// A local that stands twice, which is E05, and a mask that is no field, which is E27.
+pub fn name_rows()
+    ensures { NameRows }
 {}
 
 /// What is refused of a class table: E06, E07, E08, and E26 of the empty file.
