@@ -12,7 +12,9 @@ use Rattle.jn_base.specs.declared.tree.Constraint.{Constraint}
 use Rattle.jn_base.specs.declared.tree.Level.TheVariants as level
 use Rattle.jn_base.specs.declared.tree.Op.TheVariants as op
 use Rattle.jn_base.specs.declared.tree.Expr.{Expr}
+use Rattle.jn_base.specs.declared.tree.Link.{Link}
 use Rattle.jn_base.specs.declared.tree.Node.TheVariants as node
+use Rattle.jn_base.specs.declared.tree.Method.{Method}
 use Rattle.jn_base.specs.declared.tree.Stmt.{Stmt}
 use Rattle.jn_base.specs.declared.tree.Stmt.TheVariants as stmt
 use Rattle.jn_base.specs.declared.tree.Program.{Program}
@@ -66,29 +68,45 @@ call_this m es k j = expr (column k) (node.Post (expr (column k) node.This) (suf
 abbrev pub shows : Rule → ℕ → Name → Refusal
 shows rule k m = record { rule = rule; at = column k; class = Some (shown (Main ∷ [])); member = Some m; limit = None }
 
+-- statements that several rows have
+abbrev pub print : Expr → Stmt
+print e = stmt.Print e (column 28)
+
+abbrev pub sum_of : Expr → Link → Expr
+sum_of e l = expr (column 34) (node.Chain level.Sum e (l ∷ []))
+
+abbrev pub test_of : Expr → Link → Expr
+test_of e l = expr (column 34) (node.Chain level.Equal e (l ∷ []))
+
+abbrev pub int_x : (fixed : Bool) (column : ℕ) → Expr → Stmt
+int_x fixed k e = stmt.Local fixed type.Int (named x k) e
+
 abbrev pub Refuses : Stmt → List Stmt → Refusal → Type 0
 Refuses s ss r = TreeRefuses (main_with (s ∷ ss)) r
 
 pub record MainRows : Type 0 where
   -- an empty body is accepted, and so is `print(1);`
   pub empty : TreePasses (main_with [])
-  pub prints : TreePasses (main_with (stmt.Print (number 1 34) (column 28) ∷ []))
+  pub prints : TreePasses (main_with (print (number 1 34) ∷ []))
   -- print(x);
-  pub unknown : Refuses (stmt.Print (expr (column 34) (node.Var x)) (column 28)) [] (shows rule.E06 34 x)
+  pub unknown : Refuses (print (expr (column 34) (node.Var x))) [] (shows rule.E06 34 x)
   -- int x = true;
-  pub mismatch : Refuses (stmt.Local false type.Int (named x 32) (truth true 36)) [] (shows rule.E18 36 main)
+  pub mismatch : Refuses (int_x false 32 (truth true 36)) [] (shows rule.E18 36 main)
   -- final int x = 1; x = 2;
-  pub assigned : Refuses (stmt.Local true type.Int (named x 38) (number 1 42)) (stmt.Assign (named x 45) (number 2 49) ∷ []) (shows rule.E24 45 x)
+  pub assigned : Refuses (int_x true 38 (number 1 42)) (stmt.Assign (named x 45) (number 2 49) ∷ [])
+      (shows rule.E24 45 x)
   -- return 1;
   pub returns : Refuses (stmt.Return (Some (number 1 35)) (column 28)) [] (shows rule.E18 28 main)
   -- while (1) { }
   pub condition : Refuses (stmt.While (number 1 35) [] (column 28)) [] (shows rule.E18 35 main)
   -- print(null);
-  pub printed : Refuses (stmt.Print (expr (column 34) node.Null) (column 28)) [] (shows rule.E18 34 main)
+  pub printed : Refuses (print (expr (column 34) node.Null)) [] (shows rule.E18 34 main)
   -- print(1 + true);
-  pub operand : Refuses (stmt.Print (expr (column 34) (node.Chain level.Sum (number 1 34) (link op.Add (column 36) (truth true 38) ∷ []))) (column 28)) [] (shows rule.E18 38 main)
+  pub operand : Refuses (print (sum_of (number 1 34) (link op.Add (column 36) (truth true 38)))) []
+      (shows rule.E18 38 main)
   -- print(1 == true);
-  pub equal : Refuses (stmt.Print (expr (column 34) (node.Chain level.Equal (number 1 34) (link op.Eq (column 36) (truth true 39) ∷ []))) (column 28)) [] (shows rule.E18 36 main)
+  pub equal : Refuses (print (test_of (number 1 34) (link op.Eq (column 36) (truth true 39)))) []
+      (shows rule.E18 36 main)
   -- this.f();
   pub no_member : Refuses (stmt.Do (call_this f [] 28 33)) [] (shows rule.E16 33 f)
   -- this.main(1);
@@ -96,13 +114,15 @@ pub record MainRows : Type 0 where
 
 -- `Main\f`, with the term at a column and the mask five further on
 abbrev pub masked_main : ℕ → ℕ → TypeTerm
-masked_main k j = type.Class (record { head = head.Plain; exact = []; names = Main ∷ []; at = column k } ∷ []) (named f j ∷ [])
+masked_main k j =
+    type.Class (record { head = head.Plain; exact = []; names = Main ∷ []; at = column k } ∷ []) (named f j ∷ [])
 
 pub record NameRows : Type 0 where
   -- int x = 1; int x = 2;
-  pub twice : Refuses (stmt.Local false type.Int (named x 32) (number 1 36)) (stmt.Local false type.Int (named x 43) (number 2 47) ∷ []) (shows rule.E05 43 x)
+  pub twice : Refuses (int_x false 32 (number 1 36)) (int_x false 43 (number 2 47) ∷ []) (shows rule.E05 43 x)
   -- Main\f x = null;
-  pub mask : Refuses (stmt.Local false (masked_main 28 33) (named x 35) (expr (column 39) node.Null)) [] (shows rule.E27 33 f)
+  pub mask :
+      Refuses (stmt.Local false (masked_main 28 33) (named x 35) (expr (column 39) node.Null)) [] (shows rule.E27 33 f)
 
 -- ---- the class table
 
@@ -144,7 +164,8 @@ with_p_q s = record { vars = vars.list; scope = s; next = 3 }
 -- `T x = null;` for a term T, with what is refused of it
 abbrev pub TypeRefused : Scope → Term → Rule → Type 0
 TypeRefused s t r =
-    Gives families (stmt_types in_show (stmt.Local false (type.Class (t ∷ []) []) (word x) (expr (line 1) node.Null)) (with_p_q s))
+    Gives families
+    (stmt_types in_show (stmt.Local false (type.Class (t ∷ []) []) (word x) (expr (line 1) node.Null)) (with_p_q s))
     (Err (record { rule = r; at = t.at; class = Some (shown (Add ∷ shower ∷ [])); member = Some show; limit = None }))
 
 pub record TypeRows (s : Scope) : Type 0 where
@@ -157,27 +178,35 @@ pub record TypeRows (s : Scope) : Type 0 where
 
 -- ---- forms, in any program
 
--- int m() { }
+-- int m() { .. }
+abbrev pub int_method : Name → List Stmt → Method
+int_method m ss = record { result = Some type.Int; name = word m; params = []; sharing = []; body = ss }
+
 abbrev pub without_return : Path → Name → List Stmt → Body
-without_return Q m ss = record { class = Q; method = record { result = Some type.Int; name = word m; params = []; sharing = []; body = ss } }
+without_return Q m ss =
+    record { class = Q; method = int_method m ss }
 
 pub record FormRows (p : Program) : Type 0 where
   -- a method with a result whose body is empty, or a loop that returns
   pub empty_body : (Q : Path) (m : Name)
-      → Gives p (body_types (without_return Q m [])) (Err (record { rule = rule.E23; at = line 1; class = Some (shown Q); member = Some m; limit = None }))
+      → Gives p (body_types (without_return Q m [])) (Err (of_member rule.E23 Q (line 1) m))
   -- a read of a masked field, and a call on a receiver with a mask
   pub masked : (g : Named) (t : Typed) (c : FoundField) → Masked (mask_names p) (masks_of t.ty) g.name
       → Gives p (field_gives g t c) (Err (of_class rule.E19 (first_bound t) g g.name))
-  pub masked_call : (t : Typed) (m : Named) (g : Name) (go : Plan Typed) → Gives p (unmasked t m go (Some g)) (Err (of_class rule.E19 (first_bound t) m g))
+  pub masked_call : (t : Typed) (m : Named) (g : Name) (go : Plan Typed)
+      → Gives p (unmasked t m go (Some g)) (Err (of_class rule.E19 (first_bound t) m g))
   -- a view whose target hangs on a path, in a method without constraints
-  pub no_grant : (h : Here) (at : Place) (u : Target) (t : Typed) (q k : ℕ) → h.method.sharing ≡ [] → is_null_type t.ty ≡ false
+  pub no_grant : (h : Here) (at : Place) (u : Target) (t : Typed) (q k : ℕ) → h.method.sharing ≡ []
+      → is_null_type t.ty ≡ false
       → u.atom.anchor ≡ Up q k → Gives p (viewed h at u t) (Err (no_view at))
   -- a `super` call of a body with a constraint, from a method without one
-  pub no_pledge : (h : Here) (b : Body) (m : Named) (s : Scope) (c : Constraint) (cs : List Constraint) (k : Pledge) (go : Plan Typed)
+  pub no_pledge : (h : Here) (b : Body) (m : Named) (s : Scope) (c : Constraint) (cs : List Constraint) (k : Pledge)
+      (go : Plan Typed)
       → h.method.sharing ≡ [] → ConstraintGives p (header_site b.class b.method.name.name) c (Ok k)
       → Gives p (constraints_granted h b m s (c ∷ cs) go) (Err (of_name rule.E25 h m.at m.name))
   -- a listed name that is a top-level name and no family that may stand there
-  pub no_family : (n : Listed) → InUniverse p (n.name.name ∷ []) → Lacks p n → Gives p (listed_asked n) (Err (not_family n))
+  pub no_family : (n : Listed) → InUniverse p (n.name.name ∷ []) → Lacks p n
+      → Gives p (listed_asked n) (Err (not_family n))
 
 abbrev pub TypesRefused : Type 0
 TypesRefused = (s : Scope) → TypeRows s
