@@ -17,7 +17,8 @@ QuestionsHaveReplies = (p : Program) (q : Query) → Surely ((a : Reply q) × Me
 
 -- And it has one at most, where no name stands twice and the class table passes.
 abbrev pub QuestionsHaveOneReply : Type 0
-QuestionsHaveOneReply = (p : Program) → DeclarationsPass p → IsNamed p → (q : Query) (a b : Reply q) → Means p q a → Means p q b → a ≡ b
+QuestionsHaveOneReply =
+    (p : Program) → DeclarationsPass p → IsNamed p → (q : Query) (a b : Reply q) → Means p q a → Means p q b → a ≡ b
 
 -- So a plan surely gives an answer or a refusal,
 abbrev pub PlansGive : Type 0 → Type 0
@@ -44,8 +45,8 @@ HeadersHaveOneVerdict = (p : Program) → duplicates p ≡ [] → IsNamed p → 
 abbrev pub TreesHaveOneVerdict : Type 0
 TreesHaveOneVerdict = (p : Program) → IsNamed p → OneVerdict (TreeVerdict p)
 
--- What is asked of a source's text: it is refused in one way at most, it is the text of one program at most, and surely one of
--- these is so.
+-- What is asked of a source's text: it is refused in one way at most, it is the text of one program at most, and
+-- surely one of these is so.
 pub record OneText (bytes : List ℕ) : Type 0 where
   pub refusal : (r s : Refusal) → IsTextRefused bytes r → IsTextRefused bytes s → r ≡ s
   pub program : (p q : Program) → IsTextOf p bytes → IsTextOf q bytes → p ≡ q

@@ -49,8 +49,8 @@ pub record Here : Type 0 where
 abbrev pub site_here : Here → Site
 site_here h = record { class = h.class; method = h.method.name.name; vars = h.vars }
 
--- What an expression has: its type; its path, where it is a path expression or a `new`; and the scope with the fresh paths.
--- The present masks of a path are those of its type in the scope.
+-- What an expression has: its type; its path, where it is a path expression or a `new`; and the scope with the fresh
+-- paths. The present masks of a path are those of its type in the scope.
 pub record Typed : Type 0 where
   pub ty : Ty
   pub path : Option ℕ
@@ -63,7 +63,8 @@ plain t s = record { ty = t; path = None; scope = s }
 
 -- the declaring path and the method
 abbrev pub in_method : Rule → Here → Place → Refusal
-in_method rule h at = record { rule = rule; at = at; class = Some (shown h.class); member = Some h.method.name.name; limit = None }
+in_method rule h at =
+    record { rule = rule; at = at; class = Some (shown h.class); member = Some h.method.name.name; limit = None }
 
 abbrev pub mismatch : Here → Place → Refusal
 mismatch h at = in_method rule.E18 h at
@@ -178,7 +179,8 @@ var_gives h at x s (Some v) = note (VarMark v.path) (gives (var_typed v s))
 
 -- ---- operators
 
--- what an operator asks of each operand (else E18 at the operand), of both (else E18 at the operator), and what it gives
+-- what an operator asks of each operand (else E18 at the operand), of both (else E18 at the operator), and what it
+-- gives
 abbrev pub takes : Op → Ty → Bool
 takes op.And t = is_bool t
 takes op.Or t = is_bool t
@@ -203,8 +205,8 @@ operator_type op.Div = ty.Int
 operator_type op.Rem = ty.Int
 operator_type o = ty.Bool
 
--- The operators of a chain, one after the other, each with the value so far on its left. Each operand gives its own refusals
--- and then its E18 before the next one is looked at; `at` is the place of the first operand.
+-- The operators of a chain, one after the other, each with the value so far on its left. Each operand gives its own
+-- refusals and then its E18 before the next one is looked at; `at` is the place of the first operand.
 abbrev pub links_typed : Here → Place → Typed → List (Link × Typing) → Plan Typed
 links_typed h at x [] = done x
 links_typed h at x (l ∷ ls) =
@@ -239,12 +241,13 @@ put_in s from to t = subst_type s (swapped from to) t
 abbrev pub type_passed : Ty → Ty → Ty
 type_passed t want = cond (is_null_type t) want t
 
--- Each argument in turn: its own refusals, then E18 if it is not below the parameter's type. It is passed as its path, or as a
--- fresh one. `from` are `this` and all parameters, `to` the paths that are known.
+-- Each argument in turn: its own refusals, then E18 if it is not below the parameter's type. It is passed as its path,
+-- or as a fresh one. `from` are `this` and all parameters, `to` the paths that are known.
 abbrev pub arg_passed : List ℕ → List ℕ → Var → Typed → Passing
 arg_passed from to x t = path_of (type_passed t.ty (put_in t.scope from to x.ty)) t
 
-abbrev pub args_typed : Here → (from : List ℕ) → (params : List Var) → List (Expr × Typing) → (to : List ℕ) → Scope → Plan Passed
+abbrev pub args_typed : Here → (from : List ℕ) → (params : List Var) → List (Expr × Typing) → (to : List ℕ)
+    → Scope → Plan Passed
 args_typed h from (x ∷ xs) (a ∷ es) to s =
     then_do (a.1 s) (λ t. ask (IsBelow t.scope t.ty (put_in t.scope from to x.ty)) (λ ok. wants ok (mismatch h a.0.at)
     (args_typed h from xs es (to ++ (arg_passed from to x t).path ∷ []) (arg_passed from to x t).scope)))
@@ -296,7 +299,8 @@ suffix_typed h f None at x =
     (ask (OfField x.scope x.ty f.name) (found_or (of_class rule.E16 (first_bound x) f f.name) (field_gives f x)))
 suffix_typed h m (Some es) at x =
     wants (is_class x.ty) (mismatch h at)
-    (ask (OfMethod x.scope x.ty m.name) (found_or (of_class rule.E16 (first_bound x) m m.name) (method_gives h m es x)))
+    (ask (OfMethod x.scope x.ty m.name)
+    (found_or (of_class rule.E16 (first_bound x) m m.name) (method_gives h m es x)))
 
 -- the first receiver stands at a place of its own, each later one where the whole does
 abbrev pub suffixes_typed : Place → Place → List (Suffix × SuffixTyping) → Typed → Plan Typed
@@ -324,7 +328,8 @@ made_without h at es s t =
 abbrev pub made_by : Here → Place → List (Expr × Typing) → Scope → Ty → Body → Header → Plan Typed
 made_by h at es s t b c =
     wants (as_many c es) (in_method rule.E17 h at)
-    (note (MemberMark b.class) (then_do (call_typed h c es (fresh_with t s)) (λ x. gives (of_new t (fresh_with t s) x.scope))))
+    (note (MemberMark b.class)
+    (then_do (call_typed h c es (fresh_with t s)) (λ x. gives (of_new t (fresh_with t s) x.scope))))
 
 abbrev pub made_with : Here → Place → List (Expr × Typing) → Scope → Ty → Option Body → Plan Typed
 made_with h at es s t None = made_without h at es s t
@@ -332,7 +337,8 @@ made_with h at es s t (Some b) = then_do (header_typed b) (made_by h at es s t b
 
 abbrev pub new_typed : Here → Place → List (Expr × Typing) → Scope → ShownAtom → Plan Typed
 new_typed h at es s a =
-    note (AtomMark a) (ask (OfConstructor (bound s (atom_of a))) (made_with h at es s (normal_type s (made_exact (atom_of a)))))
+    note (AtomMark a)
+    (ask (OfConstructor (bound s (atom_of a))) (made_with h at es s (normal_type s (made_exact (atom_of a)))))
 
 -- ---- what a header grants
 
@@ -351,13 +357,14 @@ header_grants h s t u = one_grants h h.method.sharing s t u
 abbrev pub of_atom : ShownAtom → Ty
 of_atom a = ty.Class (a ∷ []) no_masks
 
--- E25 at the first constraint of the called body that the caller's header doesn't grant, with its left side for the type and
--- its right side for the target
+-- E25 at the first constraint of the called body that the caller's header doesn't grant, with its left side for the
+-- type and its right side for the target
 abbrev pub constraints_granted : Here → Body → Named → Scope → List Constraint → Plan Typed → Plan Typed
 constraints_granted h b m s [] go = go
 constraints_granted h b m s (k ∷ ks) go =
     ask (OfConstraint b.class b.method.name.name k) (taken (λ x.
-    then_do (header_grants h s (normal_type s (target_type x.from)) x.to) (λ ok. wants ok (of_name rule.E25 h m.at m.name)
+    then_do (header_grants h s (normal_type s (target_type x.from)) x.to) (λ ok.
+    wants ok (of_name rule.E25 h m.at m.name)
     (constraints_granted h b m s ks go))))
 
 -- the receiver's path is `this`
@@ -376,7 +383,8 @@ abbrev pub super_typed : Here → Term → Named → List (Expr × Typing) → S
 super_typed h t m es s a =
     note (AtomMark a)
     (ask (IsBelow s (path_type s 0) (normal_type s (of_atom a))) (λ ok. wants ok (mismatch h t.at)
-    (ask (OfBody (bound s (atom_of a)) m.name) (found_or (of_class rule.E16 (bound s (atom_of a)) m m.name) (super_gives h m es s)))))
+    (ask (OfBody (bound s (atom_of a)) m.name)
+    (found_or (of_class rule.E16 (bound s (atom_of a)) m m.name) (super_gives h m es s)))))
 
 -- ---- view
 
@@ -415,7 +423,8 @@ view_typed h at e s u =
 abbrev pub NodeTyping : Type 0
 NodeTyping = Place → Typing
 
-abbrev pub node_step : Here → Node-F (Node × NodeTyping) (Expr × Typing) (Link × Typing) (Suffix × SuffixTyping) → NodeTyping
+abbrev pub node_step : Here → Node-F (Node × NodeTyping) (Expr × Typing) (Link × Typing) (Suffix × SuffixTyping)
+    → NodeTyping
 node_step h (Node-F.Int z) at s = gives (plain ty.Int s)
 node_step h (Node-F.Bool b) at s = gives (plain ty.Bool s)
 node_step h Node-F.Null at s = gives (plain ty.Null s)
@@ -424,8 +433,10 @@ node_step h (Node-F.Var x) at s = var_gives h at x s (var_named (record { list =
 node_step h (Node-F.New t es) at s = ask (OfTerm role.New (site_here h) t) (taken (new_typed h at es s))
 node_step h (Node-F.Super t m es) at s = ask (OfTerm role.Super (site_here h) t) (taken (super_typed h t m es s))
 node_step h (Node-F.Post e ss) at s = then_do (e.1 s) (suffixes_typed at e.0.at ss)
-node_step h (Node-F.Not e) at s = then_do (e.1 s) (λ x. wants (is_bool x.ty) (mismatch h e.0.at) (gives (plain ty.Bool x.scope)))
-node_step h (Node-F.Neg e) at s = then_do (e.1 s) (λ x. wants (is_int x.ty) (mismatch h e.0.at) (gives (plain ty.Int x.scope)))
+node_step h (Node-F.Not e) at s =
+    then_do (e.1 s) (λ x. wants (is_bool x.ty) (mismatch h e.0.at) (gives (plain ty.Bool x.scope)))
+node_step h (Node-F.Neg e) at s =
+    then_do (e.1 s) (λ x. wants (is_int x.ty) (mismatch h e.0.at) (gives (plain ty.Int x.scope)))
 node_step h (Node-F.View v e) at s = ask (OfView (site_here h) v) (taken (view_typed h at e s))
 node_step h (Node-F.Chain level e ls) at s = then_do (e.1 s) (λ x. links_typed h e.0.at x ls)
 
@@ -435,7 +446,8 @@ expr_step e = e.node.1 e.at
 abbrev pub link_step : Link-F (Node × NodeTyping) (Expr × Typing) (Link × Typing) (Suffix × SuffixTyping) → Typing
 link_step l = l.right.1
 
-abbrev pub suffix_step : Here → Suffix-F (Node × NodeTyping) (Expr × Typing) (Link × Typing) (Suffix × SuffixTyping) → SuffixTyping
+abbrev pub suffix_step : Here
+    → Suffix-F (Node × NodeTyping) (Expr × Typing) (Link × Typing) (Suffix × SuffixTyping) → SuffixTyping
 suffix_step h s = suffix_typed h s.name s.args
 
 abbrev pub node_types : Here → Node → NodeTyping

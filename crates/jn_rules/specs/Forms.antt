@@ -64,13 +64,17 @@ pub record ExprForms (h : Here) (at : Place) (s : Scope) : Type 0 where
   pub truth : (b : Bool) → expr_types h (expr at (node.Bool b)) s ≡ gives (plain ty.Bool s)
   pub null : expr_types h (expr at node.Null) s ≡ gives (plain ty.Null s)
   pub this : expr_types h (expr at node.This) s ≡ gives (of_path 0 s)
-  pub var : (x : Name) → expr_types h (expr at (node.Var x)) s ≡ var_gives h at x s (var_named (record { list = h.vars }) x)
+  pub var : (x : Name)
+      → expr_types h (expr at (node.Var x)) s ≡ var_gives h at x s (var_named (record { list = h.vars }) x)
   pub new : (t : Term) (es : List Expr)
-      → expr_types h (expr at (node.New t es)) s ≡ ask (OfTerm role.New (site_here h) t) (taken (new_typed h at (typed_args h es) s))
+      → expr_types h (expr at (node.New t es)) s
+      ≡ ask (OfTerm role.New (site_here h) t) (taken (new_typed h at (typed_args h es) s))
   pub super : (t : Term) (m : Named) (es : List Expr)
-      → expr_types h (expr at (node.Super t m es)) s ≡ ask (OfTerm role.Super (site_here h) t) (taken (super_typed h t m (typed_args h es) s))
+      → expr_types h (expr at (node.Super t m es)) s
+      ≡ ask (OfTerm role.Super (site_here h) t) (taken (super_typed h t m (typed_args h es) s))
   pub post : (e : Expr) (xs : List Suffix)
-      → expr_types h (expr at (node.Post e xs)) s ≡ then_do (expr_types h e s) (suffixes_typed at e.at (typed_parts h xs))
+      → expr_types h (expr at (node.Post e xs)) s
+      ≡ then_do (expr_types h e s) (suffixes_typed at e.at (typed_parts h xs))
   pub invert : (e : Expr)
       → expr_types h (expr at (node.Not e)) s
       ≡ then_do (expr_types h e s) (λ x. wants (is_bool x.ty) (mismatch h e.at) (gives (plain ty.Bool x.scope)))
@@ -78,9 +82,11 @@ pub record ExprForms (h : Here) (at : Place) (s : Scope) : Type 0 where
       → expr_types h (expr at (node.Neg e)) s
       ≡ then_do (expr_types h e s) (λ x. wants (is_int x.ty) (mismatch h e.at) (gives (plain ty.Int x.scope)))
   pub view : (v : ViewTerm) (e : Expr)
-      → expr_types h (expr at (node.View v e)) s ≡ ask (OfView (site_here h) v) (taken (view_typed h at (typed_expr h e) s))
+      → expr_types h (expr at (node.View v e)) s
+      ≡ ask (OfView (site_here h) v) (taken (view_typed h at (typed_expr h e) s))
   pub chain : (level : Level) (e : Expr) (ls : List Link)
-      → expr_types h (expr at (node.Chain level e ls)) s ≡ then_do (expr_types h e s) (λ x. links_typed h e.at x (typed_links h ls))
+      → expr_types h (expr at (node.Chain level e ls)) s
+      ≡ then_do (expr_types h e s) (λ x. links_typed h e.at x (typed_links h ls))
 
 -- ---- statements
 
@@ -88,13 +94,15 @@ pub record ExprForms (h : Here) (at : Place) (s : Scope) : Type 0 where
 pub record StmtForms (b : In) (x : Before) : Type 0 where
   pub block : (ss : List Stmt) → stmt_types b (stmt.Block ss) x ≡ block_typed (map (stmt_types b) ss) x
   pub local : (fixed : Bool) (t : TypeTerm) (n : Named) (e : Expr)
-      → stmt_types b (stmt.Local fixed t n e) x ≡ ask (OfType (site_here (here b x)) t) (taken (local_typed b x fixed n e))
+      → stmt_types b (stmt.Local fixed t n e) x
+      ≡ ask (OfType (site_here (here b x)) t) (taken (local_typed b x fixed n e))
   pub assign : (n : Named) (e : Expr)
       → stmt_types b (stmt.Assign n e) x ≡ assign_typed b x n e (var_named (record { list = x.vars }) n.name)
   pub set : (r : Expr) (f : Named) (e : Expr) → stmt_types b (stmt.Set r f e) x ≡ set_typed b x r f e
   pub call : (e : Expr) → stmt_types b (stmt.Do e) x ≡ then_do (typed b x e x.scope) (λ y. done x)
   pub choice : (e : Expr) (one other : List Stmt) (at : Place)
-      → stmt_types b (stmt.If e one other at) x ≡ condition b x e (choice_typed (map (stmt_types b) one) (map (stmt_types b) other) x)
+      → stmt_types b (stmt.If e one other at) x
+      ≡ condition b x e (choice_typed (map (stmt_types b) one) (map (stmt_types b) other) x)
   pub loop : (e : Expr) (body : List Stmt) (at : Place)
       → stmt_types b (stmt.While e body at) x ≡ condition b x e (loop_typed (map (stmt_types b) body) x)
   pub returns : (e : Option Expr) (at : Place) → stmt_types b (stmt.Return e at) x ≡ return_typed b x e at
@@ -126,7 +134,8 @@ bodies_in R (m ∷ ms) = member_body R (out-Member m) ∷ bodies_in R ms
 
 pub record DeclForms (d : Decl) (P : Path) : Type 0 where
   pub headers : decl_headers d P
-      ≡ then_do (in_turn (map listed_asked (own_listed d.name.name d.shares d.adapts P))) (λ u. in_turn (headers_in (d.name.name ∷ P) d.members))
+      ≡ then_do (in_turn (map listed_asked (own_listed d.name.name d.shares d.adapts P))) (λ u.
+      in_turn (headers_in (d.name.name ∷ P) d.members))
   pub bodies : decl_bodies d P ≡ in_turn (bodies_in (d.name.name ∷ P) d.members)
 
 -- These equations say all of what has to be asked of a tree.

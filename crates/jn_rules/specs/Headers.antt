@@ -1,4 +1,5 @@
--- The types of headers: parameters, results and fields, and all that is asked of the headers of a program, in source order.
+-- The types of headers: parameters, results and fields, and all that is asked of the headers of a program, in source
+-- order.
 use Rattle.std.specs.Prelude.{suc, List, [], ◌∷◌, ◌++◌, length, map, not, Option, Some, None}
 use Rattle.jn_base.specs.declared.tree.Field.{Field}
 use Rattle.jn_base.specs.declared.tree.Param.{Param}
@@ -75,10 +76,11 @@ abbrev pub field_asked : Path → Field → Plan Nothing
 field_asked Q f = ask (OfFieldType Q f.name.name f.ty) (taken (λ t. done tt))
 
 abbrev pub unknown_listed : Listed → Refusal
-unknown_listed x = record { rule = rule.E06; at = x.name.at; class = Some (shown x.at); member = Some x.name.name; limit = None }
+unknown_listed x =
+    record { rule = rule.E06; at = x.name.at; class = Some (shown x.at); member = Some x.name.name; limit = None }
 
--- A name in a list `adapts` or `shares`: E06 where it is no top-level name; then E12 where it is no strict super of the
--- declaration's family, or, in a list `shares`, has no class to share with.
+-- A name in a list `adapts` or `shares`: E06 where it is no top-level name; then E12 where it is no strict super of
+-- the declaration's family, or, in a list `shares`, has no class to share with.
 abbrev pub listed_asked : Listed → Plan Nothing
 listed_asked x =
     ask (IsTop x.name.name) (λ top. wants top (unknown_listed x)

@@ -29,7 +29,8 @@ pub record Noted {A B : Type 0} (p : Program) (x : Plan A) (go : A → Plan B) (
 
 pub record Sequences (A B : Type 0) (p : Program) : Type 0 where
   -- forwards
-  pub gives : (x : Plan A) (go : A → Plan B) (a : A) (o : Result B Refusal) → Gives p x (Ok a) → Gives p (go a) o → Gives p (then_do x go) o
+  pub gives : (x : Plan A) (go : A → Plan B) (a : A) (o : Result B Refusal) → Gives p x (Ok a)
+      → Gives p (go a) o → Gives p (then_do x go) o
   pub refuses : (x : Plan A) (go : A → Plan B) (r : Refusal) → Gives p x (Err r) → Gives p (then_do x go) (Err r)
   pub notes : (x : Plan A) (go : A → Plan B) (ms ns : List Mark) (a : A) (b : B) → Notes p x ms a → Notes p (go a) ns b
       → Notes p (then_do x go) (ms ++ ns) b
@@ -46,19 +47,23 @@ pub data Tested {A : Type 0} (p : Program) (t : Bool) (r : Refusal) (go : Plan A
   failed : t ≡ false → o ≡ Err r → Tested p t r go o
 
 -- it was resolved, or refused
-pub data Took {A B : Type 0} (p : Program) (x : Result A Refusal) (go : A → Plan B) (o : Result B Refusal) : Type 0 where
+pub data Took {A B : Type 0} (p : Program) (x : Result A Refusal) (go : A → Plan B) (o : Result B Refusal)
+    : Type 0 where
   given : (a : A) → x ≡ Ok a → Gives p (go a) o → Took p x go o
   refused : (r : Refusal) → x ≡ Err r → o ≡ Err r → Took p x go o
 
 -- it was found, or refused
-pub data Found {A B : Type 0} (p : Program) (x : Option A) (r : Refusal) (go : A → Plan B) (o : Result B Refusal) : Type 0 where
+pub data Found {A B : Type 0} (p : Program) (x : Option A) (r : Refusal) (go : A → Plan B) (o : Result B Refusal)
+    : Type 0 where
   there : (a : A) → x ≡ Some a → Gives p (go a) o → Found p x r go o
   absent : x ≡ None → o ≡ Err r → Found p x r go o
 
 pub record Turned (A B : Type 0) (p : Program) : Type 0 where
-  pub tested : (t : Bool) (r : Refusal) (go : Plan A) (o : Result A Refusal) → Gives p (wants t r go) o → Tested p t r go o
+  pub tested : (t : Bool) (r : Refusal) (go : Plan A) (o : Result A Refusal) → Gives p (wants t r go) o
+      → Tested p t r go o
   pub took : (x : Result A Refusal) (go : A → Plan B) (o : Result B Refusal) → Gives p (taken go x) o → Took p x go o
-  pub found : (x : Option A) (r : Refusal) (go : A → Plan B) (o : Result B Refusal) → Gives p (found_or r go x) o → Found p x r go o
+  pub found : (x : Option A) (r : Refusal) (go : A → Plan B) (o : Result B Refusal)
+      → Gives p (found_or r go x) o → Found p x r go o
 
 -- ---- marks
 
@@ -85,8 +90,8 @@ RepliesAreOne p = (q : Query) (a b : Reply q) → Means p q a → Means p q b �
 abbrev pub RepliesAreThere : Program → Type 0
 RepliesAreThere p = (q : Query) → ((a : Reply q) → Means p q a → ⊥) → ⊥
 
--- A plan has one answer at most, where each question has one reply at most, and its marks are one list; and it surely has an
--- answer, where each question surely has a reply.
+-- A plan has one answer at most, where each question has one reply at most, and its marks are one list; and it surely
+-- has an answer, where each question surely has a reply.
 pub record PlanIsSure (A : Type 0) (p : Program) (x : Plan A) : Type 0 where
   pub one : RepliesAreOne p → (a b : Result A Refusal) → Gives p x a → Gives p x b → a ≡ b
   pub one_list : RepliesAreOne p → (ms ns : List Mark) (a b : A) → Notes p x ms a → Notes p x ns b → ms ≡ ns

@@ -106,7 +106,8 @@ pub record ConstructorPasses (p : Program) (C : Name) (P : Path) : Type 0 where
 pub data ConstructorRefused (p : Program) (C : Name) (P : Path) (r : Refusal) : Type 0 where
   at_body : (b : Body) → (ConstructorPasses p C P → ⊥) → IsConstructorBody p (C ∷ P) b
       → r ≡ of_member rule.E11 (C ∷ P) b.method.name.at C → ConstructorRefused p C P r
-  at_home : (at : Place) → (ConstructorPasses p C P → ⊥) → ((b : Body) → IsConstructorBody p (C ∷ P) b → ⊥) → IsHome p (C ∷ P) at
+  at_home : (at : Place) → (ConstructorPasses p C P → ⊥) → ((b : Body) → IsConstructorBody p (C ∷ P) b → ⊥)
+      → IsHome p (C ∷ P) at
       → r ≡ of_member rule.E11 (C ∷ P) at C → ConstructorRefused p C P r
 
 -- ---- a class
@@ -124,10 +125,11 @@ pub record BadClass (p : Program) (R : Path) : Type 0 where
   pub class : IsClass p R
   pub bad : HasBad p R
 
--- What is answered of it is the first of these: its method names, by bytes; its field names, by bytes, with E10 at Home; its
--- constructor.
+-- What is answered of it is the first of these: its method names, by bytes; its field names, by bytes, with E10 at
+-- Home; its constructor.
 pub data ClassRefused (p : Program) : Path → Refusal → Type 0 where
-  method : {R : Path} {r : Refusal} (m : Name) → IsFirstName p (BadMethod p R) m → MethodRefused p R m r → ClassRefused p R r
+  method : {R : Path} {r : Refusal} (m : Name) → IsFirstName p (BadMethod p R) m → MethodRefused p R m r
+      → ClassRefused p R r
   field : {R : Path} (f : Name) (at : Place) → NoName (BadMethod p R) → IsFirstName p (BadField p R) f → IsHome p R at
       → ClassRefused p R (of_member rule.E10 R at f)
   constructor : {C : Name} {P : Path} {r : Refusal} → NoName (BadMethod p (C ∷ P)) → NoName (BadField p (C ∷ P))

@@ -1,7 +1,7 @@
 -- How a verdict is said: a plan is what has to be asked, in order, and what is answered by the replies.
 --
--- A plan is made by a function, as a fold over a tree. What is asked is a relation. So the order of the rules stands in the
--- plan, and what a rule is about stands in what a question means (Questions).
+-- A plan is made by a function, as a fold over a tree. What is asked is a relation. So the order of the rules stands
+-- in the plan, and what a rule is about stands in what a question means (Questions).
 use Rattle.std.specs.Prelude.{ℕ, List, [], ◌∷◌, Bool, true, false, Option, Some, None, Result, Ok, Err}
 use Rattle.jn_base.specs.declared.tree.Name.{Name}
 use Rattle.jn_base.specs.declared.tree.Constraint.{Constraint}
@@ -49,8 +49,8 @@ pub data Sharing : Type 0 where
 -- ---- the questions
 
 pub data Query : Type 0 where
-  -- What the term of a `new` or `super` stands for; a written type; the target of a view; the type of a field, which stands
-  -- in the declaration at the path; a constraint in the header of a method there.
+  -- What the term of a `new` or `super` stands for; a written type; the target of a view; the type of a field, which
+  -- stands in the declaration at the path; a constraint in the header of a method there.
   OfTerm : Role → Site → Term → Query
   OfType : Site → TypeTerm → Query
   OfView : Site → ViewTerm → Query
@@ -99,8 +99,8 @@ Reply (LacksFamily n) = Bool
 
 -- ---- plans
 
--- What is noted on the way: the atom that a term stands for, the number of a variable, the class that declares a field or a
--- method, the kind of a value.
+-- What is noted on the way: the atom that a term stands for, the number of a variable, the class that declares a field
+-- or a method, the kind of a value.
 pub data Mark : Type 0 where
   AtomMark : ShownAtom → Mark
   VarMark : ℕ → Mark

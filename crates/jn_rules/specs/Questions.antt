@@ -61,7 +61,8 @@ header_site Q m = record { class = Q; method = m; vars = [] }
 -- the left side of a constraint, and then the right side; or the first refusal
 pub data ConstraintGives (p : Program) (at : Site) (c : Constraint) (o : Result Pledge Refusal) : Type 0 where
   left_refused : (r : Refusal) → TargetIs p role.From at c.from (Err r) → o ≡ Err r → ConstraintGives p at c o
-  right_refused : (x : Target) (r : Refusal) → TargetIs p role.From at c.from (Ok x) → TargetIs p role.To at c.to (Err r)
+  right_refused : (x : Target) (r : Refusal) → TargetIs p role.From at c.from (Ok x)
+      → TargetIs p role.To at c.to (Err r)
       → o ≡ Err r → ConstraintGives p at c o
   both : (x y : Target) → TargetIs p role.From at c.from (Ok x) → TargetIs p role.To at c.to (Ok y)
       → o ≡ Ok (record { from = x; to = y }) → ConstraintGives p at c o
@@ -71,7 +72,8 @@ pub data ConstraintGives (p : Program) (at : Site) (c : Constraint) (o : Result 
 -- B is the bound of the first atom whose bound has it
 pub data FirstWith (s : Scope) (Has : Path → Type 0) : List Atom → Path → Type 0 where
   first : {x : Atom} {xs : List Atom} {B : Path} → B ≡ bound s x → Has B → FirstWith s Has (x ∷ xs) B
-  later : {x : Atom} {xs : List Atom} {B : Path} → (Has (bound s x) → ⊥) → FirstWith s Has xs B → FirstWith s Has (x ∷ xs) B
+  later : {x : Atom} {xs : List Atom} {B : Path} → (Has (bound s x) → ⊥) → FirstWith s Has xs B
+      → FirstWith s Has (x ∷ xs) B
 
 -- some body of m is in Sup(B)
 abbrev pub HasMethod : Program → Name → Path → Type 0
@@ -123,8 +125,8 @@ masks_of ty.Void = no_masks
 
 -- ---- view changes
 
--- A constraint S0 -> T0 grants a view change from a type to T: the type is below S0, T0's atom equals T's in normal form, and
--- T0's masks are within T's.
+-- A constraint S0 -> T0 grants a view change from a type to T: the type is below S0, T0's atom equals T's in normal
+-- form, and T0's masks are within T's.
 pub record IsGrant (p : Program) (s : Scope) (c : Pledge) (from : Ty) (to : Target) : Type 0 where
   pub below : Below p s from (normal_type s (target_type c.from))
   pub atoms : atoms_in (normal_type s (target_type c.to)) ≡ atoms_in (normal_type s (target_type to))
@@ -136,7 +138,8 @@ pub record IsClosure (p : Program) (s : Scope) (t : Ty) (xs : List Atom) : Type 
 
 -- what is asked by Holds: of these atoms with the masks of the type, and of the target with its own
 abbrev pub sides : Program → List Atom → (hidden : Masks) → Target → Sides
-sides p xs hidden to = record { names = mask_names p; from = xs; from_masks = hidden; to = atom_of to.atom; to_masks = to.masks }
+sides p xs hidden to =
+    record { names = mask_names p; from = xs; from_masks = hidden; to = atom_of to.atom; to_masks = to.masks }
 
 -- Whether Holds is true of the root closure of the type and the target, with their masks; else what refutes it.
 abbrev pub HoldsOr : Program → Sides → Sharing → Type 0
@@ -154,7 +157,8 @@ abbrev pub Means : Program → (q : Query) → Reply q → Type 0
 Means p (OfTerm r at t) x = Resolve p (spot_at at r) (vars_at at) t x
 Means p (OfType at t) x = ResolveType p (mask_names p) (spot_at at role.Value) (vars_at at) t x
 Means p (OfView at v) x = TargetIs p role.View at v x
-Means p (OfFieldType Q f t) x = ResolveType p (mask_names p) (spot_at (header_site Q f) role.Field) (record { list = [] }) t x
+Means p (OfFieldType Q f t) x =
+    ResolveType p (mask_names p) (spot_at (header_site Q f) role.Field) (record { list = [] }) t x
 Means p (OfConstraint Q m c) x = ConstraintGives p (header_site Q m) c x
 Means p (IsBelow s t u) x = Answers (Below p s t u) x
 Means p (OfField s t f) x = Finds (IsFoundField p s t f) x

@@ -24,7 +24,8 @@ use Rattle.jn_rules.specs.Questions.{masks_of}
 use Rattle.jn_rules.specs.Headers.{site_in, scope_of, declared_type, Header, header_typed, Asked, asked_at}
 use Rattle.jn_rules.specs.Exprs.{Here, site_here, Typed, in_method, mismatch, of_name, of_class, first_bound, path_of, masks_at, is_int, is_bool, field_type, expr_types}
 
--- What stands before a statement: the variables in scope, the scope with their present masks, and the number of the next local.
+-- What stands before a statement: the variables in scope, the scope with their present masks, and the number of the
+-- next local.
 pub record Before : Type 0 where
   pub vars : List Var
   pub scope : Scope
@@ -76,7 +77,8 @@ local_typed b x fixed n e t =
 abbrev pub assign_typed : In → Before → Named → Expr → Option Var → Plan Before
 assign_typed b x n e None = refuse (of_name rule.E06 (here b x) n.at n.name)
 assign_typed b x n e (Some v) =
-    wants (not v.fixed) (of_name rule.E24 (here b x) n.at n.name) (note (VarMark v.path) (typed_below b x e x.scope v.ty (done x)))
+    wants (not v.fixed) (of_name rule.E24 (here b x) n.at n.name)
+    (note (VarMark v.path) (typed_below b x e x.scope v.ty (done x)))
 
 -- ---- masks
 
@@ -106,12 +108,14 @@ dropped x f (Some q) = cond (is_variable q) (without_mask x f q) (done x)
 
 -- the union of the masks of two ends, path by path
 abbrev pub joined_type : Ty → Ty → Plan Ty
-joined_type t u = cond (is_class t && is_class u) (ask (EitherMasks (masks_of t) (masks_of u)) (λ m. done (remasked m t))) (done t)
+joined_type t u =
+    cond (is_class t && is_class u) (ask (EitherMasks (masks_of t) (masks_of u)) (λ m. done (remasked m t))) (done t)
 
 abbrev pub joined : Scope → Scope → Plan Scope
 joined [] t = done []
 joined (b ∷ s) [] = done (b ∷ s)
-joined (b ∷ s) (c ∷ t) = then_do (joined_type b.ty c.ty) (λ u. then_do (joined s t) (λ v. done (record b { ty = u } ∷ v)))
+joined (b ∷ s) (c ∷ t) =
+    then_do (joined_type b.ty c.ty) (λ u. then_do (joined s t) (λ v. done (record b { ty = u } ∷ v)))
 
 -- ---- field assignments
 
@@ -171,7 +175,8 @@ return_typed b x (Some e) at =
     (ask (IsBelow y.scope y.ty b.result) (λ ok. wants ok (mismatch (here b x) e.at) (done x))))
 
 abbrev pub print_typed : In → Before → Expr → Plan Before
-print_typed b x e = then_do (typed b x e x.scope) (λ y. wants (is_int y.ty || is_bool y.ty) (mismatch (here b x) e.at) (done x))
+print_typed b x e =
+    then_do (typed b x e x.scope) (λ y. wants (is_int y.ty || is_bool y.ty) (mismatch (here b x) e.at) (done x))
 
 -- ---- all forms
 
@@ -201,7 +206,8 @@ abbrev pub some_stops : List Bool → Bool
 some_stops [] = false
 some_stops (b ∷ bs) = b || some_stops bs
 
--- `return` can't be passed, nor can a block with a statement that can't, nor an `if` with two such blocks; all else can
+-- `return` can't be passed, nor can a block with a statement that can't, nor an `if` with two such blocks; all else
+-- can
 abbrev pub stops_step : Stmt-F Bool → Bool
 stops_step (Stmt-F.Block body) = some_stops body
 stops_step (Stmt-F.Local fixed t n e) = false
@@ -232,7 +238,8 @@ at_start b x = record { vars = x.vars; scope = scope_of (site_in b x.vars); next
 abbrev pub body_with : Body → Header → Plan Nothing
 body_with b x =
     then_do (stmts_type (body_in b x) b.method.body (at_start b x)) (λ y.
-    wants (is_void x.result || all_stop b.method.body) (in_method rule.E23 (here (body_in b x) (at_start b x)) b.method.name.at) (done tt))
+    wants (is_void x.result || all_stop b.method.body)
+    (in_method rule.E23 (here (body_in b x) (at_start b x)) b.method.name.at) (done tt))
 
 abbrev pub body_types : Body → Plan Nothing
 body_types b = then_do (header_typed b) (body_with b)

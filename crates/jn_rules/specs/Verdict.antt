@@ -47,17 +47,19 @@ pub record HeadersPass (p : Program) : Type 0 where
   pub limits : LimitsPass p
   pub constraints : NoneIs (FailsAt p)
 
--- The first of these is answered: the class table; the headers in source order; the members, of the first class in class
--- order; more than 1,048,576 entries; more than 250 slots, of the first class in class order; a constraint that doesn't hold,
--- of the first class in class order and its first method by bytes.
+-- The first of these is answered: the class table; the headers in source order; the members, of the first class in
+-- class order; more than 1,048,576 entries; more than 250 slots, of the first class in class order; a constraint that
+-- doesn't hold, of the first class in class order and its first method by bytes.
 pub data HeadersRefuse (p : Program) (r : Refusal) : Type 0 where
   table : TableRefuses p r → HeadersRefuse p r
   headers : TablePasses p → Gives p (header_plan p) (Err r) → HeadersRefuse p r
   members : (R : Path) → TypesPass p → IsFirst p (BadClass p) R → ClassRefused p R r → HeadersRefuse p r
   entries : MembersPass p → TooManyEntries p → r ≡ over_limit limit.Entries start_of_file → HeadersRefuse p r
-  slots : (R : Path) (at : Place) → MembersPass p → (TooManyEntries p → ⊥) → IsFirst p (TooManySlots p) R → IsHome p R at
+  slots : (R : Path) (at : Place) → MembersPass p → (TooManyEntries p → ⊥) → IsFirst p (TooManySlots p) R
+      → IsHome p R at
       → r ≡ over_limit limit.Slots at → HeadersRefuse p r
-  constraints : (R : Path) (m : Name) (b : Body) → LimitsPass p → IsFirst p (FailsAt p) R → IsFirstName p (FailsFor p R) m
+  constraints : (R : Path) (m : Name) (b : Body) → LimitsPass p → IsFirst p (FailsAt p) R
+      → IsFirstName p (FailsFor p R) m
       → SharingFails p R m b → r ≡ of_member rule.E21 R b.method.name.at m → HeadersRefuse p r
 
 abbrev pub HeadersVerdict : Program → Result Nothing Refusal → Type 0
@@ -66,8 +68,8 @@ HeadersVerdict p (Err r) = HeadersRefuse p r
 
 -- ---- Main
 
--- There is a top-level class Main with a least `main` without parameters and with the result void, and Main's constructor has
--- no parameters.
+-- There is a top-level class Main with a least `main` without parameters and with the result void, and Main's
+-- constructor has no parameters.
 pub record HasMain (p : Program) : Type 0 where
   pub main_class : Name
   pub class_spelled : IsSpelled p (codes "Main") main_class

@@ -1,0 +1,5 @@
+pub mod OneMain
+pub mod OneVerdict
+pub mod MainRows
+pub mod OtherRows
+pub mod NameRows

@@ -1,0 +1,2 @@
+pub mod OneMain
+pub mod Rows

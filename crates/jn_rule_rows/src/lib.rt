@@ -1,0 +1,34 @@
+//! Worked rows of the rules of refusal: small programs with their verdicts, and single forms with what is refused of them.
+#![tactic(auto)]
+
+ghost use Rattle.jn_rule_rows.specs.Rows.{FormsRefused, MainRows, MemberRows, NameRows, TableRows, TypesRefused};
+
+/// Programs of one class with one method: two that are accepted, and one for each of E06, E16, E17, E18 and E24.
+pub fn main_rows()
+    ensures { MainRows }
+{}
+
+/// A local that stands twice, which is E05, and a mask that is no field, which is E27.
+pub fn name_rows()
+    ensures { NameRows }
+{}
+
+/// What is refused of a class table: E06, E07, E08, and E26 of the empty file.
+pub fn table_rows()
+    ensures { TableRows }
+{}
+
+/// What is refused of members: E09.
+pub fn member_rows()
+    ensures { MemberRows }
+{}
+
+/// What is refused of the types of locals: E14, E15, E22.
+pub fn type_rows()
+    ensures { TypesRefused }
+{}
+
+/// What is refused of forms in any program: E12, E19, E20, E23, E25.
+pub fn form_rows()
+    ensures { FormsRefused }
+{}
