@@ -1,0 +1,109 @@
+//! Counting cases, and telling those that differ.
+use crate::Case;
+use std::alloc::{AllocError, Global};
+
+/// The count of a file's cases and of those that differ, and what is to be said of these.
+#[derive(Debug, Drop)]
+pub struct Tally {
+    alloc: Global,
+    file: String,
+    name: String,
+    line: u32,
+    asked: bool,
+    differs: bool,
+    cases: u64,
+    differing: u64,
+    told: String,
+}
+
+impl Tally {
+    /// No case yet, of the file with this name.
+    pub fn new(alloc: Global, file: &str) -> Result<Tally, AllocError> {
+        Ok(Tally {
+            alloc,
+            file: String::from_str(alloc, file)?,
+            name: String::new(alloc),
+            line: 0,
+            asked: false,
+            differs: false,
+            cases: 0,
+            differing: 0,
+            told: String::new(alloc),
+        })
+    }
+
+    /// Begins a case. A key that stands not in `known` makes it one that differs.
+    pub fn begin(&mut self, case: &Case, known: &[&str]) -> Result<(), AllocError> {
+        self.name = String::from_str(self.alloc, case.name.as_str())?;
+        self.line = case.line;
+        self.asked = false;
+        self.differs = false;
+        self.cases = self.cases.saturating_add(1);
+        match case.unknown_key(known) {
+            None => Ok(()),
+            Some(key) => self.fault("a key that is not known", key),
+        }
+    }
+
+    /// Compares what was wanted under a key with what came.
+    pub fn bytes(&mut self, key: &str, wanted: &[u8], came: &[u8]) -> Result<(), AllocError> {
+        self.asked = true;
+        if wanted == came {
+            return Ok(());
+        }
+        let said = format!(in self.alloc;
+            "wanted \"{}\"\n    came   \"{}\"",
+            wanted.escape_ascii(),
+            came.escape_ascii()
+        )?;
+        self.fault(key, said.as_str())
+    }
+
+    /// Compares the number that was wanted under a key with the one that came.
+    pub fn number(&mut self, key: &str, wanted: i64, came: i64) -> Result<(), AllocError> {
+        self.asked = true;
+        if wanted == came {
+            return Ok(());
+        }
+        let said = format!(in self.alloc; "wanted {wanted}, came {came}")?;
+        self.fault(key, said.as_str())
+    }
+
+    /// Says of the case what makes it one that differs.
+    pub fn fault(&mut self, key: &str, said: &str) -> Result<(), AllocError> {
+        self.asked = true;
+        if !self.differs {
+            self.differs = true;
+            self.differing = self.differing.saturating_add(1);
+            let head = format!(in self.alloc; "{}:{}: {}\n", self.file, self.line, self.name)?;
+            self.told.push_str(head.as_str())?;
+        }
+        let text = format!(in self.alloc; "  {key}: {said}\n")?;
+        self.told.push_str(text.as_str())
+    }
+
+    /// Ends a case. One that compared nothing differs.
+    pub fn end(&mut self) -> Result<(), AllocError> {
+        if self.asked {
+            return Ok(());
+        }
+        self.fault("case", "it asks nothing")
+    }
+
+    /// Whether no case differs.
+    pub fn is_good(&self) -> bool {
+        self.differing == 0
+    }
+
+    /// What is said of the cases that differ, and the counts in the last line.
+    pub fn report(&self) -> Result<String, AllocError> {
+        let alloc = self.alloc;
+        match self.differing {
+            0 => format!(in alloc; "{}: {} cases, none differs\n", self.file, self.cases),
+            n => format!(in alloc;
+                "{}{}: {} cases, {n} differ\n",
+                self.told, self.file, self.cases
+            ),
+        }
+    }
+}
