@@ -1,4 +1,10 @@
 //! The bytes that a case gives.
+ghost use Rattle.std.specs.Prelude.{◌≡◌, ◌++◌, [], not, Some, IfOk, IfSome, OnOk, option_map, filter, pos};
+ghost use Rattle.std.specs.Char.{is_ascii_whitespace};
+ghost use Rattle.toml.specs.Data.{string, integer, array, no_items, item};
+ghost use Rattle.toml.specs.View.{view, items_view};
+ghost use Rattle.jn_cases.specs.Cases.{bytes_under, hex_bytes, copies, part_bytes, with_parts};
+
 use crate::{Case, CasesFault};
 use std::alloc::{AllocError, Global};
 use toml::Value;
@@ -6,7 +12,9 @@ use toml::Value;
 /// The bytes under a key, if the case gives any: from `KEY` a text as it stands, from `KEY_hex` hex digits with
 /// white space between them, and from `KEY_parts` and `KEY_hex_parts` a list of pairs of such a text and how often it
 /// stands there, as `[["ab", 1], ["(", 198]]`.
-pub fn bytes_of(alloc: Global, case: &Case, key: &str) -> Result<Option<Vec<u8>>, CasesFault> {
+pub fn bytes_of(alloc: Global, case: &Case, key: &str) -> Result<Option<Vec<u8>>, CasesFault>
+    ensures { IfOk result (λ o. option_map (λ v. v.items) o ≡ bytes_under case.now key.now) }
+{
     if let Some(text) = case.text(key) {
         return Ok(Some(Vec::from_slice(alloc, text.as_bytes())?));
     }
@@ -16,16 +24,18 @@ pub fn bytes_of(alloc: Global, case: &Case, key: &str) -> Result<Option<Vec<u8>>
     }
     let parts = format!(in alloc; "{key}_parts")?;
     if let Some(parts) = case.list(parts.as_str()) {
-        return Ok(Some(bytes_of_parts(alloc, case.line, parts, false)?));
+        return Ok(Some(bytes_of_parts(alloc, case.line, parts)?));
     }
     let hex_parts = format!(in alloc; "{key}_hex_parts")?;
     if let Some(parts) = case.list(hex_parts.as_str()) {
-        return Ok(Some(bytes_of_parts(alloc, case.line, parts, true)?));
+        return Ok(Some(bytes_of_hex_parts(alloc, case.line, parts)?));
     }
     Ok(None)
 }
 
-fn bytes_of_hex(alloc: Global, line: u32, text: &str) -> Result<Vec<u8>, CasesFault> {
+fn bytes_of_hex(alloc: Global, line: u32, text: &str) -> Result<Vec<u8>, CasesFault>
+    ensures { IfOk result (λ v. hex_bytes text.now ≡ Some v.items) }
+{
     let digits = without_space(alloc, text)?;
     match hex::decode(alloc, digits.as_slice()) {
         Ok(bytes) => Ok(bytes),
@@ -34,46 +44,75 @@ fn bytes_of_hex(alloc: Global, line: u32, text: &str) -> Result<Vec<u8>, CasesFa
     }
 }
 
-fn without_space(alloc: Global, text: &str) -> Result<Vec<u8>, AllocError> {
-    let mut rest = Vec::new(alloc);
-    for byte in text.bytes() {
-        if !byte.is_ascii_whitespace() {
-            rest.push(byte)?;
-        }
-    }
-    Ok(rest)
+fn without_space(alloc: Global, text: &str) -> Result<Vec<u8>, AllocError>
+    ensures { IfOk result (λ v. v.items ≡ filter (λ b. not (is_ascii_whitespace b)) text.now) }
+{
+    text.bytes()
+        .filter(|b| !b.is_ascii_whitespace())
+        .collect(alloc)
 }
 
-fn bytes_of_parts(
-    alloc: Global,
-    line: u32,
-    parts: &[Value],
-    in_hex: bool,
-) -> Result<Vec<u8>, CasesFault> {
+fn bytes_of_parts(alloc: Global, line: u32, parts: &[Value]) -> Result<Vec<u8>, CasesFault>
+    ensures { IfOk result (λ v. with_parts Some [] (items_view parts.now) ≡ Some v.items) }
+{
     let mut bytes = Vec::new(alloc);
     for part in parts {
-        let (text, count) = match pair_of(part) {
-            Some(pair) => pair,
-            None => return Err(CasesFault::NoBytes { line }),
-        };
-        let piece = match in_hex {
-            true => bytes_of_hex(alloc, line, text)?,
-            false => Vec::from_slice(alloc, text.as_bytes())?,
-        };
-        put_times(&mut bytes, piece.as_slice(), count)?;
+        put_part(&mut bytes, line, part)?;
     }
     Ok(bytes)
 }
 
+fn put_part(bytes: &mut Vec<u8>, line: u32, part: &Value) -> Result<(), CasesFault>
+    ensures { OnOk result (option_map (λ more. bytes.old.items ++ more) (part_bytes Some (view part.now)) ≡ Some bytes.new.items) }
+{
+    let (text, count) = match pair_of(part) {
+        Some(pair) => pair,
+        None => return Err(CasesFault::NoBytes { line }),
+    };
+    put_copies(bytes, text.as_bytes(), count)?;
+    Ok(())
+}
+
+fn bytes_of_hex_parts(alloc: Global, line: u32, parts: &[Value]) -> Result<Vec<u8>, CasesFault>
+    ensures { IfOk result (λ v. with_parts hex_bytes [] (items_view parts.now) ≡ Some v.items) }
+{
+    let mut bytes = Vec::new(alloc);
+    for part in parts {
+        put_hex_part(alloc, &mut bytes, line, part)?;
+    }
+    Ok(bytes)
+}
+
+fn put_hex_part(
+    alloc: Global,
+    bytes: &mut Vec<u8>,
+    line: u32,
+    part: &Value,
+) -> Result<(), CasesFault>
+    ensures { OnOk result (option_map (λ more. bytes.old.items ++ more) (part_bytes hex_bytes (view part.now)) ≡ Some bytes.new.items) }
+{
+    let (text, count) = match pair_of(part) {
+        Some(pair) => pair,
+        None => return Err(CasesFault::NoBytes { line }),
+    };
+    let piece = bytes_of_hex(alloc, line, text)?;
+    put_copies(bytes, piece.as_slice(), count)?;
+    Ok(())
+}
+
 // A text and a count that is not negative.
-fn pair_of(part: &Value) -> Option<(&str, u64)> {
+fn pair_of(part: &Value) -> Option<(&str, u64)>
+    ensures { IfSome result (λ pair. view part.now ≡ array (item (string pair.0.now) (item (integer (pos pair.1)) no_items))) }
+{
     match part.as_array()?.as_slice() {
         [text, count] => Some((text.as_str()?, u64::try_from(count.as_integer()?).ok()?)),
         _ => None,
     }
 }
 
-fn put_times(bytes: &mut Vec<u8>, piece: &[u8], count: u64) -> Result<(), AllocError> {
+fn put_copies(bytes: &mut Vec<u8>, piece: &[u8], count: u64) -> Result<(), AllocError>
+    ensures { OnOk result (bytes.new.items ≡ bytes.old.items ++ copies count piece.now) }
+{
     for _ in 0..count {
         bytes.extend_from_slice(piece)?;
     }

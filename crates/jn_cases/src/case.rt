@@ -1,8 +1,11 @@
 //! One case of a file.
-ghost use Rattle.std.specs.Prelude.{◌≡◌, option_copied, option_map, option_and_then};
-ghost use Rattle.toml.specs.Data.{as_str, as_integer, as_array, get};
-ghost use Rattle.toml.specs.View.{view, array_view};
+ghost use Rattle.std.specs.Prelude.{◌≡◌, IfOk, map, unwrap_or, string_bytes, option_copied, option_map};
+ghost use Rattle.toml.specs.Data.{string, array, no_items};
+ghost use Rattle.toml.specs.View.{view, items_view};
+ghost use Rattle.jn_cases.specs.Cases.{under, text_of, number_of, list_of, text_items};
 
+use crate::CasesFault;
+use std::alloc::Global;
 use toml::Value;
 
 /// A case: its name, the line of its head in the file, and all that stands under its keys.
@@ -16,21 +19,34 @@ pub struct Case {
 impl Case {
     /// The text under a key, if one stands there.
     pub fn text(&self, key: &str) -> Option<&str>
-        ensures { option_copied result ≡ option_and_then as_str (get key.now (view self.now.entries)) }
+        ensures { option_copied result ≡ text_of self.now key.now }
     {
         self.entries.get(key)?.as_str()
     }
 
     /// The whole number under a key, if one stands there.
     pub fn number(&self, key: &str) -> Option<i64>
-        ensures { result ≡ option_and_then as_integer (get key.now (view self.now.entries)) }
+        ensures { result ≡ number_of self.now key.now }
     {
         self.entries.get(key)?.as_integer()
     }
 
     /// The list under a key, if one stands there. `Value::as_str` and `Value::as_integer` read its items.
-    pub fn list(&self, key: &str) -> Option<&[Value]> {
+    pub fn list(&self, key: &str) -> Option<&[Value]>
+        ensures { option_map (λ values. items_view values.now) result ≡ list_of self.now key.now }
+    {
         Some(self.entries.get(key)?.as_array()?.as_slice())
+    }
+
+    /// The texts of the list under a key, none where the case has no such key.
+    pub fn texts(&self, alloc: Global, key: &str) -> Result<Vec<String>, CasesFault>
+        ensures { IfOk result (λ v. unwrap_or (under self.now key.now) (array no_items) ≡ array (text_items v.items)) }
+    {
+        match self.entries.get(key) {
+            None => Ok(Vec::new(alloc)),
+            Some(Value::Array(values)) => texts_in(alloc, self.line, values.as_slice()),
+            Some(_) => Err(CasesFault::NoTexts { line: self.line }),
+        }
     }
 
     /// A key of the case that stands neither in `known` nor is `name`.
@@ -43,6 +59,19 @@ impl Case {
         }
         None
     }
+}
+
+fn texts_in(alloc: Global, line: u32, values: &[Value]) -> Result<Vec<String>, CasesFault>
+    ensures { IfOk result (λ v. map view values.now ≡ map (λ text. string (string_bytes text)) v.items) }
+{
+    let mut texts = Vec::new(alloc);
+    for value in values {
+        match value.as_str() {
+            None => return Err(CasesFault::NoTexts { line }),
+            Some(text) => texts.push(String::from_str(alloc, text)?)?,
+        }
+    }
+    Ok(texts)
 }
 
 fn is_among(known: &[&str], key: &str) -> bool {

@@ -20,6 +20,9 @@ pub enum CasesFault {
     /// What stands under a key of bytes gives none.
     #[error("line {line}: this case has a key whose bytes can't be read")]
     NoBytes { line: u32 },
+    /// What stands under a key of texts is no list of texts.
+    #[error("line {line}: this case has a key that has no list of texts")]
+    NoTexts { line: u32 },
     /// There is no memory.
     #[error("there is no memory")]
     Memory,

@@ -9,10 +9,12 @@ mod bytes;
 mod case;
 mod fault;
 mod read;
+mod run;
 mod tally;
 
 pub use bytes::bytes_of;
 pub use case::Case;
 pub use fault::CasesFault;
 pub use read::read_cases;
+pub use run::{Rows, run_cases, run_files};
 pub use tally::Tally;

@@ -1,10 +1,18 @@
 //! Reading a file of cases.
+ghost use Rattle.std.specs.Prelude.{◌≡◌, Some, IfOk, All, map, option_and_then};
+ghost use Rattle.toml.specs.Parse.{parse_document};
+ghost use Rattle.toml.specs.View.{view};
+ghost use Rattle.jn_cases.specs.Cases.{IsNamed, listed_cases, tables_of};
+
 use crate::{Case, CasesFault};
 use std::alloc::{AllocError, Global};
 use toml::Value;
 
 /// The cases of a file, in its order.
-pub fn read_cases(alloc: Global, text: &str) -> Result<Vec<Case>, CasesFault> {
+pub fn read_cases(alloc: Global, text: &str) -> Result<Vec<Case>, CasesFault>
+    ensures cases { IfOk result (λ v. option_and_then listed_cases (parse_document text.now) ≡ Some (tables_of v.items)) }
+    ensures names { IfOk result (λ v. All IsNamed v.items) }
+{
     let table = match toml::table_from_str(alloc, text) {
         Ok(table) => table,
         Err(fault) => return Err(fault_of(text, &fault)),
@@ -16,6 +24,13 @@ pub fn read_cases(alloc: Global, text: &str) -> Result<Vec<Case>, CasesFault> {
         _ => return Err(CasesFault::NotCases),
     };
     let lines = head_lines(alloc, text)?;
+    cases_of(alloc, lines.as_slice(), values)
+}
+
+fn cases_of(alloc: Global, lines: &[u32], values: &[Value]) -> Result<Vec<Case>, CasesFault>
+    ensures tables { IfOk result (λ v. map (λ c. view c.entries) v.items ≡ map view values.now) }
+    ensures names { IfOk result (λ v. All IsNamed v.items) }
+{
     let mut cases = Vec::new(alloc);
     for (i, value) in values.iter().enumerate() {
         let line = lines.get(i).copied().unwrap_or(0);
@@ -24,7 +39,10 @@ pub fn read_cases(alloc: Global, text: &str) -> Result<Vec<Case>, CasesFault> {
     Ok(cases)
 }
 
-fn case_of(alloc: Global, line: u32, value: &Value) -> Result<Case, CasesFault> {
+fn case_of(alloc: Global, line: u32, value: &Value) -> Result<Case, CasesFault>
+    ensures entries { IfOk result (λ c. view c.entries ≡ view value.now) }
+    ensures name { IfOk result IsNamed }
+{
     let name = match value.get("name") {
         Some(Value::String(name)) => name,
         _ => return Err(CasesFault::NoName { line }),

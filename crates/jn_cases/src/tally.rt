@@ -1,4 +1,7 @@
 //! Counting cases, and telling those that differ.
+ghost use Rattle.std.specs.Prelude.{◌≡◌, ◌≢◌, ◌↔◌, IsTrue, OnOk, false};
+ghost use Rattle.jn_cases.specs.Counts.{next_count, Agrees, Differs};
+
 use crate::Case;
 use std::alloc::{AllocError, Global};
 
@@ -9,10 +12,12 @@ pub struct Tally {
     file: String,
     name: String,
     line: u32,
-    asked: bool,
-    differs: bool,
-    cases: u64,
-    differing: u64,
+    /// Whether the open case has compared something.
+    pub asked: bool,
+    /// Whether the open case is one that differs.
+    pub differs: bool,
+    pub cases: u64,
+    pub differing: u64,
     told: String,
 }
 
@@ -32,13 +37,22 @@ impl Tally {
         })
     }
 
-    /// Begins a case. A key that stands not in `known` makes it one that differs.
-    pub fn begin(&mut self, case: &Case, known: &[&str]) -> Result<(), AllocError> {
+    /// Begins a case, which has not differed.
+    pub fn begin(&mut self, case: &Case) -> Result<(), AllocError>
+        ensures count { OnOk result (self.new.cases ≡ next_count self.old.cases) }
+        ensures fresh { OnOk result ((self.new.asked ≡ false) × (self.new.differs ≡ false)) }
+        ensures others { self.new.differing ≡ self.old.differing }
+    {
         self.name = String::from_str(self.alloc, case.name.as_str())?;
         self.line = case.line;
         self.asked = false;
         self.differs = false;
         self.cases = self.cases.saturating_add(1);
+        Ok(())
+    }
+
+    /// Says which keys the case may have beside its name. One that has another differs.
+    pub fn keys(&mut self, case: &Case, known: &[&str]) -> Result<(), AllocError> {
         match case.unknown_key(known) {
             None => Ok(()),
             Some(key) => self.fault("a key that is not known", key),
@@ -46,7 +60,10 @@ impl Tally {
     }
 
     /// Compares what was wanted under a key with what came.
-    pub fn bytes(&mut self, key: &str, wanted: &[u8], came: &[u8]) -> Result<(), AllocError> {
+    pub fn bytes(&mut self, key: &str, wanted: &[u8], came: &[u8]) -> Result<(), AllocError>
+        ensures same { wanted.now ≡ came.now → OnOk result (Agrees self.old self.new) }
+        ensures other { wanted.now ≢ came.now → OnOk result (Differs self.old self.new) }
+    {
         self.asked = true;
         if wanted == came {
             return Ok(());
@@ -60,7 +77,10 @@ impl Tally {
     }
 
     /// Compares the number that was wanted under a key with the one that came.
-    pub fn number(&mut self, key: &str, wanted: i64, came: i64) -> Result<(), AllocError> {
+    pub fn number(&mut self, key: &str, wanted: i64, came: i64) -> Result<(), AllocError>
+        ensures same { wanted ≡ came → OnOk result (Agrees self.old self.new) }
+        ensures other { wanted ≢ came → OnOk result (Differs self.old self.new) }
+    {
         self.asked = true;
         if wanted == came {
             return Ok(());
@@ -70,7 +90,9 @@ impl Tally {
     }
 
     /// Says of the case what makes it one that differs.
-    pub fn fault(&mut self, key: &str, said: &str) -> Result<(), AllocError> {
+    pub fn fault(&mut self, key: &str, said: &str) -> Result<(), AllocError>
+        ensures { OnOk result (Differs self.old self.new) }
+    {
         self.asked = true;
         if !self.differs {
             self.differs = true;
@@ -83,7 +105,9 @@ impl Tally {
     }
 
     /// Ends a case. One that compared nothing differs.
-    pub fn end(&mut self) -> Result<(), AllocError> {
+    pub fn end(&mut self) -> Result<(), AllocError>
+        ensures { self.old.asked ≡ false → OnOk result (Differs self.old self.new) }
+    {
         if self.asked {
             return Ok(());
         }
@@ -91,7 +115,9 @@ impl Tally {
     }
 
     /// Whether no case differs.
-    pub fn is_good(&self) -> bool {
+    pub fn is_good(&self) -> bool
+        ensures { IsTrue result ↔ (self.now.differing ≡ 0) }
+    {
         self.differing == 0
     }
 

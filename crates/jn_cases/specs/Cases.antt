@@ -1,0 +1,67 @@
+-- What stands in a file of cases, by the data of its TOML.
+use Rattle.std.specs.Prelude.{◌≡◌, ◌++◌, ℕ, zero, suc, ℤ, pos, not, List, [], codes, Option, None, Some, map, String, string_bytes, option_map, option_and_then, filter}
+use Rattle.std.specs.Option.{option_or}
+use Rattle.std.specs.declared.alloc.Global.{Global}
+use Rattle.std.specs.Char.{is_ascii_whitespace}
+use Rattle.std.specs.Result.{result_ok}
+use Rattle.hex.specs.Hex.{decode_of}
+use Rattle.toml.specs.Data.{Data, string, integer, array, as_str, as_integer, as_array, get, Items, no_items, item, Members, get_member}
+use Rattle.toml.specs.View.{view, items_of}
+use Rattle.jn_cases.specs.declared.case.Case.{Case}
+
+-- what stands under a key of a case: anything, a text, a number, a list
+abbrev pub under : Case → List ℕ → Option Data
+under c key = get key (view c.entries)
+
+abbrev pub text_of : Case → List ℕ → Option (List ℕ)
+text_of c key = option_and_then as_str (under c key)
+
+abbrev pub number_of : Case → List ℕ → Option ℤ
+number_of c key = option_and_then as_integer (under c key)
+
+abbrev pub list_of : Case → List ℕ → Option Items
+list_of c key = option_and_then as_array (under c key)
+
+-- some texts as a list of data
+abbrev pub text_items : List (String Global) → Items
+text_items texts = items_of (map (λ text. string (string_bytes text)) texts)
+
+-- the list under the key `case` of a file
+abbrev pub listed_cases : Members → Option Items
+listed_cases file = option_and_then as_array (get_member (codes "case") file)
+
+-- the tables that cases were read from, in their order
+abbrev pub tables_of : List Case → Items
+tables_of cases = items_of (map (λ c. view c.entries) cases)
+
+-- the case's name is the text under its key `name`
+abbrev pub IsNamed : Case → Type 0
+IsNamed c = text_of c (codes "name") ≡ Some (string_bytes c.name)
+
+-- the bytes of hex digits with white space between them, as "43 6c" for `Cl`
+abbrev pub hex_bytes : List ℕ → Option (List ℕ)
+hex_bytes text = result_ok (decode_of (filter (λ b. not (is_ascii_whitespace b)) text))
+
+-- `n` copies of some bytes
+abbrev pub copies : ℕ → List ℕ → List ℕ
+copies zero bytes = []
+copies (suc n) bytes = copies n bytes ++ bytes
+
+-- the bytes of one part, as of ["ab", 3], where `read` gives the bytes of its text
+abbrev pub part_bytes : (List ℕ → Option (List ℕ)) → Data → Option (List ℕ)
+part_bytes read (array (item (string text) (item (integer (pos n)) no_items))) = option_map (copies n) (read text)
+part_bytes read _ = None
+
+-- some bytes, and then those of the parts, one after the other
+abbrev pub with_parts : (List ℕ → Option (List ℕ)) → List ℕ → Items → Option (List ℕ)
+with_parts read bytes no_items = Some bytes
+with_parts read bytes (item d ds) = option_and_then (λ more. with_parts read (bytes ++ more) ds) (part_bytes read d)
+
+-- the bytes that a case gives under a key: those of the text under `KEY`, of hex digits under `KEY_hex`, of parts
+-- under `KEY_parts`, and of parts in hex digits under `KEY_hex_parts`
+abbrev pub bytes_under : Case → List ℕ → Option (List ℕ)
+bytes_under c key =
+    option_or (text_of c key)
+    (option_or (option_and_then hex_bytes (text_of c (key ++ codes "_hex")))
+    (option_or (option_and_then (with_parts Some []) (list_of c (key ++ codes "_parts")))
+    (option_and_then (with_parts hex_bytes []) (list_of c (key ++ codes "_hex_parts")))))
