@@ -1,5 +1,5 @@
 -- What stands in a file of cases, by the data of its TOML.
-use Rattle.std.specs.Prelude.{◌≡◌, ◌++◌, ℕ, zero, suc, ℤ, pos, not, List, [], codes, Option, None, Some, map, String, string_bytes, option_map, option_and_then, filter}
+use Rattle.std.specs.Prelude.{◌≡◌, ◌++◌, ◌+◌, ℕ, decimal, zero, suc, ℤ, pos, not, List, [], codes, Option, None, Some, map, String, string_bytes, option_map, option_and_then, filter}
 use Rattle.std.specs.Option.{option_or}
 use Rattle.std.specs.declared.alloc.Global.{Global}
 use Rattle.std.specs.Char.{is_ascii_whitespace}
@@ -25,6 +25,10 @@ list_of c key = option_and_then as_array (under c key)
 -- some texts as a list of data
 abbrev pub text_items : List (String Global) → Items
 text_items texts = items_of (map (λ text. string (string_bytes text)) texts)
+
+-- some numbers as a list of data
+abbrev pub number_items : List ℕ → Items
+number_items numbers = items_of (map (λ n. integer (pos n)) numbers)
 
 -- the list under the key `case` of a file
 abbrev pub listed_cases : Members → Option Items
@@ -52,10 +56,21 @@ abbrev pub part_bytes : (List ℕ → Option (List ℕ)) → Data → Option (Li
 part_bytes read (array (item (string text) (item (integer (pos n)) no_items))) = option_map (copies n) (read text)
 part_bytes read _ = None
 
+-- some bytes with each of `n` numbers from `first` on between them, as "p7;p8;" for "p", 7, 2 and ";"
+abbrev pub numbered : List ℕ → ℕ → ℕ → List ℕ → List ℕ
+numbered before first zero behind = []
+numbered before first (suc n) behind = numbered before first n behind ++ before ++ decimal (first + n) ++ behind
+
+-- the bytes of one part in text: of copies, or of numbers, as ["p", 7, 2, ";"]
+abbrev pub text_part : Data → Option (List ℕ)
+text_part (array (item (string before) (item (integer (pos first)) (item (integer (pos n)) (item (string behind) no_items))))) =
+    Some (numbered before first n behind)
+text_part d = part_bytes Some d
+
 -- some bytes, and then those of the parts, one after the other
-abbrev pub with_parts : (List ℕ → Option (List ℕ)) → List ℕ → Items → Option (List ℕ)
-with_parts read bytes no_items = Some bytes
-with_parts read bytes (item d ds) = option_and_then (λ more. with_parts read (bytes ++ more) ds) (part_bytes read d)
+abbrev pub with_parts : (Data → Option (List ℕ)) → List ℕ → Items → Option (List ℕ)
+with_parts part bytes no_items = Some bytes
+with_parts part bytes (item d ds) = option_and_then (λ more. with_parts part (bytes ++ more) ds) (part d)
 
 -- the bytes that a case gives under a key: those of the text under `KEY`, of hex digits under `KEY_hex`, of parts
 -- under `KEY_parts`, and of parts in hex digits under `KEY_hex_parts`
@@ -63,5 +78,5 @@ abbrev pub bytes_under : Case → List ℕ → Option (List ℕ)
 bytes_under c key =
     option_or (text_of c key)
     (option_or (option_and_then hex_bytes (text_of c (key ++ codes "_hex")))
-    (option_or (option_and_then (with_parts Some []) (list_of c (key ++ codes "_parts")))
-    (option_and_then (with_parts hex_bytes []) (list_of c (key ++ codes "_hex_parts")))))
+    (option_or (option_and_then (with_parts text_part []) (list_of c (key ++ codes "_parts")))
+    (option_and_then (with_parts (part_bytes hex_bytes) []) (list_of c (key ++ codes "_hex_parts")))))

@@ -1,11 +1,12 @@
 //! The bytes that a case gives.
-ghost use Rattle.std.specs.Prelude.{◌≡◌, ◌++◌, [], not, Some, IfOk, IfSome, OnOk, option_map, filter, pos};
+ghost use Rattle.std.specs.Prelude.{◌≡◌, ◌++◌, ◌+◌, ◌<◌, ◌^◌, decimal, [], not, Some, IfOk, IfSome, OnOk, option_map, filter, pos};
 ghost use Rattle.std.specs.Char.{is_ascii_whitespace};
 ghost use Rattle.toml.specs.Data.{string, integer, array, no_items, item};
 ghost use Rattle.toml.specs.View.{view, items_view};
-ghost use Rattle.jn_cases.specs.Cases.{bytes_under, hex_bytes, copies, part_bytes, with_parts};
+ghost use Rattle.jn_cases.specs.Cases.{bytes_under, hex_bytes, copies, numbered, part_bytes, text_part, with_parts};
 
 use crate::{Case, CasesFault};
+use itoa::Buffer;
 use std::alloc::{AllocError, Global};
 use toml::Value;
 
@@ -53,7 +54,7 @@ fn without_space(alloc: Global, text: &str) -> Result<Vec<u8>, AllocError>
 }
 
 fn bytes_of_parts(alloc: Global, line: u32, parts: &[Value]) -> Result<Vec<u8>, CasesFault>
-    ensures { IfOk result (λ v. with_parts Some [] (items_view parts.now) ≡ Some v.items) }
+    ensures { IfOk result (λ v. with_parts text_part [] (items_view parts.now) ≡ Some v.items) }
 {
     let mut bytes = Vec::new(alloc);
     for part in parts {
@@ -63,18 +64,23 @@ fn bytes_of_parts(alloc: Global, line: u32, parts: &[Value]) -> Result<Vec<u8>, 
 }
 
 fn put_part(bytes: &mut Vec<u8>, line: u32, part: &Value) -> Result<(), CasesFault>
-    ensures { OnOk result (option_map (λ more. bytes.old.items ++ more) (part_bytes Some (view part.now)) ≡ Some bytes.new.items) }
+    ensures { OnOk result (option_map (λ more. bytes.old.items ++ more) (text_part (view part.now)) ≡ Some bytes.new.items) }
 {
-    let (text, count) = match pair_of(part) {
-        Some(pair) => pair,
-        None => return Err(CasesFault::NoBytes { line }),
-    };
-    put_copies(bytes, text.as_bytes(), count)?;
-    Ok(())
+    if let Some((text, count)) = copies_of(part) {
+        put_copies(bytes, text.as_bytes(), count)?;
+        return Ok(());
+    }
+    match numbered_of(part) {
+        None => Err(CasesFault::NoBytes { line }),
+        Some((before, first, count, behind)) => {
+            put_numbered(bytes, before.as_bytes(), first, count, behind.as_bytes())?;
+            Ok(())
+        }
+    }
 }
 
 fn bytes_of_hex_parts(alloc: Global, line: u32, parts: &[Value]) -> Result<Vec<u8>, CasesFault>
-    ensures { IfOk result (λ v. with_parts hex_bytes [] (items_view parts.now) ≡ Some v.items) }
+    ensures { IfOk result (λ v. with_parts (part_bytes hex_bytes) [] (items_view parts.now) ≡ Some v.items) }
 {
     let mut bytes = Vec::new(alloc);
     for part in parts {
@@ -91,7 +97,7 @@ fn put_hex_part(
 ) -> Result<(), CasesFault>
     ensures { OnOk result (option_map (λ more. bytes.old.items ++ more) (part_bytes hex_bytes (view part.now)) ≡ Some bytes.new.items) }
 {
-    let (text, count) = match pair_of(part) {
+    let (text, count) = match copies_of(part) {
         Some(pair) => pair,
         None => return Err(CasesFault::NoBytes { line }),
     };
@@ -101,13 +107,59 @@ fn put_hex_part(
 }
 
 // A text and a count that is not negative.
-fn pair_of(part: &Value) -> Option<(&str, u64)>
+fn copies_of(part: &Value) -> Option<(&str, u64)>
     ensures { IfSome result (λ pair. view part.now ≡ array (item (string pair.0.now) (item (integer (pos pair.1)) no_items))) }
 {
     match part.as_array()?.as_slice() {
         [text, count] => Some((text.as_str()?, u64::try_from(count.as_integer()?).ok()?)),
         _ => None,
     }
+}
+
+// What stands before each number, the first, how many there are, and what stands behind each.
+fn numbered_of(part: &Value) -> Option<(&str, u64, u64, &str)>
+    ensures form { IfSome result (λ n. view part.now ≡ array (item (string n.0.now) (item (integer (pos n.1)) (item (integer (pos n.2)) (item (string n.3.now) no_items))))) }
+    ensures fits { IfSome result (λ n. n.1 + n.2 < 2 ^ 64) }
+{
+    match part.as_array()?.as_slice() {
+        [before, first, count, behind] => {
+            let first = u64::try_from(first.as_integer()?).ok()?;
+            let count = u64::try_from(count.as_integer()?).ok()?;
+            first.checked_add(count)?;
+            Some((before.as_str()?, first, count, behind.as_str()?))
+        }
+        _ => None,
+    }
+}
+
+fn put_numbered(
+    bytes: &mut Vec<u8>,
+    before: &[u8],
+    first: u64,
+    count: u64,
+    behind: &[u8],
+) -> Result<(), AllocError>
+    requires { first + count < 2 ^ 64 }
+    ensures { OnOk result (bytes.new.items ≡ bytes.old.items ++ numbered before.now first count behind.now) }
+{
+    for i in 0..count {
+        put_number(bytes, before, first + i, behind)?;
+    }
+    Ok(())
+}
+
+fn put_number(
+    bytes: &mut Vec<u8>,
+    before: &[u8],
+    number: u64,
+    behind: &[u8],
+) -> Result<(), AllocError>
+    ensures { OnOk result (bytes.new.items ≡ bytes.old.items ++ before.now ++ decimal number ++ behind.now) }
+{
+    let mut buffer = Buffer::new();
+    bytes.extend_from_slice(before)?;
+    bytes.extend_from_slice(buffer.format(number).as_bytes())?;
+    bytes.extend_from_slice(behind)
 }
 
 fn put_copies(bytes: &mut Vec<u8>, piece: &[u8], count: u64) -> Result<(), AllocError>

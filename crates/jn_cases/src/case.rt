@@ -1,8 +1,8 @@
 //! One case of a file.
-ghost use Rattle.std.specs.Prelude.{◌≡◌, IfOk, map, unwrap_or, string_bytes, option_copied, option_map};
-ghost use Rattle.toml.specs.Data.{string, array, no_items};
+ghost use Rattle.std.specs.Prelude.{◌≡◌, false, pos, IfOk, IfSome, option_and_then, map, unwrap_or, string_bytes, option_copied, option_map};
+ghost use Rattle.toml.specs.Data.{string, integer, array, as_bool, no_items};
 ghost use Rattle.toml.specs.View.{view, items_view};
-ghost use Rattle.jn_cases.specs.Cases.{under, text_of, number_of, list_of, text_items};
+ghost use Rattle.jn_cases.specs.Cases.{under, text_of, number_of, list_of, text_items, number_items};
 
 use crate::CasesFault;
 use std::alloc::Global;
@@ -49,6 +49,27 @@ impl Case {
         }
     }
 
+    /// The numbers of the list under a key, none where the case has no such key. None is negative.
+    pub fn numbers(&self, alloc: Global, key: &str) -> Result<Vec<u64>, CasesFault>
+        ensures { IfOk result (λ v. unwrap_or (under self.now key.now) (array no_items) ≡ array (number_items v.items)) }
+    {
+        match self.entries.get(key) {
+            None => Ok(Vec::new(alloc)),
+            Some(Value::Array(values)) => numbers_in(alloc, self.line, values.as_slice()),
+            Some(_) => Err(CasesFault::NoNumbers { line: self.line }),
+        }
+    }
+
+    /// Whether `true` stands under a key.
+    pub fn is_set(&self, key: &str) -> bool
+        ensures { result ≡ unwrap_or (option_and_then as_bool (under self.now key.now)) false }
+    {
+        match self.entries.get(key) {
+            None => false,
+            Some(value) => value.as_bool().unwrap_or(false),
+        }
+    }
+
     /// A key of the case that stands neither in `known` nor is `name`.
     pub fn unknown_key(&self, known: &[&str]) -> Option<&str> {
         let entries = self.entries.as_table()?;
@@ -72,6 +93,25 @@ fn texts_in(alloc: Global, line: u32, values: &[Value]) -> Result<Vec<String>, C
         }
     }
     Ok(texts)
+}
+
+fn numbers_in(alloc: Global, line: u32, values: &[Value]) -> Result<Vec<u64>, CasesFault>
+    ensures { IfOk result (λ v. map view values.now ≡ map (λ n. integer (pos n)) v.items) }
+{
+    let mut numbers = Vec::new(alloc);
+    for value in values {
+        match number_in(value) {
+            None => return Err(CasesFault::NoNumbers { line }),
+            Some(number) => numbers.push(number)?,
+        }
+    }
+    Ok(numbers)
+}
+
+fn number_in(value: &Value) -> Option<u64>
+    ensures { IfSome result (λ n. view value.now ≡ integer (pos n)) }
+{
+    u64::try_from(value.as_integer()?).ok()
 }
 
 fn is_among(known: &[&str], key: &str) -> bool {

@@ -23,6 +23,9 @@ pub enum CasesFault {
     /// What stands under a key of texts is no list of texts.
     #[error("line {line}: this case has a key that has no list of texts")]
     NoTexts { line: u32 },
+    /// What stands under a key of numbers is no list of numbers, or has a negative one.
+    #[error("line {line}: this case has a key that has no list of numbers")]
+    NoNumbers { line: u32 },
     /// There is no memory.
     #[error("there is no memory")]
     Memory,
