@@ -1,11 +1,12 @@
 -- What stands in a file of cases, by the data of its TOML.
-use Rattle.std.specs.Prelude.{◌≡◌, ◌++◌, ◌+◌, ℕ, decimal, zero, suc, ℤ, pos, not, List, [], codes, Option, None, Some, map, String, string_bytes, option_map, option_and_then, filter}
+use Rattle.std.specs.Prelude.{◌≡◌, ◌++◌, ◌+◌, ℕ, decimal, zero, suc, ℤ, pos, not, List, [], ◌∷◌, ◌≢◌, All, unwrap_or, codes, Option, None, Some, map, String, string_bytes, option_map, option_and_then, filter}
+use Rattle.std.specs.Borrow.{Bor}
 use Rattle.std.specs.Option.{option_or}
 use Rattle.std.specs.declared.alloc.Global.{Global}
 use Rattle.std.specs.Char.{is_ascii_whitespace}
 use Rattle.std.specs.Result.{result_ok}
 use Rattle.hex.specs.Hex.{decode_of}
-use Rattle.toml.specs.Data.{Data, string, integer, array, as_str, as_integer, as_array, get, Items, no_items, item, Members, get_member}
+use Rattle.toml.specs.Data.{Data, string, integer, array, as_str, as_integer, as_array, as_table, get, Items, no_items, item, Members, no_members, member, get_member}
 use Rattle.toml.specs.View.{view, items_of}
 use Rattle.jn_cases.specs.declared.case.Case.{Case}
 
@@ -29,6 +30,18 @@ text_items texts = items_of (map (λ text. string (string_bytes text)) texts)
 -- some numbers as a list of data
 abbrev pub number_items : List ℕ → Items
 number_items numbers = items_of (map (λ n. integer (pos n)) numbers)
+
+-- the keys of some members, and of a case
+abbrev pub keys_in : Members → List (List ℕ)
+keys_in no_members = []
+keys_in (member key d ms) = key ∷ keys_in ms
+
+abbrev pub keys_of : Case → List (List ℕ)
+keys_of c = unwrap_or (option_map keys_in (as_table (view c.entries))) []
+
+-- a key that is neither a case's name nor one of those that are known
+abbrev pub IsUnknown : List (Bor (List ℕ)) → List ℕ → Type 0
+IsUnknown known key = (key ≢ codes "name") × All (λ text. text.now ≢ key) known
 
 -- the list under the key `case` of a file
 abbrev pub listed_cases : Members → Option Items

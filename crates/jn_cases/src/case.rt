@@ -1,12 +1,13 @@
 //! One case of a file.
-ghost use Rattle.std.specs.Prelude.{◌≡◌, false, pos, IfOk, IfSome, option_and_then, map, unwrap_or, string_bytes, option_copied, option_map};
+ghost use Rattle.std.specs.Prelude.{◌≡◌, ◌≢◌, ◌↔◌, IsTrue, IfNone, All, false, pos, IfOk, IfSome, option_and_then, map, unwrap_or, string_bytes, option_copied, option_map};
+ghost use Rattle.std.specs.BTreeMap.{keys};
 ghost use Rattle.toml.specs.Data.{string, integer, array, as_bool, no_items};
-ghost use Rattle.toml.specs.View.{view, items_view};
-ghost use Rattle.jn_cases.specs.Cases.{under, text_of, number_of, list_of, text_items, number_items};
+ghost use Rattle.toml.specs.View.{view, items_view, table_view};
+ghost use Rattle.jn_cases.specs.Cases.{under, text_of, number_of, list_of, text_items, number_items, IsUnknown, keys_in, keys_of};
 
 use crate::CasesFault;
 use std::alloc::Global;
-use toml::Value;
+use toml::{Table, Value};
 
 /// A case: its name, the line of its head in the file, and all that stands under its keys.
 #[derive(Debug, Drop)]
@@ -71,14 +72,31 @@ impl Case {
     }
 
     /// A key of the case that stands neither in `known` nor is `name`.
-    pub fn unknown_key(&self, known: &[&str]) -> Option<&str> {
-        let entries = self.entries.as_table()?;
-        for (key, _) in entries {
-            if key.as_str() != "name" && !is_among(known, key.as_str()) {
-                return Some(key.as_str());
-            }
+    pub fn unknown_key(&self, known: &[&str]) -> Option<&str>
+        ensures none { IfNone result (All (λ key. ¬ IsUnknown known.now key) (keys_of self.now)) }
+        ensures some { IfSome result (λ key. IsUnknown known.now key.now) }
+    {
+        match self.entries.as_table() {
+            None => None,
+            Some(table) => unknown_in(table, known),
         }
-        None
+    }
+}
+
+fn unknown_in<'a>(table: &'a Table, known: &[&str]) -> Option<&'a str>
+    ensures none { IfNone result (All (λ key. ¬ IsUnknown known.now key) (keys_in (table_view table.now))) }
+    ensures some { IfSome result (λ key. IsUnknown known.now key.now) }
+{
+    first_unknown(table, known)
+}
+
+fn first_unknown<'a>(table: &'a Table, known: &[&str]) -> Option<&'a str>
+    ensures none { IfNone result (All (λ key. ¬ IsUnknown known.now (string_bytes key)) (keys table.now)) }
+    ensures some { IfSome result (λ key. IsUnknown known.now key.now) }
+{
+    match table.keys().find(|key| is_unknown(known, key.as_str())) {
+        None => None,
+        Some(key) => Some(key.as_str()),
     }
 }
 
@@ -114,11 +132,8 @@ fn number_in(value: &Value) -> Option<u64>
     u64::try_from(value.as_integer()?).ok()
 }
 
-fn is_among(known: &[&str], key: &str) -> bool {
-    for text in known {
-        if *text == key {
-            return true;
-        }
-    }
-    false
+fn is_unknown(known: &[&str], key: &str) -> bool
+    ensures { IsTrue result ↔ IsUnknown known.now key.now }
+{
+    key != "name" && known.iter().all(|text| *text != key)
 }

@@ -1,5 +1,6 @@
 //! Counting cases, and telling those that differ.
-ghost use Rattle.std.specs.Prelude.{◌≡◌, ◌≢◌, ◌↔◌, IsTrue, OnOk, false};
+ghost use Rattle.std.specs.Prelude.{◌≡◌, ◌≢◌, ◌↔◌, IsTrue, OnOk, All, false};
+ghost use Rattle.jn_cases.specs.Cases.{IsUnknown, keys_of};
 ghost use Rattle.jn_cases.specs.Counts.{next_count, Agrees, Differs};
 
 use crate::Case;
@@ -52,7 +53,9 @@ impl Tally {
     }
 
     /// Says which keys the case may have beside its name. One that has another differs.
-    pub fn keys(&mut self, case: &Case, known: &[&str]) -> Result<(), AllocError> {
+    pub fn keys(&mut self, case: &Case, known: &[&str]) -> Result<(), AllocError>
+        ensures { ¬ All (λ key. ¬ IsUnknown known.now key) (keys_of case.now) → OnOk result (Differs self.old self.new) }
+    {
         match case.unknown_key(known) {
             None => Ok(()),
             Some(key) => self.fault("a key that is not known", key),

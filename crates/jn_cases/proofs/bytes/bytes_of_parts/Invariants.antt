@@ -1,6 +1,6 @@
 use Rattle.std.proofs.Common.{◌≡◌, [], drop}
 use Rattle.toml.specs.View.{items_view}
-use Rattle.jn_cases.specs.Cases.{hex_bytes, text_part, part_bytes, with_parts}
+use Rattle.jn_cases.specs.Cases.{text_part, with_parts}
 use Rattle.jn_cases.proofs.bytes.bytes_of_parts.Given as goal
 
 -- the parts that are left, put behind the bytes so far, give what all give
