@@ -17,8 +17,24 @@ use jn_io::{MemSink, MemStore, Store};
 use std::alloc::{AllocError, Global};
 
 const KEYS: [&str; 18] = [
-    "words", "source", "source_hex", "source_parts", "fails", "out_room", "err_room", "out_fails", "err_fails",
-    "status", "out", "out_parts", "err", "out_length", "err_length", "pieces", "by_bytes", "again",
+    "words",
+    "source",
+    "source_hex",
+    "source_parts",
+    "fails",
+    "out_room",
+    "err_room",
+    "out_fails",
+    "err_fails",
+    "status",
+    "out",
+    "out_parts",
+    "err",
+    "out_length",
+    "err_length",
+    "pieces",
+    "by_bytes",
+    "again",
 ];
 
 /// The room of an output whose case doesn't say it.
@@ -41,7 +57,11 @@ impl Rows for WholeRows {
         let mut store = store_of(alloc, case, source.as_slice())?;
         let outcome = outcome_of(alloc, case, &mut store)?;
         compare(alloc, case, &outcome, tally)?;
-        tally.bytes("the file f", source.as_slice(), store.file("f").unwrap_or(b"no file"))?;
+        tally.bytes(
+            "the file f",
+            source.as_slice(),
+            store.file("f").unwrap_or(b"no file"),
+        )?;
         by_bytes(alloc, case, store, tally)?;
         again(alloc, case, &outcome, tally)
     }
@@ -64,21 +84,52 @@ fn sink_of(alloc: Global, case: &Case, room: &str, fails: &str) -> Result<MemSin
 
 fn outcome_of<S: Store>(alloc: Global, case: &Case, store: &mut S) -> Result<Outcome, CasesFault> {
     let words = case.texts(alloc, "words")?;
-    let mut out = Noted { sink: sink_of(alloc, case, "out_room", "out_fails")?, sizes: Vec::new(alloc) };
+    let mut out = Noted {
+        sink: sink_of(alloc, case, "out_room", "out_fails")?,
+        sizes: Vec::new(alloc),
+    };
     let mut err = sink_of(alloc, case, "err_room", "err_fails")?;
     let status = i64::from(top(alloc, words.as_slice(), store, &mut out, &mut err).number());
     Ok(Outcome { status, out, err })
 }
 
 /// The status, the outputs and the puts are those that the case wants.
-fn compare(alloc: Global, case: &Case, outcome: &Outcome, tally: &mut Tally) -> Result<(), CasesFault> {
-    tally.number("status", case.number("status").unwrap_or(-1), outcome.status)?;
-    compare_output(alloc, case, ("out", "out_length"), outcome.out.sink.bytes(), tally)?;
-    compare_output(alloc, case, ("err", "err_length"), outcome.err.bytes(), tally)?;
+fn compare(
+    alloc: Global,
+    case: &Case,
+    outcome: &Outcome,
+    tally: &mut Tally,
+) -> Result<(), CasesFault> {
+    tally.number(
+        "status",
+        case.number("status").unwrap_or(-1),
+        outcome.status,
+    )?;
+    compare_output(
+        alloc,
+        case,
+        ("out", "out_length"),
+        outcome.out.sink.bytes(),
+        tally,
+    )?;
+    compare_output(
+        alloc,
+        case,
+        ("err", "err_length"),
+        outcome.err.bytes(),
+        tally,
+    )?;
     if case.list("pieces").is_some() {
         let wanted = case.numbers(alloc, "pieces")?;
-        let (wanted, came) = (shown(alloc, wanted.as_slice())?, shown(alloc, outcome.out.sizes.as_slice())?);
-        tally.bytes("pieces", wanted.as_str().as_bytes(), came.as_str().as_bytes())?;
+        let (wanted, came) = (
+            shown(alloc, wanted.as_slice())?,
+            shown(alloc, outcome.out.sizes.as_slice())?,
+        );
+        tally.bytes(
+            "pieces",
+            wanted.as_str().as_bytes(),
+            came.as_str().as_bytes(),
+        )?;
     }
     Ok(())
 }
@@ -104,7 +155,12 @@ fn compare_output(
     }
 }
 
-fn by_bytes(alloc: Global, case: &Case, store: MemStore, tally: &mut Tally) -> Result<(), CasesFault> {
+fn by_bytes(
+    alloc: Global,
+    case: &Case,
+    store: MemStore,
+    tally: &mut Tally,
+) -> Result<(), CasesFault> {
     if !case.is_set("by_bytes") {
         return Ok(());
     }
@@ -113,7 +169,12 @@ fn by_bytes(alloc: Global, case: &Case, store: MemStore, tally: &mut Tally) -> R
     compare(alloc, case, &outcome, tally)
 }
 
-fn again(alloc: Global, case: &Case, outcome: &Outcome, tally: &mut Tally) -> Result<(), CasesFault> {
+fn again(
+    alloc: Global,
+    case: &Case,
+    outcome: &Outcome,
+    tally: &mut Tally,
+) -> Result<(), CasesFault> {
     if !case.is_set("again") {
         return Ok(());
     }
