@@ -1,4 +1,6 @@
 //! A store that hands out one byte a read, and an output that notes the puts.
+ghost use Rattle.std.specs.Prelude.{Some};
+
 use jn_io::{Failed, MemSink, SaveFault, Sink, Store};
 
 /// Hands out one byte a read.
@@ -37,9 +39,9 @@ pub struct Noted {
 }
 
 impl Sink for Noted {
-    ghost taken = { λ s. MemSink.taken s.sink };
+    ghost taken = { λ s. Some s.sink.taken };
 
-    ghost faults = { λ s. MemSink.faults s.sink };
+    ghost faults = { λ s. s.sink.faults };
 
     fn put(&mut self, bytes: &[u8]) -> Result<(), Failed> {
         let _ = self.sizes.push(bytes.len() as u64);
