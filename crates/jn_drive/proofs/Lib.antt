@@ -9,5 +9,4 @@ pub mod TwiceSteps
 pub mod Housing
 pub mod Unknowns
 pub mod Checking
-pub mod Bridge
 pub mod ShownAgain

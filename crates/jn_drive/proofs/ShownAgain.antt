@@ -9,7 +9,7 @@ use Rattle.jn_printer.proofs.TextUnseen.{same_text}
 use Rattle.jn_drive.specs.declared.words.JobKind.TheVariants as kinds
 use Rattle.jn_drive.specs.Reply.{JobReply, TreeReply, output_reply}
 use Rattle.jn_drive.specs.Again.{IsShownAgain}
-use Rattle.jn_drive.proofs.Bridge.{within_is_text}
+use Rattle.jn_round_trip.proofs.Bridge.{within_is_text}
 
 pub shown_again : (p : Program) (bytes : List ℕ) → IsTextOf p bytes → length (program_text p) ≤ greatest_source → IsShownAgain p
 shown_again p bytes is short =

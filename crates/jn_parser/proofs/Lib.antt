@@ -9,6 +9,7 @@ pub mod Places
 pub mod Shorter
 pub mod ShorterBodies
 pub mod Sources
+pub mod Steps
 pub mod TokenTexts
 pub mod Values
 pub mod WordsOnce

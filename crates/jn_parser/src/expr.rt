@@ -7,9 +7,9 @@ ghost use Rattle.jn_base.specs.Parts as grammar;
 ghost use Rattle.jn_grammar.specs.Answers.{row};
 ghost use Rattle.jn_grammar.specs.Begins.{begins};
 ghost use Rattle.jn_grammar.specs.ReadExprs as readers;
-ghost use Rattle.jn_grammar.specs.ReadExprs.{operator, operator_of, goes_on, link_in, chain_in, pair_in, begins_view, shut_args_in, call_args_in, new_in, super_in, prim_in, call_in, suffix_in, post_in, viewed_in, unary_in, arg_in, args_in, expr_in, level};
+ghost use Rattle.jn_grammar.specs.ReadExprs.{operator, operator_of, goes_on, link_in, chain_in, pair_in, begins_view, shut_args_in, call_args_in, new_in, super_call_in, super_in, prim_in, call_in, suffix_in, post_in, viewed_in, unary_in, arg_in, args_in, expr_in, level};
 ghost use Rattle.jn_parser.specs.Giving.{Gives};
-ghost use Rattle.jn_parser.specs.Levels.{operand_in};
+ghost use Rattle.jn_parser.specs.Levels.{operand_in, super_method_in};
 
 use crate::cursor::{behind, name, passed, place_of, starts, starts_key, syntax, take};
 use crate::fault::Stop;
@@ -146,9 +146,37 @@ fn term_inside(alloc: Global, left: u32, ts: &[Lexeme]) -> Result<(Term, &[Lexem
     term(alloc, left - 1, behind(ts))
 }
 
+/// The name of the method behind the class of a `super`.
+#[tactic(auto, unfolding(crate::specs::Levels::super_method_in))]
+fn super_method(ts: &[Lexeme]) -> Result<(Named, &[Lexeme]), Stop>
+    ensures { Gives (λ x. (x.0, x.1.now)) result (super_method_in ts.now) }
+{
+    let (_, rest) = take(Mark::CloseBracket, ts)?;
+    let (_, rest) = take(Mark::Dot, rest)?;
+    name(rest)
+}
+
+/// What stands behind the class of a `super` at `at`.
+#[cycle(expr)]
+#[tactic(auto, using(crate::proofs::Steps::super_call_steps))]
+fn super_call(
+    alloc: Global,
+    left: u32,
+    at: Place,
+    class: Term,
+    ts: &[Lexeme],
+) -> Result<(Boxed<Expr>, &[Lexeme]), Stop>
+    ensures { Gives (λ x. (x.0, x.1.now)) result (super_call_in (level left) at class ts.now) }
+{
+    let (method, rest) = super_method(ts)?;
+    let (args, rest) = call_args(alloc, left, rest)?;
+    let node = Node::Super(class, method, args);
+    Ok((Boxed::new(alloc, Expr { at, node })?, rest))
+}
+
 /// What stands behind a `super` at `at`.
 #[cycle(expr)]
-#[tactic(auto, unfolding(jn_grammar::specs::ReadExprs::super_in, jn_grammar::specs::ReadExprs::super_call_in))]
+#[tactic(auto, unfolding(jn_grammar::specs::ReadExprs::super_in))]
 fn super_form(
     alloc: Global,
     left: u32,
@@ -161,12 +189,7 @@ fn super_form(
         return Err(syntax(ts));
     }
     let (class, rest) = term_inside(alloc, left, ts)?;
-    let (_, rest) = take(Mark::CloseBracket, rest)?;
-    let (_, rest) = take(Mark::Dot, rest)?;
-    let (method, rest) = name(rest)?;
-    let (args, rest) = call_args(alloc, left, rest)?;
-    let node = Node::Super(class, method, args);
-    Ok((Boxed::new(alloc, Expr { at, node })?, rest))
+    super_call(alloc, left, at, class, rest)
 }
 
 #[cycle(expr)]

@@ -4,7 +4,7 @@ ghost use Rattle.std.specs.Prelude.{◌≡◌, ◌∷◌, suc, true, IfOk};
 ghost use Rattle.jn_base.specs.declared.tree.Suffix.{out-Suffix};
 ghost use Rattle.jn_base.specs.Parts.{Local};
 ghost use Rattle.jn_grammar.specs.Begins.{begins};
-ghost use Rattle.jn_grammar.specs.ReadStmts.{begins_name, new_name_in, in_body, value_in, tested_in, test_in, return_in, printed_in, print_open_in, print_in, grow_by, grown, shape_of, named_of, names_of, but_last, last_name, begins_class, local_end_in, local_in, type_rest_in, path_local_in, assign_in, set_in, simple_by, simple_in, led_in, block_in, else_in, if_in, while_in, stmt_in, stmts_in, stmts_of};
+ghost use Rattle.jn_grammar.specs.ReadStmts.{begins_name, new_name_in, in_body, value_in, tested_in, test_in, return_in, printed_in, print_open_in, print_in, grow_by, grown, shape_of, named_of, names_of, but_last, last_name, begins_class, local_end_in, local_in, type_rest_in, path_local_in, assign_in, set_in, simple_by, simple_in, led_in, block_in, else_in, if_in, while_in, block_stmt_in, same_count, stmt_in, stmts_in, stmts_of};
 ghost use Rattle.jn_parser.specs.Giving.{Gives};
 
 use crate::cursor::{behind, name, passed, place_of, starts, starts_key, syntax, take};
@@ -139,6 +139,34 @@ fn print(alloc: Global, left: u32, at: Place, ts: &[Lexeme]) -> Result<(Stmt, &[
         return Err(syntax(ts));
     }
     print_open(alloc, left, at, ts)
+}
+
+/// What stands behind a `return` at `at`, with the count as before.
+fn leave_stmt(
+    alloc: Global,
+    left: u32,
+    used: u32,
+    at: Place,
+    ts: &[Lexeme],
+) -> Result<(Stmt, u32, &[Lexeme]), Stop>
+    ensures { Gives (λ x. ((x.0, x.1), x.2.now)) result (same_count true left (stmts_of true left) used (return_in left at ts.now)) }
+{
+    let (s, rest) = leave(alloc, left, at, ts)?;
+    Ok((s, used, rest))
+}
+
+/// What stands behind a `print` at `at`, with the count as before.
+fn print_stmt(
+    alloc: Global,
+    left: u32,
+    used: u32,
+    at: Place,
+    ts: &[Lexeme],
+) -> Result<(Stmt, u32, &[Lexeme]), Stop>
+    ensures { Gives (λ x. ((x.0, x.1), x.2.now)) result (same_count true left (stmts_of true left) used (print_in left at ts.now)) }
+{
+    let (s, rest) = print(alloc, left, at, ts)?;
+    Ok((s, used, rest))
 }
 
 fn grow(shape: Shape, part: &Suffix) -> Shape
@@ -467,30 +495,36 @@ fn turns(
     Ok((Stmt::While(e.into_inner(), body, at), used, rest))
 }
 
+/// A block as a statement.
 #[cycle(stmt)]
-#[tactic(auto, unfolding(jn_grammar::specs::ReadStmts::stmt_in, jn_grammar::specs::ReadStmts::stmt_by, jn_grammar::specs::ReadStmts::block_stmt_in))]
+#[tactic(auto, unfolding(jn_grammar::specs::ReadStmts::block_stmt_in))]
+fn block_stmt(
+    alloc: Global,
+    left: u32,
+    used: u32,
+    ts: &[Lexeme],
+) -> Result<(Stmt, u32, &[Lexeme]), Stop>
+    ensures { Gives (λ x. ((x.0, x.1), x.2.now)) result (block_stmt_in true left (stmts_of true left) used ts.now) }
+{
+    let (body, used, rest) = block(alloc, left, used, ts)?;
+    Ok((Stmt::Block(body), used, rest))
+}
+
+#[cycle(stmt)]
+#[tactic(auto, unfolding(jn_grammar::specs::ReadStmts::stmt_in, jn_grammar::specs::ReadStmts::stmt_by))]
 fn stmt(alloc: Global, left: u32, used: u32, ts: &[Lexeme]) -> Result<(Stmt, u32, &[Lexeme]), Stop>
     ensures { Gives (λ x. ((x.0, x.1), x.2.now)) result (stmt_in true left (stmts_of true left) used ts.now) }
 {
     match ts {
         [] => Err(syntax(ts)),
         [t, rest @ ..] => match t.word {
-            Word::Mark(Mark::OpenBrace) => {
-                let (body, used, rest) = block(alloc, left, used, ts)?;
-                Ok((Stmt::Block(body), used, rest))
-            }
+            Word::Mark(Mark::OpenBrace) => block_stmt(alloc, left, used, ts),
             Word::Keyword(Keyword::Final) => local(alloc, left, used, true, rest),
             Word::Keyword(Keyword::Int | Keyword::Boolean) => local(alloc, left, used, false, ts),
             Word::Keyword(Keyword::If) => choice(alloc, left, used, t.at, rest),
             Word::Keyword(Keyword::While) => turns(alloc, left, used, t.at, rest),
-            Word::Keyword(Keyword::Return) => {
-                let (s, rest) = leave(alloc, left, t.at, rest)?;
-                Ok((s, used, rest))
-            }
-            Word::Keyword(Keyword::Print) => {
-                let (s, rest) = print(alloc, left, t.at, rest)?;
-                Ok((s, used, rest))
-            }
+            Word::Keyword(Keyword::Return) => leave_stmt(alloc, left, used, t.at, rest),
+            Word::Keyword(Keyword::Print) => print_stmt(alloc, left, used, t.at, rest),
             Word::Keyword(Keyword::This) | Word::Name(_) => led(alloc, left, used, ts),
             _ => simple(alloc, left, used, ts),
         },

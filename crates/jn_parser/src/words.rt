@@ -1,6 +1,6 @@
 //! Words: the tokens as the grammar sees them. Names and texts are numbered by first mention.
 
-ghost use Rattle.std.specs.Prelude.{◌≡◌, ◌≤◌, ◌+◌, length, map, OnOk, IfOk};
+ghost use Rattle.std.specs.Prelude.{◌≡◌, ◌≤◌, ◌+◌, [], ◌∷◌, ◌++◌, length, map, OnOk, IfOk};
 ghost use Rattle.jn_base.specs.Tokens.{TokensOf};
 ghost use Rattle.jn_base.specs.Words as spelled;
 ghost use Rattle.jn_base.specs.Words.{AreWordsOf, text};
@@ -80,6 +80,27 @@ fn word(
     }
 }
 
+/// Notes the word of one more token, which stands at a place.
+fn mention(
+    alloc: Global,
+    seen: &mut Seen,
+    kind: TokenKind,
+    text: &[u8],
+    at: Place,
+) -> Result<Word, AllocError>
+    requires text { IsTextFor kind text.now }
+    requires few_names { length seen.old.names.keys ≤ 2_000_000 }
+    requires few_texts { length seen.old.texts.keys ≤ 2_000_000 }
+    ensures mentioned { IfOk result (λ x. Mentions (map (λ k. k.items) seen.old.names.keys) (map (λ k. k.items) seen.old.texts.keys) kind text.now x (map (λ k. k.items) seen.new.names.keys) (map (λ k. k.items) seen.new.texts.keys)) }
+    ensures noted { IfOk result (λ x. seen.new.words.items ≡ seen.old.words.items ++ spelled.lexeme x at ∷ []) }
+    ensures names { OnOk result (length seen.new.names.keys ≤ 1 + length seen.old.names.keys) }
+    ensures texts { OnOk result (length seen.new.texts.keys ≤ 1 + length seen.old.texts.keys) }
+{
+    let word = word(alloc, &mut seen.names, &mut seen.texts, kind, text)?;
+    seen.words.push(Lexeme { word, at })?;
+    Ok(word)
+}
+
 /// The words of the tokens.
 fn mentioned(alloc: Global, bytes: &[u8], tokens: &[Token]) -> Result<Seen, AllocError>
     requires within { length bytes.now ≤ 1_048_576 }
@@ -87,9 +108,11 @@ fn mentioned(alloc: Global, bytes: &[u8], tokens: &[Token]) -> Result<Seen, Allo
     requires texts { HaveTexts bytes.now tokens.now }
     ensures { IfOk result (λ m. AreSoFar bytes.now tokens.now m.words.items (map (λ k. k.items) m.names.keys) (map (λ k. k.items) m.texts.keys)) }
 {
-    let mut words = Vec::new(alloc);
-    let mut names = IndexSet::new(alloc);
-    let mut texts = IndexSet::new(alloc);
+    let mut seen = Seen {
+        words: Vec::new(alloc),
+        names: IndexSet::new(alloc),
+        texts: IndexSet::new(alloc),
+    };
     let mut place = Place { line: 1, column: 1 };
     let mut at = 0;
     let mut rest = tokens;
@@ -97,16 +120,11 @@ fn mentioned(alloc: Global, bytes: &[u8], tokens: &[Token]) -> Result<Seen, Allo
         let start = token.start as usize;
         place = moved(place, &bytes[at..start]);
         let text = &bytes[start..token.end as usize];
-        let word = word(alloc, &mut names, &mut texts, token.kind, text)?;
-        words.push(Lexeme { word, at: place })?;
+        mention(alloc, &mut seen, token.kind, text, place)?;
         at = start;
         rest = after;
     }
-    Ok(Seen {
-        words,
-        names,
-        texts,
-    })
+    Ok(seen)
 }
 
 /// What stands behind the tokens: the end of the file, or the first fault.

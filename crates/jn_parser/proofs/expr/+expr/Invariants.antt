@@ -24,23 +24,26 @@ decreases-call l = 60 * l.left + 2
 abbrev pub decreases-new_object : goal.decreases-new_object
 decreases-new_object l = 60 * l.left + 3
 
+abbrev pub decreases-super_call : goal.decreases-super_call
+decreases-super_call l = 60 * l.left + 3
+
 abbrev pub decreases-super_form : goal.decreases-super_form
-decreases-super_form l = 60 * l.left + 3
+decreases-super_form l = 60 * l.left + 4
 
 abbrev pub decreases-suffix : goal.decreases-suffix
 decreases-suffix l = 60 * l.left + 3
 
 abbrev pub decreases-prim : goal.decreases-prim
-decreases-prim l = 60 * l.left + 4
+decreases-prim l = 60 * l.left + 5
 
 abbrev pub decreases-suffixes : goal.decreases-suffixes
 decreases-suffixes l = 60 * l.left + 4
 
 abbrev pub decreases-post : goal.decreases-post
-decreases-post l = 60 * l.left + 5
+decreases-post l = 60 * l.left + 6
 
 abbrev pub decreases-unary : goal.decreases-unary
-decreases-unary l = 60 * l.left + 6
+decreases-unary l = 60 * l.left + 7
 
 abbrev pub decreases-expr : goal.decreases-expr
 decreases-expr l = 60 * l.left + 42

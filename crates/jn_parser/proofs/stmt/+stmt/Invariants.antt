@@ -18,6 +18,9 @@ decreases-choice l = 8 * l.left + 3
 abbrev pub decreases-turns : goal.decreases-turns
 decreases-turns l = 8 * l.left + 3
 
+abbrev pub decreases-block_stmt : goal.decreases-block_stmt
+decreases-block_stmt l = 8 * l.left + 3
+
 abbrev pub decreases-stmt : goal.decreases-stmt
 decreases-stmt l = 8 * l.left + 4
 

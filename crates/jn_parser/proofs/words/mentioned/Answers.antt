@@ -3,7 +3,7 @@ use Rattle.jn_parser.proofs.Mentioning.{mentioning_starts, order_here, names_few
 use Rattle.jn_parser.proofs.words.mentioned.Goals as goal
 
 pub token-init : goal.token-init
-token-init c = rw (c.new-words.ensures.items, c.new-names.ensures.empty, c.new-texts.ensures.empty) (mentioning_starts c.args.bytes.now c.args.tokens.now c.requires.in_order c.requires.texts)
+token-init c = rw (c.new.ensures.items, c.new-2.ensures.empty, c.new-3.ensures.empty) (mentioning_starts c.args.bytes.now c.args.tokens.now c.requires.in_order c.requires.texts)
 
 pub slice_bounds-moved-end : goal.slice_bounds-moved-end
 slice_bounds-moved-end c =
@@ -15,16 +15,16 @@ slice_bounds-text-end c =
     let o = order_here c.args.bytes.now c.token.at c.token.rest.now c.in-Some.token c.in-Some.after.now c.in-Some.ensures c.token.invariant.in_order in
     omega (arith, o.0, o.1.0, o.1.1)
 
-pub word-requires-clause-few_names : goal.word-requires-clause-few_names
-word-requires-clause-few_names c = names_few (λ (k : Vec ℕ Global). k.items) c.token.names.keys c.token.rest.now c.args.tokens.now c.args.bytes.now c.token.invariant.few_names c.requires.in_order c.requires.within
+pub mention-requires-clause-few_names : goal.mention-requires-clause-few_names
+mention-requires-clause-few_names c = names_few (λ (k : Vec ℕ Global). k.items) c.token.seen.names.keys c.token.rest.now c.args.tokens.now c.args.bytes.now c.token.invariant.few_names c.requires.in_order c.requires.within
 
-pub word-requires-clause-few_texts : goal.word-requires-clause-few_texts
-word-requires-clause-few_texts c = names_few (λ (k : Vec ℕ Global). k.items) c.token.texts.keys c.token.rest.now c.args.tokens.now c.args.bytes.now c.token.invariant.few_texts c.requires.in_order c.requires.within
+pub mention-requires-clause-few_texts : goal.mention-requires-clause-few_texts
+mention-requires-clause-few_texts c = names_few (λ (k : Vec ℕ Global). k.items) c.token.seen.texts.keys c.token.rest.now c.args.tokens.now c.args.bytes.now c.token.invariant.few_texts c.requires.in_order c.requires.within
 
 pub token-preserved : goal.token-preserved
 token-preserved c =
-    rw c.in_ok-push.ensures.items
-    (goes_on c.args.bytes.now c.args.tokens.now c.token.rest.now c.in-Some.after.now c.token.words.items _ _ _ _ c.token.at c.token.place c.moved-place.result c.in-Some.token c.in_ok-word.word c.in-Some.ensures c.token.invariant
-    c.moved-place.ensures c.in_ok-word.ensures.mentioned
-    (mapped_grown (λ (k : Vec ℕ Global). k.items) c.token.names.keys c.word.new.names.keys c.in_ok-word.ensures.names)
-    (mapped_grown (λ (k : Vec ℕ Global). k.items) c.token.texts.keys c.word.new.texts.keys c.in_ok-word.ensures.texts))
+    rw c.in_ok-mention.ensures.noted
+    (goes_on c.args.bytes.now c.args.tokens.now c.token.rest.now c.in-Some.after.now c.token.seen.words.items _ _ _ _ c.token.at c.token.place c.moved-place.result c.in-Some.token c.in_ok-mention.field-0 c.in-Some.ensures c.token.invariant
+    c.moved-place.ensures c.in_ok-mention.ensures.mentioned
+    (mapped_grown (λ (k : Vec ℕ Global). k.items) c.token.seen.names.keys c.mention.new.seen.names.keys c.in_ok-mention.ensures.names)
+    (mapped_grown (λ (k : Vec ℕ Global). k.items) c.token.seen.texts.keys c.mention.new.seen.texts.keys c.in_ok-mention.ensures.texts))
