@@ -1,0 +1,2 @@
+pub mod LawsOfHeaders
+pub mod LawsOfMembers

@@ -1,0 +1,5 @@
+//! The laws of members: headers, signatures, and the types of what is found, where the verdict refuses nothing of them.
+#![tactic(auto)]
+
+pub mod headers;
+pub mod members;
