@@ -1,5 +1,4 @@
-pub mod HeaderPlans
-pub mod DeclaredHeaders
+pub mod OneHeaders
 pub mod Sorting
 pub mod FoundMembers
 pub mod OneFields

@@ -20,6 +20,7 @@ use Rattle.jn_sem.specs.Values.{HasField}
 use Rattle.jn_sem.specs.Sharing.{IsClass}
 use Rattle.jn_sem.specs.Slots.{FieldType}
 use Rattle.jn_sem.specs.LawsOfSlots.{OnePlaceEach, FieldsPass}
+use Rattle.jn_sem.specs.Terms.{FieldTypeIs}
 use Rattle.jn_sem.specs.State.{Stored}
 use Rattle.jn_sem.specs.Does.{IsFresh, AreFresh, zero_of}
 use Rattle.jn_sem.proofs.FieldAnchors.{fields_pass}
@@ -33,7 +34,7 @@ use Rattle.jn_laws.proofs.SpelledForms.{type_named}
 use Rattle.jn_rules.specs.Members.{bad_field}
 use Rattle.jn_rules.specs.Verdict.{MembersPass}
 use Rattle.jn_member_laws.specs.LawsOfMembers.{FieldsAreOne}
-use Rattle.jn_member_laws.proofs.DeclaredHeaders.{headers_there}
+use Rattle.jn_rule_laws.proofs.Declared.{headers_that_pass}
 use Rattle.jn_member_laws.proofs.Sorting.{InOrder, in_order}
 
 -- ---- lists made of what surely is
@@ -77,14 +78,14 @@ module _ (p : Program) (ok : MembersPass p) where
 
   there : (V : Path) (f : Name) → IsClass p V → HasField p V f → (t : Ty) × FieldType p V f t
   there V f c h =
-      let t = (headers_there p ok.types.headers).field h.at f h.declares.field h.declares.at in (
+      let t = (headers_that_pass p ok.types.headers).fields h.at f h.declares.field h.declares.at in (
         t.0,
         record {
           class = h.at;
           is_field = record { declares = h.declares; only = λ R e. one_place V R h.at f c e h.declares };
           field = h.declares.field;
           at = h.declares.at;
-          type = t.1;
+          type = subst (λ (n : Name). FieldTypeIs p h.at n h.declares.field.ty t.0) h.declares.at.name t.1;
         },
       )
 

@@ -24,9 +24,10 @@ use Rattle.jn_rules.specs.Questions.{HasMethod}
 use Rattle.jn_rules.specs.Headers.{Header}
 use Rattle.jn_rules.specs.Members.{Signature, signature, var_fixed, var_type, HasSignature, SameSignature, no_least, other_signature, empty_signature, ConstructorSignature, declared, missing_one, ConstructorPasses, bad_method, bad_constructor}
 use Rattle.jn_rules.specs.Verdict.{MembersPass}
-use Rattle.jn_member_laws.specs.LawsOfHeaders.{IsHeader}
+use Rattle.jn_rule_laws.specs.LawsOfHeaders.{IsHeader}
 use Rattle.jn_member_laws.specs.LawsOfMembers.{Alike, none, one, BodyAlike, Signatures}
-use Rattle.jn_member_laws.proofs.HeaderPlans.{header_back, header_once}
+use Rattle.jn_member_laws.proofs.OneHeaders.{header_once}
+use Rattle.jn_rule_laws.proofs.HeaderLaws.{header_back}
 
 -- ---- parameters are numbered
 

@@ -24,7 +24,7 @@ use Rattle.jn_rules.specs.Plans.{FoundField}
 use Rattle.jn_rules.specs.Questions.{IsFoundField, IsMethodOf, HasMethod}
 use Rattle.jn_rules.specs.Headers.{Header}
 use Rattle.jn_rules.specs.Verdict.{MembersPass}
-use Rattle.jn_member_laws.specs.LawsOfHeaders.{IsHeader}
+use Rattle.jn_rule_laws.specs.LawsOfHeaders.{IsHeader}
 
 -- ---- what is found by a type
 

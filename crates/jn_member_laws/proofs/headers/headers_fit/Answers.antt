@@ -1,4 +1,4 @@
-use Rattle.jn_member_laws.proofs.HeaderPlans.{headers_fit}
+use Rattle.jn_member_laws.proofs.OneHeaders.{headers_fit}
 use Rattle.jn_member_laws.proofs.headers.headers_fit.Goals as goal
 
 pub returns : goal.returns
