@@ -3,3 +3,6 @@ pub mod Sorting
 pub mod FoundMembers
 pub mod OneFields
 pub mod SameSignatures
+pub mod KnownTypes
+pub mod CallTypes
+pub mod FirstMasks

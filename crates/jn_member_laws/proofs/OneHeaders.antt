@@ -1,25 +1,15 @@
 -- A header is one, and its types fit.
-use Rattle.std.proofs.Common.{◌≡◌, suc, List, [], ◌∷◌, ◌++◌, length, refl, sym, ap, ◌∙◌, subst, Option, Some, None}
-use Rattle.std.specs.Prelude.{Result, Ok, Err}
-use Rattle.jn_base.specs.declared.tree.Param.{Param}
+use Rattle.std.proofs.Common.{◌≡◌, List, sym, ◌∙◌, subst, Option, Some, None}
 use Rattle.jn_base.specs.declared.tree.TypeTerm.{TypeTerm}
 use Rattle.jn_base.specs.declared.tree.Program.{Program}
 use Rattle.jn_base.specs.declared.types.Ty.{Ty}
-use Rattle.jn_base.specs.declared.types.Ty.TheVariants as ty
 use Rattle.jn_base.specs.declared.names.Var.{Var}
-use Rattle.jn_base.specs.declared.refusal.Refusal.{Refusal}
-use Rattle.jn_sem.specs.Normal.{same_path, NormalType}
-use Rattle.jn_sem.specs.Terms.{Site, TypeIs}
-use Rattle.jn_sem.specs.Does.{Body, AreParamsAfter, var}
-use Rattle.jn_sem.proofs.NormalTypes.{type_subst_is}
+use Rattle.jn_sem.specs.Does.{Body}
 use Rattle.jn_sem.proofs.FindingLaws.{finds_one}
 use Rattle.jn_laws.specs.LawsOfWritten.{ParamsOf}
 use Rattle.jn_laws.proofs.Params.{params_fit}
 use Rattle.jn_laws.proofs.WrittenTypes.{of_value}
-use Rattle.jn_rules.specs.Plans.{done, then_do, taken, OfType}
-use Rattle.jn_rules.specs.Questions.{Means, Gives}
-use Rattle.jn_rules.specs.Headers.{Header, header_typed, params_typed, result_typed, param_after, declared_type, scope_of, site_in}
-use Rattle.jn_rules.proofs.PlanLaws.{then_gives, then_came}
+use Rattle.jn_rules.specs.Headers.{Header, site_in}
 use Rattle.jn_member_laws.specs.LawsOfHeaders.{HeadersAreOne, body_at, HeadersFit}
 use Rattle.jn_rule_laws.specs.LawsOfHeaders.{ResultIs, IsHeader}
 

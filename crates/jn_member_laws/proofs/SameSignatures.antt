@@ -1,5 +1,5 @@
 -- Signatures of the bodies of one method.
-use Rattle.std.proofs.Common.{◌≡◌, ℕ, suc, List, [], ◌∷◌, ◌++◌, length, map, refl, sym, ap, ◌∙◌, subst, arith, append_assoc, Bool}
+use Rattle.std.proofs.Common.{◌≡◌, ◌<◌, ℕ, suc, List, [], ◌∷◌, ◌++◌, length, map, refl, sym, ap, ◌∙◌, subst, arith, append_assoc, Bool}
 use Rattle.std.proofs.lemmas.List.{append-nil, length-append}
 use Rattle.jn_base.specs.declared.tree.Name.{Name}
 use Rattle.jn_base.specs.declared.tree.Param.{Param}
@@ -10,6 +10,7 @@ use Rattle.jn_base.specs.declared.names.Var.{Var}
 use Rattle.jn_base.specs.Paths.{Path}
 use Rattle.jn_base.specs.Supers.{Sup, IsOwnSuper}
 use Rattle.jn_base.specs.Universe.{InUniverse}
+use Rattle.jn_base.specs.Atoms.{Among, first, later}
 use Rattle.jn_base.specs.Duplicates.{duplicates}
 use Rattle.jn_base.specs.Members.{Decls, Least, MethodAt}
 use Rattle.jn_base.proofs.SuperLaws.{sup_joined}
@@ -31,9 +32,18 @@ use Rattle.jn_rule_laws.proofs.HeaderLaws.{header_back}
 
 -- ---- parameters are numbered
 
-pub Numbered : ℕ → List Var → Type 0
+unfoldable pub Numbered : ℕ → List Var → Type 0
 Numbered n [] = Unit {0}
 Numbered n (x ∷ xs) = (x.path ≡ suc n) × Numbered (suc n) xs
+
+pub numbered_all : (n : ℕ) (xs : List Var) → Numbered n xs → (y : Var) → Among xs y → n < y.path
+unfolding Numbered
+numbered_all n _ i y (first {xs = xs}) = omega (arith, i.0)
+numbered_all n _ i y (later {xs = xs} m) = let l = numbered_all (suc n) xs i.1 y m in omega (arith, l)
+
+pub numbered_above : (n : ℕ) (x : Var) (xs : List Var) → Numbered n (x ∷ xs) → (y : Var) → Among xs y → x.path < y.path
+unfolding Numbered
+numbered_above n x xs i y m = let l = numbered_all (suc n) xs i.1 y m in omega (arith, l, i.0)
 
 record NumberedAfter (before all : List Var) : Type 0 where
   more : List Var

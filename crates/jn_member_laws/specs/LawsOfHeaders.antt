@@ -1,19 +1,14 @@
 -- The headers of bodies: one each, and their types fit where they stand.
-use Rattle.std.specs.Prelude.{◌≡◌, ◌↔◌, List, Contains, Option, Some, None, Ok}
+use Rattle.std.specs.Prelude.{◌≡◌, Some, None}
 use Rattle.jn_base.specs.declared.tree.Name.{Name}
-use Rattle.jn_base.specs.declared.tree.Field.{Field}
 use Rattle.jn_base.specs.declared.tree.Method.{Method}
-use Rattle.jn_base.specs.declared.tree.Constraint.{Constraint}
 use Rattle.jn_base.specs.declared.tree.TypeTerm.{TypeTerm}
 use Rattle.jn_base.specs.declared.tree.Program.{Program}
-use Rattle.jn_base.specs.declared.types.Ty.{Ty}
 use Rattle.jn_base.specs.declared.types.Ty.TheVariants as ty
-use Rattle.jn_base.specs.declared.names.Var.{Var}
 use Rattle.jn_base.specs.Paths.{Path}
 use Rattle.jn_base.specs.Universe.{InUniverse}
-use Rattle.jn_base.specs.Members.{FieldAt, MethodAt}
-use Rattle.jn_sem.specs.Terms.{TypeIs, FieldTypeIs}
-use Rattle.jn_sem.specs.Does.{Body, AreParams}
+use Rattle.jn_base.specs.Members.{MethodAt}
+use Rattle.jn_sem.specs.Does.{Body}
 use Rattle.jn_laws.specs.LawsOfWritten.{Shallow, TypeThere, ParamsOf}
 use Rattle.jn_laws.specs.LawsOfSources.{WellFormed}
 use Rattle.jn_rule_laws.specs.LawsOfHeaders.{IsHeader}
