@@ -1,0 +1,2 @@
+pub mod LawsOfRules
+pub mod LawsOfHeaders

@@ -1,0 +1,10 @@
+pub mod Plans
+pub mod Questions
+pub mod Headers
+pub mod Exprs
+pub mod Stmts
+pub mod Resolved
+pub mod Members
+pub mod Verdict
+pub mod LawsOfPlans
+pub mod Forms
