@@ -7,3 +7,4 @@ pub mod Reading
 pub mod Refusing
 pub mod Relating
 pub mod Walk
+pub mod Parting

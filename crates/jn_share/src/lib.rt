@@ -18,9 +18,9 @@ mod listed;
 mod pairs;
 mod paths;
 mod rows;
+mod slots;
 
 pub use fault::ShareFault;
 pub use groups::Groups;
+pub use slots::Slots;
 
-#[cfg(test)]
-mod tests;
