@@ -1,4 +1,5 @@
 pub mod Exact
+pub mod Inside
 pub mod Making
 pub mod Names
 pub mod PairsFound

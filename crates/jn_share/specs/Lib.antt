@@ -1,3 +1,4 @@
+pub mod Atoms
 pub mod Groups
 pub mod Limits
 pub mod Listing

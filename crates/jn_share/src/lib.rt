@@ -11,6 +11,7 @@
 //! its counterparts by family (`rows`).
 #![tactic(auto)]
 
+mod atoms;
 mod families;
 mod fault;
 mod groups;
@@ -20,6 +21,7 @@ mod paths;
 mod rows;
 mod slots;
 
+pub use atoms::{in_atom, in_type};
 pub use fault::ShareFault;
 pub use groups::Groups;
 pub use slots::Slots;
