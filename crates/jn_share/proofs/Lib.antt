@@ -1,5 +1,7 @@
+pub mod Covers
 pub mod Exact
 pub mod Inside
+pub mod Kinship
 pub mod Making
 pub mod Names
 pub mod PairsFound
@@ -8,4 +10,4 @@ pub mod Reading
 pub mod Refusing
 pub mod Relating
 pub mod Walk
-pub mod Parting
+pub mod Diffs

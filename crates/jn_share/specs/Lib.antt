@@ -4,5 +4,7 @@ pub mod Limits
 pub mod Listing
 pub mod Pairing
 pub mod Parting
+pub mod Parts
+pub mod Prepared
 pub mod Rows
 pub mod Slots

@@ -17,7 +17,9 @@ mod fault;
 mod groups;
 mod listed;
 mod pairs;
+mod parting;
 mod paths;
+mod prepared;
 mod rows;
 mod slots;
 
