@@ -94,7 +94,7 @@ module _ (p : Program) where
 
     -- what is not alike one of two that are alike is not alike the other
     pub unlike_on : (X U W : Path) → IsClass p X → Alike p Same X U → NotAlike p Same X W → NotAlike p Same U W
-    unlike_on X U W c a (by_apart f x) = by_apart f (apart_on X U W f (a.fields f) x)
+    unlike_on X U W c a (by_apart h) = by_apart (λ n. h (λ f x. n f (apart_on X U W f (a.fields f) x)))
     unlike_on X U W c a (by_field f x) = by_field f (other_on X U W f c (a.each f (other_has X W f x)) x)
 
     -- ---- nothing tells one class apart
@@ -154,7 +154,7 @@ module _ (p : Program) where
       other_not V T f o x = other_never V T f o.both.related (λ b. o.same) x
 
       pub unlike_never : (U W : Path) → OneClass p U W → NotAlike p Same U W → ⊥
-      unlike_never U W o (by_apart f x) = o.no_apart f x
+      unlike_never U W o (by_apart h) = h o.no_apart
       unlike_never U W o (by_field f x) = other_never U W f o.related (o.no_diff f) x
 
     -- ---- what is stable has one slot

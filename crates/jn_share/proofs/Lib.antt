@@ -1,5 +1,6 @@
 pub mod Covers
 pub mod Exact
+pub mod FieldLists
 pub mod Inside
 pub mod Kinship
 pub mod Making
@@ -9,5 +10,6 @@ pub mod Partners
 pub mod Reading
 pub mod Refusing
 pub mod Relating
+pub mod SameFields
 pub mod Walk
 pub mod Diffs

@@ -60,9 +60,9 @@ pub record Alike (p : Program) (Same : Path → Path → Type 0) (U W : Path) : 
   pub fields : (f : Name) → HasField p U f ↔ HasField p W f
   pub each : (f : Name) → HasField p U f → SameField p Same U W f
 
--- something tells them apart
+-- something tells them apart: there surely is a field of one that the other hasn't, or one of their fields isn't one
 pub data NotAlike (p : Program) (Same : Path → Path → Type 0) (U W : Path) : Type 0 where
-  by_apart : (f : Name) → IsApart p U W f → NotAlike p Same U W
+  by_apart : (((f : Name) → IsApart p U W f → ⊥) → ⊥) → NotAlike p Same U W
   by_field : (f : Name) → OtherField p Same U W f → NotAlike p Same U W
 
 -- related classes with the same fields, none of which is Diff between them: nothing may tell them apart

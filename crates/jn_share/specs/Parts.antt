@@ -1,11 +1,17 @@
 -- What is asked of two classes while they are told apart.
 use Rattle.std.specs.Prelude.{◌≡◌, ◌<◌, ◌≤◌, ◌↔◌, ℕ, List, [], ◌∷◌, Contains, slice_get, Some, Bool, false, IsTrue}
+use Rattle.std.specs.declared.vec.Vec.{Vec}
+use Rattle.std.specs.declared.alloc.Global.{Global}
 use Rattle.jn_base.specs.declared.tree.Name.{Name}
 use Rattle.jn_base.specs.declared.tree.Program.{Program}
 use Rattle.jn_base.specs.declared.path.Path.{Path as ShownPath}
+use Rattle.jn_base.specs.declared.types.Anchor.{Anchor}
+use Rattle.jn_base.specs.declared.types.Anchor.TheVariants.{Up}
+use Rattle.jn_base.specs.declared.types.Atom.{Atom as ShownAtom}
 use Rattle.jn_base.specs.declared.types.Ty.{Ty}
 use Rattle.jn_base.specs.Paths.{Path}
 use Rattle.jn_table.specs.declared.class.ClassId.{ClassId}
+use Rattle.jn_table.specs.declared.field_types.FieldTy.{FieldTy}
 use Rattle.jn_table.specs.declared.field_types.FieldTypes.{FieldTypes}
 use Rattle.jn_table.specs.declared.table.Table.{Table}
 use Rattle.jn_table.specs.Rows.{IsNumber}
@@ -68,3 +74,20 @@ pub record HangsIn (p : Program) (V : Path) (ty : Ty) : Type 0 where
 -- the two entries are the declarations of the field f of V and of W
 abbrev pub DeclsOf : Program → Table → FieldTypes → Path → ℕ → Path → ℕ → Name → Type 0
 DeclsOf p t types V dv W dw f = IsDecl p t.known.items types.list.items V f dv × IsDecl p t.known.items types.list.items W f dw
+
+-- the anchor is one of `this`
+abbrev pub IsThis : Anchor → Type 0
+IsThis a = (k : ℕ) × (a ≡ Up 0 k)
+
+abbrev pub OfThis : ShownAtom → Type 0
+OfThis x = IsThis x.anchor
+
+-- the entry is that of the field f of V, which is declared at Q
+pub record EntryFor (p : Program) (known : List ShownPath) (V : Path) (f : Name) (x : FieldTy) (Q : Path) : Type 0 where
+  pub number : IsNumber known x.class Q
+  pub declares : FieldDecls p V f Q
+  pub type : IsTyped p Q f x.ty
+
+-- the row of the number, none where there is no such row
+abbrev pub DeclsGiven : List (Vec ℕ Global) → ℕ → List ℕ → Type 0
+DeclsGiven rows k decls = (row : Vec ℕ Global) → slice_get rows k ≡ Some row → decls ≡ row.items

@@ -14,7 +14,7 @@ use Rattle.jn_table.specs.declared.class.Row.{Row}
 use Rattle.jn_table.specs.declared.field_types.FieldTy.{FieldTy}
 use Rattle.jn_table.specs.declared.field_types.FieldTypes.{FieldTypes}
 use Rattle.jn_table.specs.declared.table.Table.{Table}
-use Rattle.jn_table.specs.Rows.{IsNumber}
+use Rattle.jn_table.specs.Rows.{IsNumber, IsRow}
 use Rattle.jn_sem.specs.Sharing.{family_of}
 use Rattle.jn_share.specs.Pairing.{IsAt}
 use Rattle.jn_share.specs.Slots.{IsTyped, SlotsAsked}
@@ -55,7 +55,7 @@ pub record AreDecls (p : Program) (known : List ShownPath) (types : List FieldTy
 pub record IsPrepared (p : Program) (t : Table) (types : List FieldTy) (all : Prepared) : Type 0 where
   pub families : (k : ℕ) (V : Path) (X : Name) → IsAt t.known.items k V → family_of V ≡ Some X → FamilyAt t.known.items all.families.items k V X
   pub classes : (k n : ℕ) → slice_get all.families.items k ≡ Some n → HasEdge all.classes.items n k
-  pub decls : (k : ℕ) (V : Path) (row : Row) → IsAt t.known.items k V → slice_get t.rows.items k ≡ Some row
+  pub decls : (k : ℕ) (V : Path) (row : Row) → IsAt t.known.items k V → IsRow p t.known.items V row
       → (decls : Vec ℕ Global) × (slice_get all.decls.items k ≡ Some decls) × AreDecls p t.known.items types V row.fields.items decls.items
 
 -- of each program that asks for slots, and of which this is prepared, T holds

@@ -11,6 +11,7 @@
 //! its counterparts by family (`rows`).
 #![tactic(auto)]
 
+mod alike;
 mod atoms;
 mod families;
 mod fault;

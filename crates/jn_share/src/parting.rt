@@ -111,7 +111,7 @@ fn covers_of(
 
 /// Whether each class of the type at the view of the first number has a counterpart that is in it at the second, and has the same part.
 /// The type is that of a field of the first, and hangs on `this`.
-fn covers(
+pub fn covers(
     t: &Table,
     g: &Groups,
     all: &Prepared,
