@@ -61,6 +61,22 @@ module _ (p : Program) where
     placed : {V Q R : Path} {f : Name} → IsClass p V → FieldDecls p V f Q → FieldDecls p V f R → Q ≡ R
     placed {V} {Q} {R} {f} c d e = ok.one_place V Q R f c d e
 
+    pub alike_on : (U R W : Path) → IsClass p R → Alike p Same U R → Alike p Same R W → Alike p Same U W
+    alike_on U R W c a b = record {
+      fields = λ f. (λ h. (b.fields f).0 ((a.fields f).0 h), λ h. (a.fields f).1 ((b.fields f).1 h));
+      each = λ f h. both f (a.each f h) (b.each f ((a.fields f).0 h)) c;
+    } where
+      both : (f : Name) → SameField p Same U R f → SameField p Same R W f → IsClass p R → SameField p Same U W f
+      both f s r k =
+          let q : s.declared ≡ r.declared = placed k s.at_other r.at_one in
+          record {
+            declared = s.declared;
+            at_one = s.at_one;
+            at_other = subst (FieldDecls p W f) (sym q) r.at_other;
+            forth = λ t i h. covers_on (s.forth t i h) (r.forth t (subst (λ (Q : Path). IsTyped p Q f t) q i) h);
+            back = λ t i h. covers_on (r.back t (subst (λ (Q : Path). IsTyped p Q f t) q i) h) (s.back t i h);
+          }
+
     uncovered_on : {V T X : Path} {t : Ty} → Covers p Same X V t → Uncovered p Same X T t → Uncovered p Same V T t
     uncovered_on {V} {T} {X} {t} c u =
         let w = c u.class u.is_in in
@@ -99,7 +115,7 @@ module _ (p : Program) where
 
     -- ---- nothing tells one class apart
 
-    one_turned : (U W : Path) → OneClass p U W → OneClass p W U
+    pub one_turned : (U W : Path) → OneClass p U W → OneClass p W U
     one_turned U W o = record {
       related = (sharing_laws p).turned U W o.related;
       no_apart = λ f x. o.no_apart f (apart_turned f x);

@@ -1,6 +1,7 @@
 pub mod Covers
 pub mod Exact
 pub mod FieldLists
+pub mod Growing
 pub mod Inside
 pub mod Kinship
 pub mod Making
@@ -11,5 +12,6 @@ pub mod Reading
 pub mod Refusing
 pub mod Relating
 pub mod SameFields
+pub mod Steps
 pub mod Walk
 pub mod Diffs

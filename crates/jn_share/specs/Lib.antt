@@ -6,5 +6,6 @@ pub mod Pairing
 pub mod Parting
 pub mod Parts
 pub mod Prepared
+pub mod Refining
 pub mod Rows
 pub mod Slots

@@ -21,6 +21,7 @@ mod pairs;
 mod parting;
 mod paths;
 mod prepared;
+mod refining;
 mod rows;
 mod slots;
 
