@@ -1,5 +1,5 @@
 -- How the paths of numbers are added, one by one, and the supers that they are.
-use Rattle.std.proofs.Common.{◌≡◌, ◌<◌, ◌≤◌, ◌+◌, ◌↔◌, ◌⊎◌, inl, inr, ℕ, zero, suc, List, [], ◌∷◌, ◌++◌, length, reverse, take, slice_get, Some, Contains, sym, ap, ◌∙◌, subst, arith, append_assoc}
+use Rattle.std.proofs.Common.{◌≡◌, ◌<◌, ◌≤◌, ◌+◌, ◌⊎◌, inl, inr, ℕ, zero, suc, List, [], ◌∷◌, ◌++◌, length, reverse, take, slice_get, Some, Contains, sym, ap, ◌∙◌, subst, arith, append_assoc}
 use Rattle.std.proofs.lemmas.List.{reverse-reverse, take_more, take_all}
 use Rattle.std.proofs.lemmas.Option.{slice_get_within, slice_get_past, get_or_from_slice_get}
 use Rattle.jn_reach.specs.Each.{Each}
@@ -12,8 +12,9 @@ use Rattle.jn_table.specs.declared.class.ClassId.{ClassId}
 use Rattle.jn_base.specs.Supers.{Sup}
 use Rattle.jn_base.specs.Universe.{InUniverse}
 use Rattle.jn_table.specs.declared.table.Table.{Table}
-use Rattle.jn_table.specs.Rows.{IsNumber, AreClasses}
-use Rattle.jn_table.specs.Tables.{IsFilled}
+use Rattle.std.specs.List.Sorted.{IsStrictlySortedBy}
+use Rattle.jn_table.specs.Rows.{IsNumber, ArePaths, AreClasses}
+use Rattle.jn_table.specs.Tables.{IsFilled, numbered}
 use Rattle.jn_bounds.specs.Bounds.{HasNone, AddsPaths}
 use Rattle.jn_bounds.proofs.Known.{sup_known, none_known, itself_below}
 
@@ -54,17 +55,18 @@ all_added known ids paths before now i past each so_far =
     so_far ∙ ap (λ (z : List Path). before ++ z) (take_all i paths over)
 
 -- of a path with a number: the paths at the numbers of its row
-pub supers_numbered : (p : Program) (known : List ShownPath) (R : Path) (ids : List ClassId) (all : List Path) → AreClasses p known (Sup p R) ids
-    → AddsPaths known ids [] all → (S : Path) → Contains all S ↔ Sup p R S
-supers_numbered p known R ids all c adds S = subst (λ (ps : List Path). Contains ps S ↔ Sup p R S) (sym (adds c.paths c.numbered)) (c.are.exact S)
+pub supers_numbered : (p : Program) (t : Table) (R : Path) (ids : List ClassId) (all : List Path) → AreClasses p (numbered t) (Sup p R) ids
+    → AddsPaths t ids [] all → ArePaths p (Sup p R) all
+supers_numbered p t R ids all c adds = subst (λ (ps : List Path). ArePaths p (Sup p R) ps) (sym (adds c.paths c.numbered)) c.are
 
 -- of a path without one: the path alone
 only_one : (R S : Path) → Contains (R ∷ []) S → R ≡ S
 only_one R S (zero, l, e) = e
 only_one R S (suc k, l, e) = absurd (omega (arith, l))
 
-pub supers_none : (p : Program) (t : Table) (R : Path) → IsFilled p t → HasNone t R → (S : Path) → Contains (R ∷ []) S ↔ Sup p R S
-supers_none p t R f n S = (λ c. itself_below p R S (only_one R S c), λ s. by_super (sup_known s)) where
-  by_super : (R ≡ S) ⊎ (InUniverse p R × InUniverse p S) → Contains (R ∷ []) S
-  by_super (inl e) = (0, omega arith, e)
-  by_super (inr u) = absurd (none_known p t R f n u.0)
+pub supers_none : (p : Program) (t : Table) (R : Path) → IsFilled p t → HasNone t R → ArePaths p (Sup p R) (R ∷ [])
+unfolding IsStrictlySortedBy
+supers_none p t R f n = record { exact = λ S. (λ c. itself_below p R S (only_one R S c), λ s. by_super S (sup_known s)); in_order = (tt, tt) } where
+  by_super : (S : Path) → (R ≡ S) ⊎ (InUniverse p R × InUniverse p S) → Contains (R ∷ []) S
+  by_super S (inl e) = (0, omega arith, e)
+  by_super S (inr u) = absurd (none_known p t R f n u.0)

@@ -1,12 +1,12 @@
-ghost use Rattle.std.specs.Prelude.{◌≡◌, ◌++◌, ◌∷◌, [], Contains, length, reverse, drop, IsTrue, ◌↔◌, IfOk, OnOk, IfSome, IfNone};
+ghost use Rattle.std.specs.Prelude.{◌≡◌, ◌++◌, ◌∷◌, [], length, reverse, drop, IsTrue, ◌↔◌, IfOk, OnOk, IfSome, IfNone};
 ghost use Rattle.jn_base.specs.declared.tree.Program.{Program};
 ghost use Rattle.jn_base.specs.declared.tree.Kind.TheVariants as kinds;
 ghost use Rattle.jn_base.specs.Universe.{InUniverse};
-ghost use Rattle.jn_base.specs.Paths.{shown, Path as APath};
+ghost use Rattle.jn_base.specs.Paths.{shown};
 ghost use Rattle.jn_base.specs.Supers.{Sup};
 ghost use Rattle.jn_base.specs.Members.{HasKind};
-ghost use Rattle.jn_table.specs.Rows.{IsNumber, HasField};
-ghost use Rattle.jn_table.specs.Tables.{IsFilledAt, IsFilled};
+ghost use Rattle.jn_table.specs.Rows.{ArePaths, HasField};
+ghost use Rattle.jn_table.specs.Tables.{StandsFor, IsFilledAt, IsFilled};
 ghost use Rattle.jn_bounds.specs.Bounds.{HasNone, AddsPaths};
 
 use jn_base::compare::{has_name, same_names};
@@ -103,7 +103,7 @@ impl Bound {
     /// Its number in the table, where it has one.
     pub fn number(&self, t: &Table) -> Option<ClassId>
         ensures filled { IfSome result (λ id. IsFilledAt t.now id) }
-        ensures some { IfSome result (λ id. IsNumber t.now.known.items id self.now) }
+        ensures some { IfSome result (λ id. StandsFor t.now id self.now) }
         ensures none { IfNone result (HasNone t.now self.now) }
     {
         t.find(&self.path)
@@ -142,9 +142,9 @@ impl Bound {
         }
     }
 
-    /// The supers of the path, itself among them, by a table in which the universe is filled.
+    /// The supers of the path, itself among them, each once and in class order, by a table in which the universe is filled.
     pub fn supers(&self, alloc: Global, t: &Table) -> Result<Vec<Bound>, AllocError>
-        ensures { IfOk result (λ all. (p : Program) → IsFilled p t.now → (R : APath) → Contains all.items R ↔ Sup p self.now R) }
+        ensures { IfOk result (λ all. (p : Program) → IsFilled p t.now → ArePaths p (Sup p self.now) all.items) }
     {
         let mut all = Vec::new(alloc);
         match self.number(t) {
@@ -185,7 +185,7 @@ fn add_paths(
     ids: &[ClassId],
     all: &mut Vec<Bound>,
 ) -> Result<(), AllocError>
-    ensures { OnOk result (AddsPaths t.now.known.items ids.now all.old.items all.new.items) }
+    ensures { OnOk result (AddsPaths t.now ids.now all.old.items all.new.items) }
 {
     let known = t.known();
     for id in ids {

@@ -8,6 +8,3 @@
 mod bound;
 
 pub use bound::Bound;
-
-#[cfg(test)]
-mod tests;

@@ -6,13 +6,3 @@ ghost use Rattle.jn_drive.specs.Again.{ShownAgain};
 pub fn shown_again()
     ensures { ShownAgain }
 {}
-
-#[cfg(test)]
-mod tests {
-    use super::*;
-
-    #[test]
-    fn the_law_holds() {
-        shown_again();
-    }
-}

@@ -12,12 +12,6 @@ mod plain;
 mod put;
 mod read;
 mod status;
-#[cfg(test)]
-mod tests;
-#[cfg(test)]
-mod tests_check;
-#[cfg(test)]
-mod tests_show;
 mod twice;
 mod unknown;
 mod words;

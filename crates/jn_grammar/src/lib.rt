@@ -7,21 +7,3 @@
 pub mod fault;
 pub mod laws;
 pub mod shape;
-
-#[cfg(test)]
-mod tests {
-    use super::laws::{
-        checked_programs, checked_sources, whole_expressions, whole_programs, whole_types,
-        whole_views,
-    };
-
-    #[test]
-    fn the_laws_are_there() {
-        whole_expressions();
-        whole_types();
-        whole_views();
-        whole_programs();
-        checked_programs();
-        checked_sources();
-    }
-}

@@ -14,6 +14,3 @@ mod writing;
 
 pub use reading::read_image;
 pub use writing::write_image;
-
-#[cfg(test)]
-mod tests;

@@ -12,6 +12,4 @@ mod terms;
 
 pub use pool::{Pool, TyId};
 pub use scope::{Bind, Scope};
-
-#[cfg(test)]
-mod tests;
+pub use terms::copied_type;

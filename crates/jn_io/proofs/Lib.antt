@@ -1,2 +1,1 @@
 pub mod Saves
-pub mod Pieces

@@ -15,8 +15,6 @@ mod mem_store;
 mod sink;
 mod std_sink;
 mod store;
-#[cfg(test)]
-mod tests;
 
 pub use dir_store::DirStore;
 pub use faults::{Failed, SaveFault};

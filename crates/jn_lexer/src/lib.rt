@@ -12,8 +12,6 @@ ghost use Rattle.jn_base.specs.declared.token.LexFault.{LexFault as Faulty};
 ghost use Rattle.jn_lexer.specs.Lexing.{IsAnswer, IsFaultOf, AreInOrder};
 
 mod front;
-#[cfg(test)]
-mod tests;
 mod words;
 
 use crate::front::{Piece, front};

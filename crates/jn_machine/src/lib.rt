@@ -22,6 +22,3 @@ mod widths;
 
 pub use machine::Machine;
 pub use run::Halt;
-
-#[cfg(test)]
-mod tests;

@@ -4,6 +4,3 @@
 mod sets;
 
 pub use sets::{add, drop, has, join, within};
-
-#[cfg(test)]
-mod tests;

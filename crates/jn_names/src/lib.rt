@@ -23,6 +23,3 @@ pub use jn_base::names::{Resolved, Role, Spot, Var, Vars};
 pub use members::{Least, Members};
 pub use numbering::mask_names;
 pub use resolving::{resolve, resolve_type, resolve_view};
-
-#[cfg(test)]
-mod tests;

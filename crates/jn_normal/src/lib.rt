@@ -11,7 +11,4 @@ pub mod rows;
 mod substitution;
 
 pub use conjunct::{Conjunct, further};
-pub use substitution::{normal, subst};
-
-#[cfg(test)]
-mod tests;
+pub use substitution::{moved, normal, subst};

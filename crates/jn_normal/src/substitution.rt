@@ -27,7 +27,7 @@ fn replacement(from: &[u32], to: &[u32], q: u32) -> u32
 }
 
 /// The anchor with its path replaced.
-fn moved(from: &[u32], to: &[u32], a: Anchor) -> Anchor
+pub fn moved(from: &[u32], to: &[u32], a: Anchor) -> Anchor
     requires { length from.now ≡ length to.now }
     ensures { result ≡ moved_anchor (swapped from.now to.now) a }
 {

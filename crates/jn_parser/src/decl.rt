@@ -14,6 +14,7 @@ ghost use Rattle.jn_parser.specs.Giving.{Gives};
 
 use crate::cursor::{behind, name, passed, starts, starts_key, syntax, take};
 use crate::fault::Stop;
+use crate::rows::joined;
 use crate::stmt::{block, is_in_body, starts_name};
 use crate::types::{type_term, view};
 use jn_base::refusal::Limit;
@@ -103,15 +104,12 @@ fn next_params(alloc: Global, left: u32, ts: &[Lexeme]) -> Result<(Items<Param>,
 fn params(alloc: Global, left: u32, ts: &[Lexeme]) -> Result<(Items<Param>, &[Lexeme]), Stop>
     ensures { Gives (λ x. (x.0, x.1.now)) result (params_in true left ts.now) }
 {
-    let mut found = Items::new(alloc);
     if starts(Mark::CloseParen, ts) {
-        return Ok((found, ts));
+        return Ok((Items::new(alloc), ts));
     }
     let (first, rest) = param(alloc, left, 1, ts)?;
     let (others, rest) = next_params(alloc, left, rest)?;
-    found.push(first)?;
-    found.append(others)?;
-    Ok((found, rest))
+    Ok((joined(alloc, first, others)?, rest))
 }
 
 /// The parameters behind a `(`, from that mark on, with its `)`.
@@ -169,15 +167,12 @@ fn next_rels(
 fn sharing(alloc: Global, left: u32, ts: &[Lexeme]) -> Result<(Items<Constraint>, &[Lexeme]), Stop>
     ensures { Gives (λ x. (x.0, x.1.now)) result (sharing_in left ts.now) }
 {
-    let mut found = Items::new(alloc);
     if !starts_key(Keyword::Sharing, ts) {
-        return Ok((found, ts));
+        return Ok((Items::new(alloc), ts));
     }
     let (first, rest) = rel(alloc, left, behind(ts))?;
     let (others, rest) = next_rels(alloc, left, rest)?;
-    found.push(first)?;
-    found.append(others)?;
-    Ok((found, rest))
+    Ok((joined(alloc, first, others)?, rest))
 }
 
 /// A further name of a list, from the ampersand before it on.
@@ -207,15 +202,12 @@ fn next_names(alloc: Global, ts: &[Lexeme]) -> Result<(Items<Named>, &[Lexeme]),
 fn listed(alloc: Global, key: Keyword, ts: &[Lexeme]) -> Result<(Items<Named>, &[Lexeme]), Stop>
     ensures { Gives (λ x. (x.0, x.1.now)) result (list_in key ts.now) }
 {
-    let mut found = Items::new(alloc);
     if !starts_key(key, ts) {
-        return Ok((found, ts));
+        return Ok((Items::new(alloc), ts));
     }
     let (first, rest) = name(behind(ts))?;
     let (others, rest) = next_names(alloc, rest)?;
-    found.push(first)?;
-    found.append(others)?;
-    Ok((found, rest))
+    Ok((joined(alloc, first, others)?, rest))
 }
 
 /// A method of this result and name, from its `(` on.

@@ -13,6 +13,7 @@ ghost use Rattle.jn_parser.specs.Levels.{operand_in};
 
 use crate::cursor::{behind, name, passed, place_of, starts, starts_key, syntax, take};
 use crate::fault::Stop;
+use crate::rows::joined;
 use crate::types::{term, view};
 use jn_base::refusal::Limit;
 use jn_base::tree::{Expr, Level, Link, Named, Node, Op, Place, Suffix, Term, ViewTerm};
@@ -421,15 +422,12 @@ fn more_args(alloc: Global, left: u32, ts: &[Lexeme]) -> Result<(Items<Expr>, &[
 fn args(alloc: Global, left: u32, ts: &[Lexeme]) -> Result<(Items<Expr>, &[Lexeme]), Stop>
     ensures { Gives (λ x. (x.0, x.1.now)) result (args_in (level left) ts.now) }
 {
-    let mut found = Items::new(alloc);
     if starts(Mark::CloseParen, ts) {
-        return Ok((found, ts));
+        return Ok((Items::new(alloc), ts));
     }
     let (first, rest) = expr(alloc, left, ts)?;
     let (others, rest) = more_args(alloc, left, rest)?;
-    found.push(first.into_inner())?;
-    found.append(others)?;
-    Ok((found, rest))
+    Ok((joined(alloc, first.into_inner(), others)?, rest))
 }
 
 /// The expression behind a mark that opens, from that mark on.

@@ -24,8 +24,6 @@ mod place;
 mod rows;
 mod spelling;
 mod stmt;
-#[cfg(test)]
-mod tests;
 mod types;
 mod words;
 

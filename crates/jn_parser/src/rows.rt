@@ -1,6 +1,9 @@
-//! A step over items.
+//! A step over items, and items put together.
 
-ghost use Rattle.std.specs.Prelude.{◌≡◌, ◌∷◌, [], MatchOption};
+ghost use Rattle.std.specs.Prelude.{◌≡◌, ◌∷◌, [], IfOk, MatchOption};
+
+use sqlite_items::Items;
+use std::alloc::{AllocError, Global};
 
 /// The first of some items, and those behind it.
 pub fn split_first<T: Copy>(items: &[T]) -> Option<(T, &[T])>
@@ -10,4 +13,14 @@ pub fn split_first<T: Copy>(items: &[T]) -> Option<(T, &[T])>
         [] => None,
         [first, others @ ..] => Some((*first, others)),
     }
+}
+
+/// The first, and the others behind it.
+pub fn joined<T: Drop>(alloc: Global, first: T, others: Items<T>) -> Result<Items<T>, AllocError>
+    ensures { IfOk result (λ all. all ≡ first ∷ others) }
+{
+    let mut all = Items::new(alloc);
+    all.push(first)?;
+    all.append(others)?;
+    Ok(all)
 }

@@ -10,6 +10,7 @@ ghost use Rattle.jn_parser.specs.Giving.{Gives};
 use crate::cursor::{behind, name, passed, place_of, starts, starts_key, syntax, take};
 use crate::expr::{expr, posted, prim, suffixes};
 use crate::fault::Stop;
+use crate::rows::joined;
 use crate::types::{after_names, masks, next_atoms, type_term};
 use jn_base::refusal::Limit;
 use jn_base::tree::{Expr, Name, Named, Place, Stmt, Suffix, Term, TypeTerm};
@@ -55,17 +56,17 @@ fn local_name(used: u32, ts: &[Lexeme]) -> Result<(Named, u32, &[Lexeme]), Stop>
 
 /// An expression and its semicolon.
 #[tactic(auto, unfolding(jn_grammar::specs::ReadStmts::value_in))]
-fn value(alloc: Global, left: u32, ts: &[Lexeme]) -> Result<(Expr, &[Lexeme]), Stop>
+fn value(alloc: Global, left: u32, ts: &[Lexeme]) -> Result<(Boxed<Expr>, &[Lexeme]), Stop>
     ensures { Gives (λ x. (x.0, x.1.now)) result (value_in left ts.now) }
 {
     let (e, rest) = expr(alloc, left, ts)?;
     let (_, rest) = take(Mark::Semicolon, rest)?;
-    Ok((e.into_inner(), rest))
+    Ok((e, rest))
 }
 
 /// The expression behind a `(`, from that mark on, with its `)`.
 #[tactic(auto, unfolding(jn_grammar::specs::ReadStmts::tested_in))]
-fn tested(alloc: Global, left: u32, ts: &[Lexeme]) -> Result<(Expr, &[Lexeme]), Stop>
+fn tested(alloc: Global, left: u32, ts: &[Lexeme]) -> Result<(Boxed<Expr>, &[Lexeme]), Stop>
     ensures { Gives (λ x. (x.0, x.1.now)) result (tested_in left ts.now) }
 {
     if left == 0 {
@@ -73,11 +74,11 @@ fn tested(alloc: Global, left: u32, ts: &[Lexeme]) -> Result<(Expr, &[Lexeme]), 
     }
     let (e, rest) = expr(alloc, left - 1, behind(ts))?;
     let (_, rest) = take(Mark::CloseParen, rest)?;
-    Ok((e.into_inner(), rest))
+    Ok((e, rest))
 }
 
 #[tactic(auto, unfolding(jn_grammar::specs::ReadStmts::test_in))]
-fn test(alloc: Global, left: u32, ts: &[Lexeme]) -> Result<(Expr, &[Lexeme]), Stop>
+fn test(alloc: Global, left: u32, ts: &[Lexeme]) -> Result<(Boxed<Expr>, &[Lexeme]), Stop>
     ensures { Gives (λ x. (x.0, x.1.now)) result (test_in left ts.now) }
 {
     if !starts(Mark::OpenParen, ts) {
@@ -95,7 +96,7 @@ fn leave(alloc: Global, left: u32, at: Place, ts: &[Lexeme]) -> Result<(Stmt, &[
         return Ok((Stmt::Return(None, at), behind(ts)));
     }
     let (e, rest) = value(alloc, left, ts)?;
-    Ok((Stmt::Return(Some(e), at), rest))
+    Ok((Stmt::Return(Some(e.into_inner()), at), rest))
 }
 
 /// What a `print` at `at` prints: an expression or a text.
@@ -235,7 +236,7 @@ fn local_end(
     let (x, used, rest) = local_name(used, ts)?;
     let (_, rest) = take(Mark::Equals, rest)?;
     let (e, rest) = value(alloc, left, rest)?;
-    Ok((Stmt::Local(fixed, ty, x, e), used, rest))
+    Ok((Stmt::Local(fixed, ty, x, e.into_inner()), used, rest))
 }
 
 /// A local, from its type on.
@@ -263,10 +264,8 @@ fn type_rest(
 ) -> Result<(TypeTerm, &[Lexeme]), Stop>
     ensures { Gives (λ x. (x.0, x.1.now)) result (type_rest_in true left first ts.now) }
 {
-    let mut terms = Items::new(alloc);
-    terms.push(first)?;
     let (others, rest) = next_atoms(alloc, left, ts)?;
-    terms.append(others)?;
+    let terms = joined(alloc, first, others)?;
     let (masks, rest) = masks(alloc, rest)?;
     Ok((TypeTerm::Class(terms, masks), rest))
 }
@@ -300,7 +299,7 @@ fn assign(
     ensures { Gives (λ x. ((x.0, x.1), x.2.now)) result (assign_in true left used name ts.now) }
 {
     let (e, rest) = value(alloc, left, ts)?;
-    Ok((Stmt::Assign(name, e), used, rest))
+    Ok((Stmt::Assign(name, e.into_inner()), used, rest))
 }
 
 /// What is set in the last part behind a Prim at `at`, behind the `=`.
@@ -316,10 +315,11 @@ fn set(
 ) -> Result<(Stmt, u32, &[Lexeme]), Stop>
     ensures { Gives (λ x. ((x.0, x.1), x.2.now)) result (set_in true left used at e parts ts.now) }
 {
-    let (value, rest) = value(alloc, left, ts)?;
     let (front, last) = split_last(parts);
-    let target = posted(alloc, at, e, front)?.into_inner();
-    Ok((Stmt::Set(target, last, value), used, rest))
+    let target = posted(alloc, at, e, front)?;
+    let (value, rest) = value(alloc, left, ts)?;
+    let set = Stmt::Set(target.into_inner(), last, value.into_inner());
+    Ok((set, used, rest))
 }
 
 /// What stands behind a Prim and its parts, of this shape. `first` is the first word, and its place that of the Prim.
@@ -447,7 +447,7 @@ fn choice(
     let (e, rest) = test(alloc, left, ts)?;
     let (body, used, rest) = block(alloc, left, used, rest)?;
     let (other, used, rest) = otherwise(alloc, left, used, rest)?;
-    Ok((Stmt::If(e, body, other, at), used, rest))
+    Ok((Stmt::If(e.into_inner(), body, other, at), used, rest))
 }
 
 /// What stands behind a `while` at `at`.
@@ -464,7 +464,7 @@ fn turns(
 {
     let (e, rest) = test(alloc, left, ts)?;
     let (body, used, rest) = block(alloc, left, used, rest)?;
-    Ok((Stmt::While(e, body, at), used, rest))
+    Ok((Stmt::While(e.into_inner(), body, at), used, rest))
 }
 
 #[cycle(stmt)]

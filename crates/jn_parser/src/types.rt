@@ -11,6 +11,7 @@ ghost use Rattle.jn_parser.specs.Giving.{Gives};
 
 use crate::cursor::{behind, name, passed, starts, starts_key, syntax, take, take_key};
 use crate::fault::Stop;
+use crate::rows::joined;
 use jn_base::refusal::Limit;
 use jn_base::tree::{Head, Name, Named, Place, Ref, Term, TypeTerm, ViewTerm};
 use jn_base::word::{Keyword, Lexeme, Mark, Word};
@@ -326,10 +327,7 @@ fn atoms(alloc: Global, left: u32, ts: &[Lexeme]) -> Result<(Items<Term>, &[Lexe
 {
     let (first, rest) = atom(alloc, left, 1, ts)?;
     let (others, rest) = next_atoms(alloc, left, rest)?;
-    let mut terms = Items::new(alloc);
-    terms.push(first)?;
-    terms.append(others)?;
-    Ok((terms, rest))
+    Ok((joined(alloc, first, others)?, rest))
 }
 
 #[tactic(auto, unfolding(jn_grammar::specs::ReadTypes::class_type_in))]

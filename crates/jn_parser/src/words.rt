@@ -142,6 +142,18 @@ fn table(alloc: Global, seen: &[Vec<u8>]) -> Result<Items<Text>, AllocError>
     Ok(texts)
 }
 
+/// The words of the tokens, and what stands behind them.
+fn all_words(alloc: Global, bytes: &[u8], scanned: &Scanned) -> Result<Seen, AllocError>
+    requires within { length bytes.now ≤ 1_048_576 }
+    requires lexed { TokensOf bytes.now scanned.now.tokens.items scanned.now.fault }
+    requires in_order { AreInOrder 0 scanned.now.tokens.items (length bytes.now) }
+    ensures { IfOk result (λ m. AreWordsOf bytes.now (map (λ k. text k.items) m.names.keys) (map (λ k. text k.items) m.texts.keys) m.words.items) }
+{
+    let mut seen = mentioned(alloc, bytes, scanned.tokens.as_slice())?;
+    seen.words.push(last_word(bytes, scanned.fault))?;
+    Ok(seen)
+}
+
 /// The words of a source, of which these are the tokens.
 pub fn words(alloc: Global, bytes: &[u8], scanned: &Scanned) -> Result<Wording, AllocError>
     requires within { length bytes.now ≤ 1_048_576 }
@@ -149,14 +161,10 @@ pub fn words(alloc: Global, bytes: &[u8], scanned: &Scanned) -> Result<Wording, 
     requires in_order { AreInOrder 0 scanned.now.tokens.items (length bytes.now) }
     ensures { IfOk result (λ w. AreWordsOf bytes.now w.names w.texts w.words.items) }
 {
-    let Seen {
-        mut words,
-        names,
-        texts,
-    } = mentioned(alloc, bytes, scanned.tokens.as_slice())?;
-    words.push(last_word(bytes, scanned.fault))?;
-    let names = table(alloc, names.as_slice())?;
-    let texts = table(alloc, texts.as_slice())?;
+    let seen = all_words(alloc, bytes, scanned)?;
+    let names = table(alloc, seen.names.as_slice())?;
+    let texts = table(alloc, seen.texts.as_slice())?;
+    let Seen { words, .. } = seen;
     Ok(Wording {
         words,
         names,

@@ -16,8 +16,6 @@ mod exprs;
 mod pieces;
 mod stmts;
 mod symbol;
-#[cfg(test)]
-mod tests;
 
 use crate::decls::print_decl;
 use crate::pieces::put;

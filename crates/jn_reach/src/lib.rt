@@ -31,8 +31,6 @@ mod laws;
 mod lists;
 mod pairs;
 mod search;
-#[cfg(test)]
-mod tests;
 
 pub use cycle::{first_on_cycle, has_edge};
 pub use laws::{chains_are_least, classes_are_least, origins_are_one, sets_are_least};

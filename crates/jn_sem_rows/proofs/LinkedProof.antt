@@ -29,22 +29,22 @@ use Rattle.jn_sem.specs.Terms.{FieldTypeIs}
 use Rattle.jn_sem_rows.specs.SlotsExample.{base, disp, Lit, next, base_decl, disp_decl, in_base, in_disp, named_type, field_of, slot, linked, Linked}
 use Rattle.jn_sem_rows.proofs.SlotTools.{above_base, the_related, back, in_namespace, is_flat, type_of_name, in_at, at_in, stands_in_base, one_name, bare, IsLit, field_place, which, with_field}
 
-abbrev own : List Inside
+abbrev pub own : List Inside
 own = class_in Lit [] (field_of Lit next ∷ []) ∷ []
 
-has_lit : inner_has linked base Lit anything ≡ true
+pub has_lit : inner_has linked base Lit anything ≡ true
 has_lit = simp (outs-Inner)
 
-lit_class : inner_has linked base Lit is_class ≡ true
+pub lit_class : inner_has linked base Lit is_class ≡ true
 lit_class = simp (outs-Inner)
 
-is_flat_here : inners is_flat linked ≡ true
+pub is_flat_here : inners is_flat linked ≡ true
 is_flat_here = simp (outs-Inner, outs-Slot)
 
-lits_only : inners one_name linked ≡ true
+pub lits_only : inners one_name linked ≡ true
 lits_only = simp (outs-Inner)
 
-bare_tops : tops bare linked ≡ true
+pub bare_tops : tops bare linked ≡ true
 bare_tops = simp (outs-Inner)
 
 in_base_only : inners (λ A d. same A base) linked ≡ true
@@ -53,7 +53,7 @@ in_base_only = simp (outs-Inner)
 abbrev lit_decl : Decl
 lit_decl = declaration kind.Class 1 Lit [] (field_of Lit next ∷ [])
 
-abbrev field_next : Field
+abbrev pub field_next : Field
 field_next = record { ty = named_type Lit; name = word next }
 
 own_are : nested own ≡ lit_decl ∷ []
@@ -80,13 +80,13 @@ field_is f x h =
     let e = stands_is h.decl h.stands in
     alone field_next x (subst (λ (fs : List Field). Contains fs x) lit_fields (subst (λ (d : Decl). Contains (fields d.members) x) (sym e) h.has))
 
-place : (R : Path) (f : Name) (x : Field) → FieldAt linked R f x → R ≡ in_base Lit
+pub place : (R : Path) (f : Name) (x : Field) → FieldAt linked R f x → R ≡ in_base Lit
 place R f x h =
     let at = field_place own [] is_flat_here lits_only bare_tops R f x h in
     let k = subst (λ (Q : Path). FieldAt linked Q f x) at.1 h in
     at.1 ∙ ap (λ (n : Name). Lit ∷ n ∷ []) (same_name at.0 base (at_inner linked (λ A d. same A base) in_base_only Lit at.0 k.decl k.stands))
 
-next_at : FieldAt linked (in_base Lit) next field_next
+pub next_at : FieldAt linked (in_base Lit) next field_next
 next_at = record {
   decl = lit_decl;
   stands = stands_in_base own [] lit_decl (subst (λ (ds : List Decl). Contains ds lit_decl) (sym own_are) (at_first lit_decl []));
@@ -97,7 +97,7 @@ next_at = record {
 lit_in_base : Member linked (base ∷ []) Lit
 lit_in_base = inner_member linked base base Lit itself has_lit
 
-next_type : (f : Name) → FieldTypeIs linked (in_base Lit) f (named_type Lit) (in_namespace Lit)
+pub next_type : (f : Name) → FieldTypeIs linked (in_base Lit) f (named_type Lit) (in_namespace Lit)
 next_type f = type_of_name linked is_flat_here Lit Lit f lit_in_base (inner_class linked (in_base Lit) base Lit itself lit_class)
 
 same_type : (a b : Ty) → ◌≡◌ {A = Result Ty Refusal} (Ok a) (Ok b) → a ≡ b
@@ -115,19 +115,19 @@ type_is Q f x t h k =
 
 -- ---- the two classes
 
-lits : Related linked (in_disp Lit) (in_base Lit)
+pub lits : Related linked (in_disp Lit) (in_base Lit)
 lits = the_related own [] Lit has_lit lit_class
 
-lits_back : Related linked (in_base Lit) (in_disp Lit)
+pub lits_back : Related linked (in_base Lit) (in_disp Lit)
 lits_back = back own [] lits
 
-base_itself : Related linked (in_base Lit) (in_base Lit)
+pub base_itself : Related linked (in_base Lit) (in_base Lit)
 base_itself = record { one = lits.other; other = lits.other; linked = link.itself }
 
-disp_itself : Related linked (in_disp Lit) (in_disp Lit)
+pub disp_itself : Related linked (in_disp Lit) (in_disp Lit)
 disp_itself = record { one = lits.one; other = lits.one; linked = link.itself }
 
-to_base : (W : Path) → IsLit W → Sup linked W (in_base Lit)
+pub to_base : (W : Path) → IsLit W → Sup linked W (in_base Lit)
 to_base W (inl e) = subst (λ (P : Path). Sup linked P (in_base Lit)) (sym e) itself
 to_base W (inr e) = subst (λ (P : Path). Sup linked P (in_base Lit)) (sym e) (sup_inherited (above_base own []) lit_in_base)
 
@@ -221,10 +221,10 @@ not_before Q (inr e) b = greater_less (subst (λ (P : Path). Before linked P (in
 one_slot : (V : Path) → Related linked (in_base Lit) V → IsLit V → OneSlot linked (in_base Lit) V next
 one_slot V r w = record { both = record { related = r; in_one = next_of (in_base Lit) (inl refl); in_other = next_of V w }; same = λ d. no_diff _ d }
 
-abbrev slot_next : Slot
+abbrev pub slot_next : Slot
 slot_next = slot (in_base Lit) next
 
-first_next : (V : Path) → Related linked (in_base Lit) V → IsLit V → IsSlot linked V next slot_next
+pub first_next : (V : Path) → Related linked (in_base Lit) V → IsLit V → IsSlot linked V next slot_next
 first_next V r w = record {
   field = refl;
   first = record { holds = one_slot V r w; first = λ Q o b. not_before Q (one_of o.both) b };

@@ -19,7 +19,7 @@ use Rattle.jn_base.specs.Members.{HasKind, FieldAt}
 use Rattle.jn_base.specs.Atoms.{Atom, atom, shown_atom, no_masks, Among, first, later}
 use Rattle.jn_base.specs.ExampleTrees.{word}
 use Rattle.jn_base.specs.Resolve.{found, in_class}
-use Rattle.jn_base.specs.ResolveTypes.{mask_names, MasksAre, none, first as first_term, one}
+use Rattle.jn_base.specs.ResolveTypes.{mask_names, MasksAre, OneDepth, none, first as first_term, one}
 use Rattle.jn_base.proofs.NameTests.{in_cons, in_none, has_in, first as at_first, later as behind}
 use Rattle.jn_base.proofs.SuperLaws.{member_heir, sup_inherited, sup_level}
 use Rattle.jn_base.proofs.ExampleTools.{tops, at_top, has_only, inners, at_inner, top_member, top_above, anything, inner_has, inner_member, inner_class, is_class}
@@ -73,9 +73,9 @@ is_flat A d = nat_eq (length (nested d.members)) 0
 nought : (n : ℕ) → nat_eq n 0 ≡ true → n ≡ 0
 nought n e = grind arith
 
-none_of : (ds : List Decl) (d : Decl) → nat_eq (length ds) 0 ≡ true → Contains ds d → ⊥
-none_of [] d e c = in_none d c
-none_of (x ∷ ds) d e c = absurd (omega (arith, nought (length (x ∷ ds)) e))
+pub none_of : {X : Type 0} (xs : List X) (x : X) → nat_eq (length xs) 0 ≡ true → Contains xs x → ⊥
+none_of [] x e c = in_none x c
+none_of (y ∷ xs) x e c = absurd (omega (arith, nought (length (y ∷ xs)) e))
 
 flat : (p : Program) → inners is_flat p ≡ true → (A B : Name) (N : Name) → Declared p (N ∷ A ∷ B ∷ []) → ⊥
 flat p e A B N x =
@@ -88,7 +88,7 @@ two_long (A ∷ []) e = absurd (omega (arith, e))
 two_long (A ∷ B ∷ []) e = (A, B, refl)
 two_long (A ∷ B ∷ C ∷ S) e = absurd (omega (arith, e))
 
-no_member : (p : Program) → inners is_flat p ≡ true → (A B : Name) (N : Name) → Member p (A ∷ B ∷ []) N → ⊥
+pub no_member : (p : Program) → inners is_flat p ≡ true → (A B : Name) (N : Name) → Member p (A ∷ B ∷ []) N → ⊥
 no_member p e A B N m =
     let s = two_long m.at (sup_level m.super) in
     flat p e s.0 s.1 N (subst (λ (S : Path). Declared p (N ∷ S)) s.2 m.declared)
@@ -100,12 +100,18 @@ wide_zero (suc (suc zero)) d l = omega arith
 wide_zero (suc (suc (suc zero))) d l = omega arith
 wide_zero (suc (suc (suc (suc k)))) d l = absurd (omega (arith, l))
 
-masks_none : (names : List Name) → MasksAre names [] no_masks
+pub masks_none : (names : List Name) → MasksAre names [] no_masks
 masks_none names = record {
   words = refl;
   wide = wide_zero;
   each = λ i l. (λ h. absurd (no_mask i h), λ x. absurd (in_none x.mask x.among));
 }
+
+-- one bound has one depth
+pub one_depth : (R : Path) → OneDepth (R ∷ [])
+one_depth R B E h i = ap length (sym (alone B h) ∙ alone E i) where
+  alone : (B : Path) → Contains (R ∷ []) B → R ≡ B
+  alone B h = elim (in_cons R [] B h) [ inl i ↦ i | inr n ↦ absurd (in_none B n) ]
 
 -- `C` as the type of a field of the class D of `base`
 pub type_of_name : (p : Program) → inners is_flat p ≡ true → (D C f : Name) → Member p (base ∷ []) C → HasKind p (C ∷ base ∷ []) kind.Class
@@ -121,14 +127,8 @@ type_of_name p e D C f m k = record {
     };
     gives = in_class k refl;
   }) (none refl) refl;
-  gives = one one_depth (record { masks = no_masks; are = masks_none (mask_names p); gives = refl });
+  gives = one (one_depth (C ∷ base ∷ [])) (record { masks = no_masks; are = masks_none (mask_names p); gives = refl });
 } where
-  alone : (B : Path) → Contains ((C ∷ base ∷ []) ∷ []) B → C ∷ base ∷ [] ≡ B
-  alone B h = elim (in_cons (C ∷ base ∷ []) [] B h) [ inl i ↦ i | inr n ↦ absurd (in_none B n) ]
-
-  one_depth : (B E : Path) → Contains ((C ∷ base ∷ []) ∷ []) B → Contains ((C ∷ base ∷ []) ∷ []) E → length B ≡ length E
-  one_depth B E h i = ap length (sym (alone B h) ∙ alone E i)
-
   inner : (j : ℕ) → j < 1 → Member p (drop j (D ∷ base ∷ [])) C → ⊥
   inner zero l h = no_member p e D base C h
   inner (suc j) l h = absurd (omega (arith, l))
@@ -170,7 +170,7 @@ module _ (own further : List Inside) (flat_is : inners is_flat (adapting own fur
   abbrev that : Program
   that = adapting own further
 
-  deep : (A B : Name) (P : Path) (d : Decl) → StandsIn that (A ∷ B ∷ P) d → ⊥
+  pub deep : (A B : Name) (P : Path) (d : Decl) → StandsIn that (A ∷ B ∷ P) d → ⊥
   deep A B [] d s = none_of (nested s.0.members) d (at_inner that is_flat flat_is A B s.0 (s.1, s.2)) s.3
   deep A B (C ∷ P) d s = deep B C P s.0 s.1
 
@@ -188,10 +188,7 @@ module _ (own further : List Inside) (flat_is : inners is_flat (adapting own fur
   -- a field is declared in one of the two
   pub field_place : (R : Path) (f : Name) (x : Field) → FieldAt that R f x → (A : Name) × (R ≡ Lit ∷ A ∷ []) × ((base ≡ A) ⊎ (disp ≡ A))
   field_place [] f x h = absurd h.stands
-  field_place (A ∷ []) f x h = absurd (none_field (fields h.decl.members) x (at_top that bare bare_tops A h.decl h.stands) h.has) where
-    none_field : (fs : List Field) (y : Field) → nat_eq (length fs) 0 ≡ true → Contains fs y → ⊥
-    none_field [] y e c = in_none y c
-    none_field (z ∷ fs) y e c = absurd (omega (arith, nought (length (z ∷ fs)) e))
+  field_place (A ∷ []) f x h = absurd (none_of (fields h.decl.members) x (at_top that bare bare_tops A h.decl h.stands) h.has)
   field_place (C ∷ A ∷ []) f x h =
       let e = h.stands.0 in
       (A, ap (λ (n : Name). n ∷ A ∷ []) (sym (lit_name C A h.decl h.stands)), family_name A e.0 (e.1, e.2))

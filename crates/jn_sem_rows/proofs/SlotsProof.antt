@@ -27,7 +27,7 @@ use Rattle.jn_base.proofs.SuperLaws.{sup_inherited}
 use Rattle.jn_base.proofs.ExampleTools.{at_inner, tops, inner_has, anything, is_class, inner_member, inner_class, inners, field_in, same, OneOf, one, sups_kept, has_only}
 use Rattle.jn_sem.specs.Values.{HasField}
 use Rattle.jn_sem.specs.Sharing.{IsClass, Related, HangsOnThis}
-use Rattle.jn_sem.specs.Slots.{BothHang, only_other, only_one, MakesTwo, declared_apart, unmatched, unmatched_back, fields_apart, MakesTwoBy, Compared, Slot, IsSlot, SlotOfGroup, OneSlot}
+use Rattle.jn_sem.specs.Slots.{BothHang, only_other, only_one, MakesTwo, declared_apart, unmatched, unmatched_back, fields_apart, MakesTwoBy, Compared, Slot, IsSlot, SlotOfGroup, OneSlot, IsSize}
 use Rattle.jn_sem.specs.Terms.{FieldTypeIs}
 use Rattle.jn_sem_rows.specs.SlotsExample.{base, disp, Exp, Add, Lit, l, r, v, tag, in_base, in_disp, named_type, field_of, slot, tagged, Tagged, two_slots, TwoSlots}
 use Rattle.jn_sem_rows.proofs.SlotTools.{above_base, the_related, back, in_namespace, is_flat, type_of_name, in_at, it_hangs, stands_in_base, stands_in_disp, one_name, bare, IsLit, field_place, with_field}
@@ -40,7 +40,7 @@ int_type (type.Class ts ms) = false
 ok_is : (a b : Ty) → ◌≡◌ {A = Result Ty Refusal} (Ok a) (Ok b) → a ≡ b
 ok_is a b e = cc
 
-equal_less : Before tagged (in_base Lit) (in_base Lit) → ⊥
+pub equal_less : Before tagged (in_base Lit) (in_base Lit) → ⊥
 equal_less e = cc
 
 greater_less : Before tagged (in_disp Lit) (in_base Lit) → ⊥
@@ -94,7 +94,7 @@ field_l = record { ty = named_type Exp; name = word l }
 abbrev field_r : Field
 field_r = record { ty = named_type Exp; name = word r }
 
-abbrev field_tag : Field
+abbrev pub field_tag : Field
 field_tag = record { ty = type.Int; name = word tag }
 
 abbrev own_decls : List Inside
@@ -223,31 +223,31 @@ two = record {
 
 -- ---- one slot for v, and one for tag
 
-has_lit : inner_has tagged base Lit anything ≡ true
+pub has_lit : inner_has tagged base Lit anything ≡ true
 has_lit = simp (outs-Inner)
 
-lit_class : inner_has tagged base Lit is_class ≡ true
+pub lit_class : inner_has tagged base Lit is_class ≡ true
 lit_class = simp (outs-Inner)
 
-abbrev tagged_own : List Inside
+abbrev pub tagged_own : List Inside
 tagged_own = class_in Lit [] (field v ∷ []) ∷ []
 
-abbrev tagged_further : List Inside
+abbrev pub tagged_further : List Inside
 tagged_further = class_in Lit [] (field tag ∷ []) ∷ []
 
-lits : Related tagged (in_disp Lit) (in_base Lit)
+pub lits : Related tagged (in_disp Lit) (in_base Lit)
 lits = the_related tagged_own tagged_further Lit has_lit lit_class
 
-lits_back : Related tagged (in_base Lit) (in_disp Lit)
+pub lits_back : Related tagged (in_base Lit) (in_disp Lit)
 lits_back = back tagged_own tagged_further lits
 
-tagged_flat : inners is_flat tagged ≡ true
+pub tagged_flat : inners is_flat tagged ≡ true
 tagged_flat = simp (outs-Inner, outs-Slot)
 
-tagged_lits : inners one_name tagged ≡ true
+pub tagged_lits : inners one_name tagged ≡ true
 tagged_lits = simp (outs-Inner)
 
-tagged_bare : tops bare tagged ≡ true
+pub tagged_bare : tops bare tagged ≡ true
 tagged_bare = simp (outs-Inner)
 
 -- every field is an int, v in `base` and tag in `disp`
@@ -278,13 +278,13 @@ named_so C A f x h =
     subst (λ (n : Name). cond (same A base) (same n v) (same n tag) ≡ true) h.name
     (passes (own_name A) (fields h.decl.members) x (at_inner tagged (λ B d. list_all (own_name B) (fields d.members)) own_names C A h.decl h.stands) h.has)
 
-is_v : (R : Path) (x : Field) → FieldAt tagged R v x → R ≡ in_base Lit
+pub is_v : (R : Path) (x : Field) → FieldAt tagged R v x → R ≡ in_base Lit
 is_v R x h =
     let at = lit_place R v x h in
     let e = v_in_base Lit at.0 x (subst (λ (Q : Path). FieldAt tagged Q v x) at.1 h) in
     at.1 ∙ ap (λ (n : Name). Lit ∷ n ∷ []) (same_name at.0 base e)
 
-is_tag : (R : Path) (x : Field) → FieldAt tagged R tag x → R ≡ in_disp Lit
+pub is_tag : (R : Path) (x : Field) → FieldAt tagged R tag x → R ≡ in_disp Lit
 is_tag R x h =
     let at = lit_place R tag x h in
     let e = tag_in_its Lit at.0 x (subst (λ (Q : Path). FieldAt tagged Q tag x) at.1 h) in
@@ -294,7 +294,7 @@ v_or_tag : (f A : Name) (x : Field) → (base ≡ A) ⊎ (disp ≡ A) → FieldA
 v_or_tag f A x (inl e) h = inl (same_name f v (subst (λ (n : Name). cond (same n base) (same f v) (same f tag) ≡ true) (sym e) (named_so Lit A f x h)))
 v_or_tag f A x (inr e) h = inr (same_name f tag (subst (λ (n : Name). cond (same n base) (same f v) (same f tag) ≡ true) (sym e) (named_so Lit A f x h)))
 
-its_name : (R : Path) (f : Name) (x : Field) → FieldAt tagged R f x → (f ≡ v) ⊎ (f ≡ tag)
+pub its_name : (R : Path) (f : Name) (x : Field) → FieldAt tagged R f x → (f ≡ v) ⊎ (f ≡ tag)
 its_name R f x h = let at = lit_place R f x h in v_or_tag f at.0 x at.2 (subst (λ (Q : Path). FieldAt tagged Q f x) at.1 h)
 
 -- a field is declared at one path
@@ -329,7 +329,7 @@ no_diff c (rule d m) = no_diff _ d
 
 -- ---- the slots of `tagged`
 
-abbrev field_v : Field
+abbrev pub field_v : Field
 field_v = record { ty = type.Int; name = word v }
 
 abbrev base_lit : Decl
@@ -350,7 +350,7 @@ base_lit_fields = simp (outs-Slot)
 disp_lit_fields : fields disp_lit.members ≡ field_tag ∷ []
 disp_lit_fields = simp (outs-Slot)
 
-v_at : FieldAt tagged (in_base Lit) v field_v
+pub v_at : FieldAt tagged (in_base Lit) v field_v
 v_at = record {
   decl = base_lit;
   stands = stands_in_base tagged_own tagged_further base_lit (subst (λ (ds : List Decl). Contains ds base_lit) (sym tagged_own_are) (at_first base_lit []));
@@ -358,7 +358,7 @@ v_at = record {
   name = refl;
 }
 
-its_tag_at : FieldAt tagged (in_disp Lit) tag field_tag
+pub its_tag_at : FieldAt tagged (in_disp Lit) tag field_tag
 its_tag_at = record {
   decl = disp_lit;
   stands = stands_in_disp tagged_own tagged_further disp_lit (subst (λ (ds : List Decl). Contains ds disp_lit) (sym tagged_further_are) (at_first disp_lit []));
@@ -366,16 +366,16 @@ its_tag_at = record {
   name = refl;
 }
 
-lit_above : Sup tagged (in_disp Lit) (in_base Lit)
+pub lit_above : Sup tagged (in_disp Lit) (in_base Lit)
 lit_above = sup_inherited (above_base tagged_own tagged_further) (inner_member tagged base base Lit itself has_lit)
 
-v_here : HasField tagged (in_base Lit) v
+pub v_here : HasField tagged (in_base Lit) v
 v_here = record { at = in_base Lit; declares = record { super = itself; field = field_v; at = v_at } }
 
-v_there : HasField tagged (in_disp Lit) v
+pub v_there : HasField tagged (in_disp Lit) v
 v_there = record { at = in_base Lit; declares = record { super = lit_above; field = field_v; at = v_at } }
 
-tag_there : HasField tagged (in_disp Lit) tag
+pub tag_there : HasField tagged (in_disp Lit) tag
 tag_there = record { at = in_disp Lit; declares = record { super = itself; field = field_tag; at = its_tag_at } }
 
 itself_related : {R S : Path} → Related tagged R S → Related tagged R R
@@ -393,7 +393,7 @@ base_of_sup S (one C A c a) e = apart A (has_only base A a) e where
   apart : (B : Name) → base ≡ B → C ∷ B ∷ [] ≡ in_disp Lit → ⊥
   apart B i k = absurd (omega (arith, ap (λ (n : Name). n.0) (i ∙ name_of B k)))
 
-not_tagged : HasField tagged (in_base Lit) tag → ⊥
+pub not_tagged : HasField tagged (in_base Lit) tag → ⊥
 not_tagged h = base_of_sup h.at (lit_sups h.at h.declares.super) (is_tag h.at h.declares.field h.declares.at)
 
 its_classes : (Q : Path) (f : Name) → IsClass tagged Q → HasField tagged Q f → IsLit Q
@@ -404,7 +404,7 @@ not_before : (Q : Path) → IsLit Q → Before tagged Q (in_base Lit) → ⊥
 not_before Q (inl e) b = equal_less (subst (λ (P : Path). Before tagged P (in_base Lit)) e b)
 not_before Q (inr e) b = greater_less (subst (λ (P : Path). Before tagged P (in_base Lit)) e b)
 
-first_v : (V : Path) → Related tagged (in_base Lit) V → HasField tagged V v → IsSlot tagged V v (slot (in_base Lit) v)
+pub first_v : (V : Path) → Related tagged (in_base Lit) V → HasField tagged V v → IsSlot tagged V v (slot (in_base Lit) v)
 first_v V r h = record {
   field = refl;
   first = record {
@@ -420,7 +420,7 @@ only_tag Q (inr e) h = e
 not_before_disp : (Q : Path) → Q ≡ in_disp Lit → Before tagged Q (in_disp Lit) → ⊥
 not_before_disp Q e b = equal_less_too (subst (λ (P : Path). Before tagged P (in_disp Lit)) e b)
 
-first_tag : (V : Path) → Related tagged (in_disp Lit) V → HasField tagged V tag → IsSlot tagged V tag (slot (in_disp Lit) tag)
+pub first_tag : (V : Path) → Related tagged (in_disp Lit) V → HasField tagged V tag → IsSlot tagged V tag (slot (in_disp Lit) tag)
 first_tag V r h = record {
   field = refl;
   first = record {
@@ -429,19 +429,19 @@ first_tag V r h = record {
   };
 }
 
-abbrev slot_v : Slot
+abbrev pub slot_v : Slot
 slot_v = slot (in_base Lit) v
 
-abbrev slot_tag : Slot
+abbrev pub slot_tag : Slot
 slot_tag = slot (in_disp Lit) tag
 
 abbrev tagged_slots : List Slot
 tagged_slots = slot_v ∷ slot_tag ∷ []
 
-base_itself : Related tagged (in_base Lit) (in_base Lit)
+pub base_itself : Related tagged (in_base Lit) (in_base Lit)
 base_itself = itself_related lits_back
 
-disp_itself : Related tagged (in_disp Lit) (in_disp Lit)
+pub disp_itself : Related tagged (in_disp Lit) (in_disp Lit)
 disp_itself = itself_related lits
 
 of_v : (s : Slot) → slot_v ≡ s → SlotOfGroup tagged (in_base Lit) s
@@ -504,6 +504,9 @@ each_once (suc (suc i)) j s e f = absurd (no_third s e)
 each_once zero (suc (suc j)) s e f = absurd (no_third s f)
 each_once (suc zero) (suc (suc j)) s e f = absurd (no_third s f)
 
+pub base_size : IsSize tagged (in_base Lit) 3
+base_size = record { class = lits.other; slots = tagged_slots; exact = λ s. (in_group s, in_list s); once = each_once; is = refl }
+
 pub tagged_is : Tagged
 tagged_is = record {
   related = lits_back;
@@ -512,11 +515,5 @@ tagged_is = record {
   v_of_base = first_v (in_base Lit) base_itself v_here;
   v_of_disp = first_v (in_disp Lit) lits_back v_there;
   tag_of_disp = first_tag (in_disp Lit) disp_itself tag_there;
-  size = record {
-    class = lits.other;
-    slots = tagged_slots;
-    exact = λ s. (in_group s, in_list s);
-    once = each_once;
-    is = refl;
-  };
+  size = base_size;
 }

@@ -3,3 +3,8 @@ pub mod TwoPrints
 pub mod SlotsExample
 pub mod BelowExample
 pub mod TypesExample
+pub mod MainAlone
+pub mod VoidOperand
+pub mod MainRuns
+pub mod Views
+pub mod SlotRows

@@ -49,6 +49,9 @@ tag = name 8
 abbrev pub next : Name
 next = name 9
 
+abbrev pub eval : Name
+eval = name 10
+
 abbrev pub text : List ℕ → Text
 text bytes = record { bytes = bytes }
 
@@ -62,7 +65,8 @@ disp_decl further = record (package_at 2 disp (base ∷ []) further) { adapts = 
 abbrev pub adapting : List Member → List Member → Program
 adapting own further = record {
   names = text (codes "base") ∷ text (codes "disp") ∷ text (codes "Exp") ∷ text (codes "Add") ∷ text (codes "Lit")
-      ∷ text (codes "l") ∷ text (codes "r") ∷ text (codes "v") ∷ text (codes "tag") ∷ text (codes "next") ∷ [];
+      ∷ text (codes "l") ∷ text (codes "r") ∷ text (codes "v") ∷ text (codes "tag")
+      ∷ text (codes "next") ∷ text (codes "eval") ∷ [];
   texts = [];
   decls = base_decl own ∷ disp_decl further ∷ [];
 }

@@ -1,45 +1,21 @@
 -- A whole run, charge by charge: class Main { void main() { print(1); print(2); } }
-use Rattle.std.specs.Prelude.{ℕ, ◌≤◌, pos, List, [], ◌∷◌, None, codes, false}
+use Rattle.std.specs.Prelude.{ℕ, ◌≤◌, pos, List, [], ◌∷◌, codes, false}
 use Rattle.jn_steps.specs.Runs.{On, End}
-use Rattle.jn_base.specs.declared.tree.Name.{Name}
-use Rattle.jn_base.specs.declared.tree.Text.{Text}
-use Rattle.jn_base.specs.declared.tree.Kind.TheVariants as kind
 use Rattle.jn_base.specs.declared.tree.Method.{Method}
-use Rattle.jn_base.specs.declared.tree.Member.TheVariants as member
-use Rattle.jn_base.specs.declared.tree.Decl.{Decl}
-use Rattle.jn_base.specs.declared.tree.Stmt.{Stmt}
-use Rattle.jn_base.specs.declared.tree.Stmt.TheVariants as stmt
-use Rattle.jn_base.specs.declared.tree.Node.TheVariants as node
 use Rattle.jn_base.specs.declared.tree.Program.{Program}
-use Rattle.jn_base.specs.Parts.{expr}
-use Rattle.jn_base.specs.ExampleTrees.{name, line, word}
 use Rattle.jn_sem.specs.declared.outcome.Outcome.TheVariants as outcome
 use Rattle.jn_sem.specs.Values.{Value, Number, Reference}
 use Rattle.jn_sem.specs.Acts.{Push, Open, Print, Todo, todo}
 use Rattle.jn_sem.specs.State.{Heap, Frame}
 use Rattle.jn_sem.specs.Does.{Ends}
 use Rattle.jn_sem.specs.Run.{Running, running, start_frame, start, Charge, Run}
-
-abbrev pub Main : Name
-Main = name 0
-
-abbrev pub main : Name
-main = name 1
-
-abbrev pub text : List ℕ → Text
-text bytes = record { bytes = bytes }
-
-abbrev pub prints : ℕ → Stmt
-prints z = stmt.Print (expr (line 1) (node.Int (pos z))) (line 1)
+use Rattle.jn_sem_rows.specs.MainAlone.{Main, main_alone, main_method, number, print as print_of}
 
 abbrev pub the_method : Method
-the_method = record { result = None; name = word main; params = []; sharing = []; body = prints 1 ∷ prints 2 ∷ [] }
-
-abbrev pub the_class : Decl
-the_class = record { kind = kind.Class; name = word Main; extends = []; shares = []; adapts = []; members = member.Body the_method ∷ [] }
+the_method = main_method (print_of (number 1) ∷ print_of (number 2) ∷ [])
 
 abbrev pub two_prints : Program
-two_prints = record { names = text (codes "Main") ∷ text (codes "main") ∷ []; texts = []; decls = the_class ∷ [] }
+two_prints = main_alone [] (the_method ∷ [])
 
 -- an object of Main is one cell: it has no field
 abbrev pub one_object : Heap
@@ -53,7 +29,15 @@ abbrev pub starting : List Value → List Todo → Frame
 starting vs k = record start_frame { vals = vs; todo = k }
 
 abbrev pub in_main : List Value → List Todo → Frame
-in_main vs k = record { class = Main ∷ []; method = the_method; this = the_object; vars = []; vals = vs; todo = k; keeps = false }
+in_main vs k = record {
+  class = Main ∷ [];
+  method = the_method;
+  this = the_object;
+  vars = [];
+  vals = vs;
+  todo = k;
+  keeps = false;
+}
 
 -- behind the call of `main` the frame that starts the program has nothing to do
 abbrev pub at_work : Frame → List ℕ → Running
@@ -68,7 +52,8 @@ print = todo 0 Print
 -- Where at least one cell and one frame are allowed, there are six charges.
 pub record TwoPrints (a d : ℕ) : Type 0 where
   -- `new Main()`, and the call of `main`
-  pub first : Charge two_prints a d start (On (running (starting (the_object ∷ []) (todo 0 Open ∷ []) ∷ []) one_object []))
+  pub first : Charge two_prints a d start
+      (On (running (starting (the_object ∷ []) (todo 0 Open ∷ []) ∷ []) one_object []))
   pub second : Charge two_prints a d (running (starting (the_object ∷ []) (todo 0 Open ∷ []) ∷ []) one_object [])
       (On (at_work (in_main [] (push 1 ∷ print ∷ push 2 ∷ print ∷ [])) []))
   -- the literal 1, and the first `print`
@@ -79,7 +64,8 @@ pub record TwoPrints (a d : ℕ) : Type 0 where
   -- the literal 2, and the second `print`, behind which both frames are at their end
   pub fifth : Charge two_prints a d (at_work (in_main [] (push 2 ∷ print ∷ [])) (codes "1\n"))
       (On (at_work (in_main (Number (pos 2) ∷ []) (print ∷ [])) (codes "1\n")))
-  pub sixth : Charge two_prints a d (at_work (in_main (Number (pos 2) ∷ []) (print ∷ [])) (codes "1\n")) (End Ends (codes "1\n2\n"))
+  pub sixth : Charge two_prints a d (at_work (in_main (Number (pos 2) ∷ []) (print ∷ [])) (codes "1\n"))
+      (End Ends (codes "1\n2\n"))
   -- so the run with six charges ends, and the one with five needs a further one
   pub six : Run two_prints 6 a d outcome.Ends (codes "1\n2\n")
   pub five : Run two_prints 5 a d outcome.More (codes "1\n")

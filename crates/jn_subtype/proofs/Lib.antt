@@ -5,5 +5,4 @@ pub mod ClimbForms
 pub mod SpreadForms
 pub mod EnterForms
 pub mod TurnForms
-mod FitTests
 mod Reaching

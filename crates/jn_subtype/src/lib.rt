@@ -16,9 +16,5 @@ mod judge;
 mod spreads;
 mod turns;
 
+pub use bounds::{atom_bound, path_bound};
 pub use judge::{Judge, judges_stay};
-
-#[cfg(test)]
-mod fits;
-#[cfg(test)]
-mod tests;

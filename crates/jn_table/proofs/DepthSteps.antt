@@ -1,5 +1,5 @@
 -- How the loop goes from one depth to the next.
-use Rattle.std.proofs.Common.{◌≡◌, ◌<◌, ◌≤◌, ◌+◌, ◌-◌, ℕ, List, [], ◌∷◌, ◌++◌, length, slice_get, Some, get_or, take, map, arith, sym, ◌∙◌, ap, subst, refl, zero, suc, inl, inr, All, Contains, Bool, true, nat_eq, length-append}
+use Rattle.std.proofs.Common.{◌≡◌, ◌<◌, ◌≤◌, ◌+◌, ◌-◌, ℕ, List, [], ◌∷◌, ◌++◌, length, slice_get, Some, get_or, take, map, arith, sym, ◌∙◌, ap, subst, refl, zero, suc, inl, inr, All, Contains, Bool, true, false, nat_eq, length-append}
 use Rattle.std.specs.declared.vec.Vec.{Vec}
 use Rattle.std.specs.declared.alloc.Global.{Global}
 use Rattle.std.specs.List.Sorted.{IsStrictlyIncreasing}
@@ -58,6 +58,17 @@ is_zero n h = grind arith
 
 pub no_length : (b : Bool) (n : ℕ) → b ≡ nat_eq n 0 → b ≡ true → n ≡ 0
 no_length b n e t = is_zero n (sym e ∙ t)
+
+is_some : (n : ℕ) → nat_eq n 0 ≡ false → 0 < n
+is_some n h = grind arith
+
+-- a list that isn't empty has something
+pub some_length : {X : Type 0} (xs : List X) (b : Bool) (n : ℕ) → n ≡ length xs → b ≡ nat_eq n 0 → b ≡ false → 0 < length xs
+some_length xs b n l e t = let s = is_some n (sym e ∙ t) in omega (arith, s, l)
+
+-- a depth has as many paths as children
+pub below_long : (paths : List Path) (children : List Child) (all : List Path) → ChildPaths paths children all → length all ≡ length children
+below_long paths children all cp = Each-length (ChildPath paths) cp
 
 take_short : {X : Type 0} (r : ℕ) (xs : List X) → length (take r xs) < r → take r xs ≡ xs
 take_short zero xs l = absurd (omega (arith, l))

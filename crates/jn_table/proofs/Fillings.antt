@@ -12,9 +12,9 @@ use Rattle.jn_table.specs.Order.{IsOrderOf, entry_name}
 use Rattle.jn_base.specs.ProgramNames.{IsNamed}
 use Rattle.jn_table.specs.Own.{IsOwnOf}
 use Rattle.jn_table.specs.Depths.{AreOf}
-use Rattle.jn_table.specs.Universes.{FitUniverse, IsUniverseOf, RowsOf, CycleAt, TwoKindsAt, NoneAt, RefusedBy, cycle_at, kinds_at, PassedBy}
+use Rattle.jn_table.specs.Universes.{FitUniverse, RowsOf, CycleAt, TwoKindsAt, NoneAt, RefusedBy, cycle_at, kinds_at, PassedBy}
 use Rattle.jn_table.specs.Answers.{UniverseRefused, too_many}
-use Rattle.jn_table.specs.Fills.{Fills, FillsAll, NodesAll, RefusesAll}
+use Rattle.jn_table.specs.Fills.{Fills, FillsAll, NodesAll, UniverseAll, RefusesAll}
 use Rattle.jn_table.specs.Tables.{IsTableOf}
 use Rattle.jn_table.specs.declared.class.Row.{Row}
 use Rattle.jn_table.specs.declared.entry.Entry.{Entry}
@@ -45,24 +45,24 @@ pub refused_over : (es : List Entry) (order : List Name) (path : ShownPath) (R :
 refused_over es order path R e over p of =
     subst (λ (q : ShownPath). UniverseRefused p (fault.TooMany q)) (sym (shown_is path R e)) (too_many (over p of))
 
-module _ (es : List Entry) (order : List Name) (nodes : Nodes) (u : Universe) (f : FitUniverse u) (all : NodesAll es order nodes)
-    (same : u.nodes ≡ nodes) (closed : IsClosure nodes.direct.items u.sups.items) (own : IsOwnOf es nodes.paths.items u.own) where
-  universe_is : (p : Program) → AreOf p es order → IsUniverseOf p es u
-  universe_is p of = record {
-    flat = of.flat;
-    named = of.named;
-    nodes = rw same (all p of);
-    sups = rw same closed;
-    own = rw same own;
-  }
+pub universe_is : (es : List Entry) (order : List Name) (nodes : Nodes) (u : Universe) → NodesAll es order nodes → u.nodes ≡ nodes
+    → IsClosure nodes.direct.items u.sups.items → IsOwnOf es nodes.paths.items u.own → UniverseAll es order u
+universe_is es order nodes u all same closed own p of = record {
+  flat = of.flat;
+  named = of.named;
+  nodes = rw same (all p of);
+  sups = rw same closed;
+  own = rw same own;
+}
 
+module _ (es : List Entry) (order : List Name) (u : Universe) (f : FitUniverse u) (all : UniverseAll es order u) where
   pub refuses : (fault : TableFault) → RefusedBy u fault → RefusesAll es order fault
-  refuses fault r p of = refused_right p es u f (universe_is p of) fault r
+  refuses fault r p of = refused_right p es u f (all p of) fault r
 
   pub fills : (texts : List Text) (known : List ShownPath) (rows : List Row) → PassedBy u → known ≡ map shown u.nodes.paths.items
       → RowsOf texts u (length u.nodes.paths.items) rows → FillsAll texts es order known rows
   fills texts known rows passed is r p of named =
-      let i = universe_is p of in
+      let i = all p of in
       let q = passed_right p es u f i passed in
       rw is (record {
         rows_are = rows_right p es u f i q.one_kind rows (rw (← named) r);

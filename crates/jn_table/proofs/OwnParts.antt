@@ -1,19 +1,16 @@
 -- The names that the declarations at a path have themselves.
-use Rattle.std.proofs.Common.{◌≡◌, ◌↔◌, List, Contains, reverse, Some, slice_get, sym, ◌∙◌, ap, subst}
+use Rattle.std.proofs.Common.{◌≡◌, ◌↔◌, List, Contains, reverse, Some, slice_get, ◌∙◌, ap, subst}
 use Rattle.std.proofs.lemmas.List.{reverse-reverse}
 use Rattle.jn_reach.proofs.Searches.{same_some}
 use Rattle.jn_base.specs.declared.tree.Name.{Name}
-use Rattle.jn_base.specs.declared.tree.Program.{Program}
 use Rattle.jn_base.specs.declared.path.Path.{Path as ShownPath}
 use Rattle.jn_base.specs.Paths.{Path, shown}
 use Rattle.jn_table.specs.declared.class.ClassId.{ClassId}
-use Rattle.jn_table.specs.declared.entry.Entry.{Entry}
 use Rattle.jn_table.specs.declared.gather.Part.TheVariants as part
 use Rattle.jn_table.specs.declared.table.Table.{Table}
 use Rattle.jn_table.specs.Gather.{OwnIn}
 use Rattle.jn_table.specs.OwnParts.{SaysMethods, SaysFields}
 use Rattle.jn_table.specs.Rows.{IsNumber}
-use Rattle.jn_table.specs.Tables.{IsTableOf}
 use Rattle.jn_table.proofs.FlatExact.{flat_exact}
 
 -- the path of the number is the one that was found

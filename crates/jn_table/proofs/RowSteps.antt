@@ -1,7 +1,9 @@
 -- How loops make the rows.
-use Rattle.std.proofs.Common.{◌≡◌, ◌<◌, ◌+◌, ◌↔◌, ℕ, List, [], ◌∷◌, ◌++◌, length, slice_get, Some, arith, sym, ◌∙◌, ap, subst, refl, inl, inr, ◌⊎◌, Contains, length-append, reverse}
+use Rattle.std.proofs.Common.{◌≡◌, ◌<◌, ◌+◌, ◌↔◌, ℕ, List, [], ◌∷◌, ◌++◌, length, slice_get, Some, arith, sym, ◌∙◌, ap, subst, refl, inl, inr, ◌⊎◌, Contains, length-append, reverse, Result, Ok, Err, IfOk}
 use Rattle.std.proofs.lemmas.Bool.{cases_lt}
-use Rattle.std.proofs.lemmas.Option.{slice_get_within}
+use Rattle.std.proofs.lemmas.Option.{slice_get_within, slice_get_cases}
+use Rattle.std.specs.declared.vec.Vec.{Vec}
+use Rattle.std.specs.declared.alloc.Global.{Global}
 use Rattle.jn_reach.proofs.Rows.{slice_get-push_cases}
 use Rattle.jn_reach.proofs.Firsts.{slice_get-append_left, slice_get-push}
 use Rattle.jn_reach.proofs.Searches.{same_some}
@@ -102,3 +104,16 @@ at_is paths n P Q at e = subst (λ (R : Path). slice_get paths n ≡ Some R) e a
 
 pub shown_is : (path : ShownPath) (R : Path) → path.names ≡ reverse R → path ≡ shown R
 shown_is path R e = ap (λ (ns : List Name). record { names = ns }) e
+
+-- the same of what is answered
+pub ordered_answer : {E : Type 0} (texts : List Text) (T : Name → Type 0) (names : List Name) (r : Result (Vec Name Global) E) → ((D : Name) → Contains names D ↔ T D)
+    → IfOk r (λ order. IsOrderOf texts names order.items) → IfOk r (λ order. OrderedBy texts T order.items)
+ordered_answer texts T names (Ok order) g o = gathered_order texts T names order.items g o
+ordered_answer texts T names (Err e) g o = tt
+
+-- at a number within the list there is something
+pub slice_there : {X : Type 0} (xs : List X) (i : ℕ) → i < length xs → (x : X) × (slice_get xs i ≡ Some x)
+slice_there xs i l = elim (slice_get_cases xs i).1 [
+  | inl (x, k, e, d) ↦ (x, e)
+  | inr (k, e) ↦ absurd (omega (arith, l, k))
+]

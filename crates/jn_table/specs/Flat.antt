@@ -8,6 +8,7 @@ use Rattle.jn_base.specs.declared.tree.Decl.{Decl}
 use Rattle.jn_base.specs.declared.tree.Program.{Program}
 use Rattle.jn_base.specs.Paths.{Path, nested, methods, fields}
 use Rattle.jn_table.specs.declared.entry.Entry.{Entry}
+use Rattle.jn_table.specs.declared.entry.Names.{Names}
 
 abbrev pub named_name : Named → Name
 named_name n = n.name
@@ -22,6 +23,12 @@ field_name f = f.name.name
 pub data Under : List Decl → Path → Path → Decl → Type 0 where
   at_top : {ds : List Decl} {N : Path} {d : Decl} → Contains ds d → Under ds N N d
   deeper : {ds : List Decl} {N P : Path} {e d : Decl} → Contains ds e → Under (nested e.members) (e.name.name ∷ N) P d → Under ds N P d
+
+-- the names are those of the declaration d
+pub record NamesAre (names : Names) (d : Decl) : Type 0 where
+  pub extends : names.extends ≡ map named_name d.extends
+  pub methods_are : names.methods ≡ map method_name (methods d.members)
+  pub fields_are : names.fields ≡ map field_name (fields d.members)
 
 -- the entry is that of the declaration d, which stands in the namespace P
 pub record EntryIs (entry : Entry) (P : Path) (d : Decl) : Type 0 where

@@ -1,18 +1,15 @@
 -- What a row says of a path.
-use Rattle.std.specs.Prelude.{◌≡◌, ◌<◌, ◌↔◌, List, [], ◌∷◌, Contains, slice_get, Option, Some, None, length}
+use Rattle.std.specs.Prelude.{◌≡◌, ◌↔◌, List, [], ◌∷◌, Contains, slice_get, Option, Some, None}
 use Rattle.std.specs.List.Sorted.{IsStrictlySortedBy}
 use Rattle.jn_reach.specs.Each.{Each}
 use Rattle.jn_base.specs.declared.tree.Name.{Name}
 use Rattle.jn_base.specs.declared.tree.Kind.{Kind}
 use Rattle.jn_base.specs.declared.tree.Program.{Program}
-use Rattle.jn_base.specs.declared.tree.Method.{Method}
-use Rattle.jn_base.specs.declared.tree.Field.{Field}
 use Rattle.jn_base.specs.declared.path.Path.{Path as ShownPath}
 use Rattle.jn_base.specs.Paths.{Path, shown}
 use Rattle.jn_base.specs.Supers.{Direct, Sup, Member}
-use Rattle.jn_base.specs.ClassOrder.{class_cmp, name_cmp, HasDistinctNames}
-use Rattle.jn_base.specs.Members.{HasKind, MethodAt, FieldAt, Decls, FieldDecls}
-use Rattle.jn_base.specs.LawsOfTable.{NamesItsPaths}
+use Rattle.jn_base.specs.ClassOrder.{class_cmp, name_cmp}
+use Rattle.jn_base.specs.Members.{HasKind, Decls, FieldDecls}
 use Rattle.jn_table.specs.declared.class.ClassId.{ClassId}
 use Rattle.jn_table.specs.declared.class.Row.{Row}
 use Rattle.jn_table.specs.declared.class.RowMember.{RowMember}

@@ -1,5 +1,5 @@
 -- Of which program a table is, and what its calls say.
-use Rattle.std.specs.Prelude.{◌≡◌, ◌<◌, ◌↔◌, map, length, slice_get, Some, Bool, IsTrue}
+use Rattle.std.specs.Prelude.{◌≡◌, ◌<◌, ◌↔◌, ◌⊎◌, List, [], map, length, slice_get, Some, Bool, IsTrue}
 use Rattle.jn_base.specs.declared.tree.Program.{Program}
 use Rattle.jn_base.specs.declared.path.Path.{Path as ShownPath}
 use Rattle.jn_base.specs.Paths.{Path}
@@ -22,6 +22,20 @@ pub record IsTableOf (p : Program) (t : Table) : Type 0 where
   pub entries : IsFlattened p t.entries.items
   pub order : IsOrderOf p.names (map entry_name t.entries.items) t.order.items
   pub rows : AreRows p t.known.items t.rows.items
+  -- it knows no path, or all of the universe, of which nothing is refused
+  pub asked : (t.known.items ≡ []) ⊎ (HasUniverse p t.known.items × UniversePasses p)
+
+-- the paths that have numbers, in the order of their numbers
+abbrev pub numbered : Table → List ShownPath
+numbered t = t.known.items
+
+-- the paths whose rows are filled
+abbrev pub filled_paths : Table → List ShownPath
+filled_paths t = t.known.items
+
+-- the number stands for the path R
+abbrev pub StandsFor : Table → ClassId → Path → Type 0
+StandsFor t id R = IsNumber (numbered t) id R
 
 -- the row of that number is filled
 abbrev pub IsFilledAt : Table → ClassId → Type 0
@@ -30,26 +44,30 @@ IsFilledAt t id = id.0 < length t.rows.items
 -- a table of p in which the whole universe is filled
 pub record IsFilled (p : Program) (t : Table) : Type 0 where
   pub table : IsTableOf p t
-  pub whole : HasUniverse p t.known.items
+  pub whole : HasUniverse p (numbered t)
 
 -- the number stands for the path, which is given with the outermost name first
 abbrev pub IsPathOf : Table → ClassId → ShownPath → Type 0
-IsPathOf t id q = slice_get t.known.items id.0 ≡ Some q
+IsPathOf t id q = slice_get (numbered t) id.0 ≡ Some q
 
 abbrev pub HasNoNumber : Table → ShownPath → Type 0
 HasNoNumber t q = (id : ClassId) → IsPathOf t id q → ⊥
 
 -- of whatever program the table is, the row is that of the path of the number
 abbrev pub SaysRow : Table → ClassId → Row → Type 0
-SaysRow t id row = (p : Program) (R : Path) → IsTableOf p t → IsNumber t.known.items id R → IsRow p t.known.items R row
+SaysRow t id row = (p : Program) (R : Path) → IsTableOf p t → StandsFor t id R → IsRow p (numbered t) R row
 
 -- whether B is in Sup(A), of the paths A and B of the numbers
 abbrev pub SaysSup : Table → ClassId → ClassId → Bool → Type 0
-SaysSup t a b told = (p : Program) (A B : Path) → IsTableOf p t → IsNumber t.known.items a A → IsNumber t.known.items b B → IsTrue told ↔ Sup p A B
+SaysSup t a b told = (p : Program) (A B : Path) → IsTableOf p t → StandsFor t a A → StandsFor t b B → IsTrue told ↔ Sup p A B
 
 -- whether A comes before B in the class order
 abbrev pub SaysBefore : Table → ClassId → ClassId → Bool → Type 0
-SaysBefore t a b told = (p : Program) (A B : Path) → IsTableOf p t → IsNumber t.known.items a A → IsNumber t.known.items b B → IsTrue told ↔ Before p A B
+SaysBefore t a b told = (p : Program) (A B : Path) → IsTableOf p t → StandsFor t a A → StandsFor t b B → IsTrue told ↔ Before p A B
+
+-- each number stands for the path for which it stood
+abbrev pub KeepsNumbers : Table → Table → Type 0
+KeepsNumbers t u = (id : ClassId) (q : ShownPath) → IsPathOf t id q → IsPathOf u id q
 
 -- of whatever program it was, it still is
 abbrev pub StaysTable : Table → Table → Type 0

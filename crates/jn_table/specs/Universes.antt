@@ -24,6 +24,7 @@ use Rattle.jn_table.specs.declared.entry.Entry.{Entry}
 use Rattle.jn_table.specs.declared.fault.TableFault.{TableFault}
 use Rattle.jn_table.specs.declared.fault.TableFault.TheVariants as fault
 use Rattle.jn_table.specs.declared.own.Own.{Own}
+use Rattle.jn_table.specs.declared.row.Numbers.{Numbers}
 use Rattle.jn_table.specs.declared.universe.Universe.{Universe}
 
 -- each part has something for each path, and no number is too great
@@ -67,6 +68,12 @@ pub record MembersUpTo (paths : List Path) (R : Path) (n : ℕ) (members : List 
 pub record OrderedBy (texts : List Text) (T : Name → Type 0) (order : List Name) : Type 0 where
   pub exact : (C : Name) → Contains order C ↔ T C
   pub in_order : IsStrictlySortedBy (order_cmp texts) order
+
+-- the numbers in the row of that number
+pub record NumbersOf (u : Universe) (number : ℕ) (numbers : Numbers) : Type 0 where
+  pub direct : (below : Vec ℕ Global) → slice_get u.nodes.direct.items number ≡ Some below → numbers.direct.items ≡ map class_id below.items
+  pub sups : (above : Vec ℕ Global) → slice_get u.sups.items number ≡ Some above → numbers.sups.items ≡ map class_id above.items
+  pub members : (R : Path) → slice_get u.nodes.paths.items number ≡ Some R → MembersUpTo u.nodes.paths.items R (length u.nodes.paths.items) numbers.members.items
 
 -- the row of that number
 pub record RowOf (texts : List Text) (u : Universe) (number : ℕ) (row : Row) : Type 0 where

@@ -1,8 +1,8 @@
 ghost use Rattle.std.specs.Prelude.{◌≡◌, ◌∷◌, [], map, OnOk, IfOk};
 ghost use Rattle.jn_base.specs.Paths.{methods, fields};
-ghost use Rattle.jn_table.specs.Flat.{named_name, method_name, field_name, EntryIs, AddsFlat, IsFlattened};
+ghost use Rattle.jn_table.specs.Flat.{named_name, method_name, field_name, NamesAre, EntryIs, AddsFlat, IsFlattened};
 
-use crate::spot::Spot;
+use crate::route::Route;
 use jn_base::tree::{Decl, Kind, Member, Name, Named, Program};
 use sqlite_items::Items;
 use std::alloc::{AllocError, Global};
@@ -10,9 +10,9 @@ use std::alloc::{AllocError, Global};
 /// A declaration without its body: the namespace that it stands in, its path, and the names that it has.
 #[derive(Drop)]
 pub struct Entry {
-    pub namespace: Spot,
+    pub namespace: Route,
     pub name: Name,
-    pub path: Spot,
+    pub path: Route,
     pub kind: Kind,
     pub extends: Items<Name>,
     pub methods: Items<Name>,
@@ -56,25 +56,50 @@ fn field_names(alloc: Global, members: &[Member]) -> Result<Items<Name>, AllocEr
     Ok(all)
 }
 
+/// The names that a declaration has: those that it extends, and those of its methods and fields.
+#[derive(Drop)]
+pub struct Names {
+    extends: Items<Name>,
+    methods: Items<Name>,
+    fields: Items<Name>,
+}
+
+/// The names of a declaration.
+fn names_of(alloc: Global, decl: &Decl) -> Result<Names, AllocError>
+    ensures { IfOk result (λ names. NamesAre names decl.now) }
+{
+    let extends = extended(alloc, decl.extends.as_slice())?;
+    let methods = method_names(alloc, decl.members.as_slice())?;
+    let fields = field_names(alloc, decl.members.as_slice())?;
+    Ok(Names {
+        extends,
+        methods,
+        fields,
+    })
+}
+
 /// The entry of a declaration that stands in the namespace.
-fn entry_of(alloc: Global, namespace: &Spot, decl: &Decl) -> Result<Entry, AllocError>
+fn entry_of(alloc: Global, namespace: &Route, decl: &Decl) -> Result<Entry, AllocError>
     ensures { IfOk result (λ entry. EntryIs entry namespace.now decl.now) }
 {
+    let path = namespace.down(alloc, decl.name.name)?;
+    let namespace = namespace.copy(alloc)?;
+    let names = names_of(alloc, decl)?;
     Ok(Entry {
-        namespace: namespace.copy(alloc)?,
+        namespace,
         name: decl.name.name,
-        path: namespace.down(alloc, decl.name.name)?,
+        path,
         kind: decl.kind,
-        extends: extended(alloc, decl.extends.as_slice())?,
-        methods: method_names(alloc, decl.members.as_slice())?,
-        fields: field_names(alloc, decl.members.as_slice())?,
+        extends: names.extends,
+        methods: names.methods,
+        fields: names.fields,
     })
 }
 
 /// Adds an entry for a declaration, and for those nested in it.
 fn flatten(
     alloc: Global,
-    namespace: &Spot,
+    namespace: &Route,
     decl: &Decl,
     entries: &mut Vec<Entry>,
 ) -> Result<(), AllocError>
@@ -98,7 +123,7 @@ pub fn entries(alloc: Global, program: &Program) -> Result<Vec<Entry>, AllocErro
     ensures { IfOk result (λ all. IsFlattened program.now all.items) }
 {
     let mut all = Vec::new(alloc);
-    let root = Spot::root(alloc);
+    let root = Route::root(alloc);
     for decl in program.decls.as_slice() {
         flatten(alloc, &root, decl, &mut all)?;
     }

@@ -1,6 +1,8 @@
 ghost use Rattle.std.specs.Prelude.{◌≡◌, ◌≤◌, IfOk, IfErr, length, map};
+ghost use Rattle.jn_reach.specs.Graph.{IsClosure};
 ghost use Rattle.jn_base.specs.Paths.{shown};
-ghost use Rattle.jn_table.specs.Fills.{FillsAll, NodesAll, RefusesAll};
+ghost use Rattle.jn_table.specs.Fills.{FillsAll, NodesAll, UniverseAll, RefusesAll};
+ghost use Rattle.jn_table.specs.Universes.{FitUniverse, RowsOf};
 ghost use Rattle.jn_table.specs.Nodes.{FitNodes};
 
 use crate::class::Row;
@@ -9,9 +11,9 @@ use crate::entry::Entry;
 use crate::fault::TableFault;
 use crate::judge::judged;
 use crate::nodes::Nodes;
+use crate::route::Route;
 use crate::row::rows_of;
-use crate::spot::Spot;
-use crate::universe::universe_of;
+use crate::universe::{Universe, universe_of};
 use jn_base::path::Path;
 use jn_base::tree::{Name, Text};
 use std::alloc::{AllocError, Global};
@@ -24,7 +26,7 @@ pub struct Rows {
 }
 
 /// The paths with the outermost name first.
-fn known_of(alloc: Global, paths: &[Spot]) -> Result<Vec<Path>, AllocError>
+fn known_of(alloc: Global, paths: &[Route]) -> Result<Vec<Path>, AllocError>
     ensures { IfOk result (λ known. known.items ≡ map shown paths.now) }
 {
     let mut known = Vec::new(alloc);
@@ -51,6 +53,29 @@ fn nodes_of(alloc: Global, entries: &[Entry], order: &[Name]) -> Result<Nodes, T
     }
 }
 
+/// The universe of the entries, where its paths are not too many.
+fn universe_in(alloc: Global, entries: &[Entry], order: &[Name]) -> Result<Universe, TableFault>
+    ensures fits { IfOk result (λ universe. FitUniverse universe) }
+    ensures closed { IfOk result (λ universe. IsClosure universe.nodes.direct.items universe.sups.items) }
+    ensures ok { IfOk result (λ universe. UniverseAll entries.now order.now universe) }
+    ensures err { IfErr result (λ fault. RefusesAll entries.now order.now fault) }
+{
+    let nodes = nodes_of(alloc, entries, order)?;
+    let universe = universe_of(alloc, entries, nodes)?;
+    Ok(universe)
+}
+
+/// The paths of a universe with their rows.
+fn rows_in(alloc: Global, texts: &[Text], universe: &Universe) -> Result<Rows, AllocError>
+    requires { FitUniverse universe.now }
+    ensures known { IfOk result (λ all. all.known.items ≡ map shown universe.now.nodes.paths.items) }
+    ensures rows { IfOk result (λ all. RowsOf texts.now universe.now (length universe.now.nodes.paths.items) all.rows.items) }
+{
+    let known = known_of(alloc, &universe.nodes.paths)?;
+    let rows = rows_of(alloc, texts, universe)?;
+    Ok(Rows { known, rows })
+}
+
 /// All paths of a universe with their rows, or why the universe is refused.
 pub fn fill_all(
     alloc: Global,
@@ -63,10 +88,8 @@ pub fn fill_all(
     ensures ok { IfOk result (λ all. FillsAll texts.now entries.now order.now all.known.items all.rows.items) }
     ensures err { IfErr result (λ fault. RefusesAll entries.now order.now fault) }
 {
-    let nodes = nodes_of(alloc, entries, order)?;
-    let universe = universe_of(alloc, entries, nodes)?;
+    let universe = universe_in(alloc, entries, order)?;
     judged(alloc, &universe)?;
-    let known = known_of(alloc, &universe.nodes.paths)?;
-    let rows = rows_of(alloc, texts, &universe)?;
-    Ok(Rows { known, rows })
+    let rows = rows_in(alloc, texts, &universe)?;
+    Ok(rows)
 }

@@ -4,13 +4,13 @@ ghost use Rattle.jn_base.specs.declared.tree.Name.{Name as AName};
 ghost use Rattle.jn_table.specs.Gather.{Gains, part_of, StandsInside, AreInside, NamedAmong, NamedIn, PartAmong, PartIn};
 
 use crate::entry::Entry;
-use crate::spot::Spot;
+use crate::route::Route;
 use jn_base::compare::{has_name, is_name};
 use jn_base::tree::Name;
 use std::alloc::{AllocError, Global};
 
 /// The numbers of the entries that stand in the namespace.
-fn inside(alloc: Global, entries: &[Entry], namespace: &Spot) -> Result<Vec<usize>, AllocError>
+fn inside(alloc: Global, entries: &[Entry], namespace: &Route) -> Result<Vec<usize>, AllocError>
     ensures { IfOk result (λ row. Lists (StandsInside entries.now namespace.now) row.items) }
 {
     let mut row = Vec::new(alloc);
@@ -26,7 +26,7 @@ fn inside(alloc: Global, entries: &[Entry], namespace: &Spot) -> Result<Vec<usiz
 pub fn insides(
     alloc: Global,
     entries: &[Entry],
-    paths: &[Spot],
+    paths: &[Route],
 ) -> Result<Vec<Vec<usize>>, AllocError>
     ensures { IfOk result (λ rows. AreInside entries.now paths.now rows.items) }
 {

@@ -7,7 +7,7 @@ ghost use Rattle.jn_table.specs.Level.{DirectBy, DirectByAt, DirectRow, DirectRo
 
 use crate::entry::Entry;
 use crate::gather::{Part, parts};
-use crate::spot::Spot;
+use crate::route::Route;
 use jn_base::compare::{has_name, is_name};
 use jn_base::tree::Name;
 use jn_reach::closure;
@@ -23,7 +23,7 @@ pub struct Child {
 /// The paths of one depth, and for each the numbers of its direct supers and of its supers.
 #[derive(Drop)]
 pub struct Level {
-    pub paths: Vec<Spot>,
+    pub paths: Vec<Route>,
     pub direct: Vec<Vec<usize>>,
     pub sups: Vec<Vec<usize>>,
 }
@@ -100,7 +100,7 @@ fn direct_rows(
 }
 
 /// The paths of the next depth.
-fn child_paths(alloc: Global, level: &Level, children: &[Child]) -> Result<Vec<Spot>, AllocError>
+fn child_paths(alloc: Global, level: &Level, children: &[Child]) -> Result<Vec<Route>, AllocError>
     requires { All (λ child. child.up < length level.now.paths.items) children.now }
     ensures { IfOk result (λ paths. ChildPaths level.now.paths.items children.now paths.items) }
 {
@@ -143,7 +143,7 @@ pub fn root(alloc: Global) -> Result<Level, AllocError>
     ensures exact { IfOk result (λ level. IsRoot level) }
 {
     let mut paths = Vec::new(alloc);
-    paths.push(Spot::root(alloc))?;
+    paths.push(Route::root(alloc))?;
     let mut direct = Vec::new(alloc);
     direct.push(Vec::new(alloc))?;
     let mut own = Vec::new(alloc);

@@ -30,8 +30,8 @@ mod lookup;
 mod nodes;
 mod order;
 mod own;
+mod route;
 mod row;
-mod spot;
 mod table;
 mod universe;
 
@@ -39,6 +39,3 @@ pub use class::{ClassId, Row, RowMember};
 pub use fault::TableFault;
 pub use field_types::{FieldTy, FieldTypes};
 pub use table::Table;
-
-#[cfg(test)]
-mod tests;

@@ -3,18 +3,18 @@ ghost use Rattle.jn_table.specs.Level.{IsShaped};
 ghost use Rattle.jn_table.specs.Nodes.{AddsShifted, AddsLevel};
 
 use crate::level::Level;
-use crate::spot::Spot;
+use crate::route::Route;
 use std::alloc::{AllocError, Global};
 
 /// The paths of some depths, in class order, and for each the numbers of its direct supers.
 #[derive(Drop)]
 pub struct Nodes {
-    pub paths: Vec<Spot>,
+    pub paths: Vec<Route>,
     pub direct: Vec<Vec<usize>>,
 }
 
 /// Adds the same paths.
-fn add_paths(alloc: Global, all: &mut Vec<Spot>, paths: &[Spot]) -> Result<(), AllocError>
+fn add_paths(alloc: Global, all: &mut Vec<Route>, paths: &[Route]) -> Result<(), AllocError>
     ensures { OnOk result (all.new.items ≡ all.old.items ++ paths.now) }
 {
     for path in paths {

@@ -6,7 +6,7 @@ ghost use Rattle.jn_reach.specs.Each.{Each};
 
 use crate::entry::Entry;
 use crate::gather::{Part, add_names, names_of};
-use crate::spot::Spot;
+use crate::route::Route;
 use jn_base::tree::{Kind, Name};
 use std::alloc::{AllocError, Global};
 
@@ -32,7 +32,7 @@ fn is_kind(a: Kind, b: Kind) -> bool
 }
 
 /// Whether a declaration at the path is of that kind.
-fn has_kind(entries: &[Entry], path: &Spot, kind: Kind) -> bool
+fn has_kind(entries: &[Entry], path: &Route, kind: Kind) -> bool
     ensures { IsTrue result ↔ KindIn entries.now path.now kind }
 {
     for entry in entries {
@@ -47,7 +47,7 @@ fn has_kind(entries: &[Entry], path: &Spot, kind: Kind) -> bool
 fn own_kinds(
     alloc: Global,
     entries: &[Entry],
-    paths: &[Spot],
+    paths: &[Route],
     kind: Kind,
 ) -> Result<Vec<bool>, AllocError>
     ensures { IfOk result (λ all. Each (OwnKinds entries.now kind) paths.now all.items) }
@@ -63,7 +63,7 @@ fn own_kinds(
 pub fn names_at(
     alloc: Global,
     entries: &[Entry],
-    path: &Spot,
+    path: &Route,
     part: Part,
 ) -> Result<Vec<Name>, AllocError>
     ensures { IfOk result (λ all. (D : AName) → Contains all.items D ↔ OwnIn entries.now path.now part D) }
@@ -81,7 +81,7 @@ pub fn names_at(
 fn own_names(
     alloc: Global,
     entries: &[Entry],
-    paths: &[Spot],
+    paths: &[Route],
     part: Part,
 ) -> Result<Vec<Vec<Name>>, AllocError>
     ensures { IfOk result (λ all. Each (OwnNames entries.now part) paths.now all.items) }
@@ -95,7 +95,7 @@ fn own_names(
 }
 
 /// What the declarations at each path are and have.
-pub fn own_of(alloc: Global, entries: &[Entry], paths: &[Spot]) -> Result<Own, AllocError>
+pub fn own_of(alloc: Global, entries: &[Entry], paths: &[Route]) -> Result<Own, AllocError>
     ensures { IfOk result (λ own. IsOwnOf entries.now paths.now own) }
 {
     let classes = own_kinds(alloc, entries, paths, Kind::Class)?;

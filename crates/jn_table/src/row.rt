@@ -1,12 +1,13 @@
-ghost use Rattle.std.specs.Prelude.{◌≡◌, ◌<◌, ◌≤◌, All, IfOk, length, map};
-ghost use Rattle.jn_table.specs.Universes.{FitUniverse, KindBy, UpBy, MembersUpTo, class_id, RowOf, RowsOf};
+ghost use Rattle.std.specs.Prelude.{◌≡◌, ◌<◌, ◌≤◌, All, Any, IfOk, length, map};
+ghost use Rattle.jn_table.specs.Universes.{FitUniverse, KindBy, UpBy, MembersUpTo, class_id, OrderedBy, NumbersOf, RowOf, RowsOf};
+ghost use Rattle.jn_table.specs.Own.{HasAt};
 
 use crate::class::{ClassId, Row, RowMember};
 use crate::order::in_byte_order;
 use crate::own::{Own, gathered, some_flag};
-use crate::spot::Spot;
+use crate::route::Route;
 use crate::universe::Universe;
-use jn_base::tree::{Kind, Text};
+use jn_base::tree::{Kind, Name, Text};
 use std::alloc::{AllocError, Global};
 
 /// The kind of the declarations at the paths of those numbers.
@@ -21,7 +22,7 @@ fn kind_of(own: &Own, sups: &[usize]) -> Kind
 }
 
 /// The number of the path without its last name.
-fn up_of(paths: &[Spot], path: &Spot) -> Option<ClassId>
+fn up_of(paths: &[Route], path: &Route) -> Option<ClassId>
     requires { length paths.now ≤ 4096 }
     ensures { UpBy paths.now path.now result }
 {
@@ -46,7 +47,7 @@ fn ids_of(alloc: Global, row: &[usize]) -> Result<Vec<ClassId>, AllocError>
 }
 
 /// The members of a path.
-fn members_of(alloc: Global, paths: &[Spot], up: &Spot) -> Result<Vec<RowMember>, AllocError>
+fn members_of(alloc: Global, paths: &[Route], up: &Route) -> Result<Vec<RowMember>, AllocError>
     requires { length paths.now ≤ 4096 }
     ensures { IfOk result (λ all. MembersUpTo paths.now up.now (length paths.now) all.items) }
 {
@@ -58,6 +59,45 @@ fn members_of(alloc: Global, paths: &[Spot], up: &Spot) -> Result<Vec<RowMember>
         }
     }
     Ok(all)
+}
+
+/// The names that the lists of those numbers have, each once, in the order of their bytes.
+fn names_at(
+    alloc: Global,
+    texts: &[Text],
+    lists: &[Vec<Name>],
+    numbers: &[usize],
+) -> Result<Vec<Name>, AllocError>
+    requires { All (λ n. n < length lists.now) numbers.now }
+    ensures { IfOk result (λ names. OrderedBy texts.now (λ m. Any (HasAt lists.now m) numbers.now) names.items) }
+{
+    let names = gathered(alloc, lists, numbers)?;
+    in_byte_order(alloc, texts, &names)
+}
+
+/// The numbers of a row.
+#[derive(Drop)]
+pub struct Numbers {
+    direct: Vec<ClassId>,
+    sups: Vec<ClassId>,
+    members: Vec<RowMember>,
+}
+
+/// The numbers of the row of that number.
+fn numbers_of(alloc: Global, universe: &Universe, number: usize) -> Result<Numbers, AllocError>
+    requires fits { FitUniverse universe.now }
+    requires number { number < length universe.now.nodes.paths.items }
+    ensures { IfOk result (λ numbers. NumbersOf universe.now number numbers) }
+{
+    let paths = &universe.nodes.paths;
+    let direct = ids_of(alloc, &universe.nodes.direct[number])?;
+    let sups = ids_of(alloc, &universe.sups[number])?;
+    let members = members_of(alloc, paths, &paths[number])?;
+    Ok(Numbers {
+        direct,
+        sups,
+        members,
+    })
 }
 
 /// The row of the path of that number.
@@ -73,21 +113,17 @@ fn row_of(
 {
     let path = &universe.nodes.paths[number];
     let above = &universe.sups[number];
-    let method_names = gathered(alloc, &universe.own.methods, above)?;
-    let field_names = gathered(alloc, &universe.own.fields, above)?;
     let shown = path.shown(alloc)?;
-    let direct = ids_of(alloc, &universe.nodes.direct[number])?;
-    let sups = ids_of(alloc, above)?;
-    let members = members_of(alloc, &universe.nodes.paths, path)?;
-    let methods = in_byte_order(alloc, texts, &method_names)?;
-    let fields = in_byte_order(alloc, texts, &field_names)?;
+    let methods = names_at(alloc, texts, &universe.own.methods, above)?;
+    let fields = names_at(alloc, texts, &universe.own.fields, above)?;
+    let numbers = numbers_of(alloc, universe, number)?;
     Ok(Row {
         path: shown,
         kind: kind_of(&universe.own, above),
         up: up_of(&universe.nodes.paths, path),
-        direct,
-        sups,
-        members,
+        direct: numbers.direct,
+        sups: numbers.sups,
+        members: numbers.members,
         methods,
         fields,
     })

@@ -8,7 +8,7 @@ use crate::gather::Part;
 use crate::lookup::{has_class, place_of};
 use crate::order::{copied, name_order};
 use crate::own::names_at;
-use crate::spot::Spot;
+use crate::route::Route;
 use jn_base::path::Path;
 use jn_base::tree::{Name, Program, Text};
 use sqlite_items::Items;
@@ -31,7 +31,7 @@ pub struct Table {
 
 impl Table {
     ghost use Rattle.jn_base.specs.ProgramNames.{IsNamed};
-    ghost use Rattle.jn_table.specs.Tables.{IsTableOf, IsFilledAt, IsPathOf, HasNoNumber, StaysTable, SaysFilled, SaysRefused, SaysRow, SaysSup, SaysBefore};
+    ghost use Rattle.jn_table.specs.Tables.{IsTableOf, IsFilledAt, IsPathOf, HasNoNumber, StaysTable, KeepsNumbers, SaysFilled, SaysRefused, SaysRow, SaysSup, SaysBefore, numbered, filled_paths};
     ghost use Rattle.jn_table.specs.OwnParts.{SaysMethods, SaysFields};
 
     /// The table of a program, which knows no path yet. It holds the program's declarations.
@@ -40,7 +40,7 @@ impl Table {
     /// program has that a source spells.
     pub fn new(alloc: Global, p: &Program) -> Result<Table, AllocError>
         ensures table { IfOk result (λ table. IsNamed p.now → IsTableOf p.now table) }
-        ensures unknown { IfOk result (λ table. table.known.items ≡ []) }
+        ensures unknown { IfOk result (λ table. numbered table ≡ []) }
     {
         let entries = entries(alloc, p)?;
         let order = name_order(alloc, p.names.as_slice(), &entries)?;
@@ -59,13 +59,17 @@ impl Table {
     ///
     /// It is refused exactly where the universe has more than 4,096 paths, with the 4,097th in class order; then where a path is its own
     /// strict super, and then where the supers of a path have both kinds, each with the first such path in class order.
-    /// After a refusal the table has what it had.
+    /// After a refusal the table has what it had. A number stands for one path for good.
     pub fn ask_all(&mut self) -> Result<(), TableFault>
         ensures stays { StaysTable self.old self.new }
+        ensures numbers { KeepsNumbers self.old self.new }
         ensures ok { OnOk result (SaysFilled self.old self.new) }
         ensures err { IfErr result (λ fault. SaysRefused self.old fault) }
         ensures kept { OnErr result (self.new ≡ self.old) }
     {
+        if !self.known.is_empty() {
+            return Ok(());
+        }
         let all = fill_all(
             self.alloc,
             self.texts.as_slice(),
@@ -114,7 +118,7 @@ impl Table {
 
     /// The paths whose rows are filled, each once.
     pub fn known(&self) -> &[Path]
-        ensures { result.now ≡ self.now.known.items }
+        ensures { result.now ≡ filled_paths self.now }
     {
         &self.known
     }
@@ -124,7 +128,7 @@ impl Table {
         requires { IsFilledAt self.now id }
         ensures { IfOk result (λ names. SaysMethods self.now id names.items) }
     {
-        let path = Spot::of(self.alloc, &self.known[id.0 as usize])?;
+        let path = Route::of(self.alloc, &self.known[id.0 as usize])?;
         names_at(self.alloc, &self.entries, &path, Part::Methods)
     }
 
@@ -133,7 +137,7 @@ impl Table {
         requires { IsFilledAt self.now id }
         ensures { IfOk result (λ names. SaysFields self.now id names.items) }
     {
-        let path = Spot::of(self.alloc, &self.known[id.0 as usize])?;
+        let path = Route::of(self.alloc, &self.known[id.0 as usize])?;
         names_at(self.alloc, &self.entries, &path, Part::Fields)
     }
 }

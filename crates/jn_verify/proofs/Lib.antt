@@ -1,2 +1,4 @@
 pub mod Lists
-pub mod Fronts
+pub mod Sharing
+pub mod Taken
+pub mod Noted

@@ -1,2 +1,4 @@
 pub mod Passes
 pub mod Causes
+pub mod Tails
+pub mod Shared

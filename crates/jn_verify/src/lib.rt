@@ -4,18 +4,16 @@
 //! start, and it gives back the image it was handed, as a [`Good`], exactly where the definition finds nothing wrong. Each test of the
 //! definition is a function of the same name, whose answer is the definition's.
 //!
-//! For each instruction that has been led to, the kinds of its operands are kept until the pass over its code ends: at most its length
-//! times its greatest number of operands.
+//! For each instruction that has been led to, the kinds of its operands are kept until the pass over its code ends. Lists of kinds share
+//! their tails, so an instruction costs at most one kind more.
 #![tactic(auto)]
 
 mod good;
 mod numbers;
 mod own;
 mod pass;
-mod pile;
 mod rows;
+mod tails;
 mod takes;
-#[cfg(test)]
-mod tests;
 
 pub use good::{Good, verify};

@@ -6,7 +6,7 @@ ghost use Rattle.std.specs.List.{list_all};
 ghost use Rattle.jn_code.specs.Rows.{same_numbers, numbered, group_of, up_is_good, group_is_good, member_is_good, has_shape, method_is_good, slot_is_good, field_is_good, other_is_good, row_fault};
 
 use crate::numbers::kind_of;
-use crate::pile::kind_eq;
+use crate::tails::kind_eq;
 use jn_code::{
     ClassRow, Code, FieldEntry, Group, Image, MemberEntry, MethodEntry, OtherEntry, RowWhy, Shape,
 };

@@ -11,8 +11,6 @@ ghost use Rattle.jn_base.specs.NameTexts.{name_text};
 ghost use Rattle.jn_words.specs.Line.{rule_text, place_text, names_of, dot_if, dotted, class_text, member_text, shown_text, line_of};
 
 pub mod examples;
-#[cfg(test)]
-mod tests;
 
 use itoa::Buffer;
 use jn_base::path::Path;

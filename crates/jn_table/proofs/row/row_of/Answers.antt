@@ -1,6 +1,6 @@
 use Rattle.std.proofs.Common.{◌<◌, length, refl, arith}
 use Rattle.std.proofs.lemmas.Option.{slice_get_read}
-use Rattle.jn_table.proofs.RowSteps.{gathered_order, shown_is}
+use Rattle.jn_table.proofs.RowSteps.{shown_is, slice_there}
 use Rattle.jn_table.proofs.row.row_of.Goals as goal
 
 pub returns : goal.returns
@@ -8,21 +8,22 @@ returns c =
     let n : c.args.number < length c.args.universe.now.nodes.paths.items = c.requires.number in
     let s : c.args.number < length c.args.universe.now.sups.items = omega (arith, n, c.requires.fits.sups_long) in
     let d : c.args.number < length c.args.universe.now.nodes.direct.items = omega (arith, n, c.requires.fits.nodes.long) in
+    let at_path = slice_get_read _ _ _ _ refl n c.index-path.ensures in
+    let at_above = slice_get_read _ _ _ c.index-above.result.now refl s c.index-above.ensures in
+    let below = slice_there _ _ d in
     record {
       R = c.index-path.result.now;
-      at = slice_get_read _ _ _ _ refl n c.index-path.ensures;
+      at = at_path;
       above = c.index-above.result.now;
-      above_at = slice_get_read _ _ _ c.index-above.result.now refl s c.index-above.ensures;
-      below = c.index.result.now;
-      below_at = slice_get_read _ _ _ c.index.result.now refl d c.index.ensures;
+      above_at = at_above;
+      below = below.0;
+      below_at = below.1;
       path = shown_is _ c.index-path.result.now c.in_ok-shown.ensures;
-      kind_by = rw c.deref-10.ensures.value at c.kind_of.ensures;
-      up_by = rw c.deref-11.ensures.value at c.up_of.ensures;
-      direct = rw c.deref-5.ensures.value at c.in_ok-direct.ensures;
-      sups = rw c.deref-6.ensures.value at c.in_ok-sups.ensures;
-      members = rw c.deref-7.ensures.value at c.in_ok-members.ensures;
-      methods = gathered_order _ _ c.in_ok-method_names.method_names.items _
-          (rw (c.deref.ensures.value, c.deref-2.ensures.value) at c.in_ok-method_names.ensures) (rw c.deref-8.ensures.value at c.in_ok-methods.ensures);
-      fields = gathered_order _ _ c.in_ok-field_names.field_names.items _
-          (rw (c.deref-3.ensures.value, c.deref-4.ensures.value) at c.in_ok-field_names.ensures) (rw c.deref-9.ensures.value at c.in_ok-fields.ensures);
+      kind_by = rw c.deref-5.ensures.value at c.kind_of.ensures;
+      up_by = rw c.deref-6.ensures.value at c.up_of.ensures;
+      direct = c.in_ok-numbers.ensures.direct _ below.1;
+      sups = c.in_ok-numbers.ensures.sups _ at_above;
+      members = c.in_ok-numbers.ensures.members _ at_path;
+      methods = rw (c.deref.ensures.value, c.deref-2.ensures.value) at c.in_ok-methods.ensures;
+      fields = rw (c.deref-3.ensures.value, c.deref-4.ensures.value) at c.in_ok-fields.ensures;
     }

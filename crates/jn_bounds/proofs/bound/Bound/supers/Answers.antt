@@ -1,7 +1,9 @@
-use Rattle.std.proofs.Common.{◌≡◌, ◌∷◌, [], ◌++◌, ◌↔◌, List, Contains, subst, sym, ap, ◌∙◌, Vec, Global}
+use Rattle.std.proofs.Common.{◌≡◌, ◌∷◌, [], ◌++◌, List, subst, sym, ap, ◌∙◌, Vec, Global}
 use Rattle.jn_base.specs.Paths.{Path}
 use Rattle.jn_base.specs.Supers.{Sup}
 use Rattle.jn_table.specs.declared.class.ClassId.{ClassId}
+use Rattle.jn_table.specs.Rows.{ArePaths}
+use Rattle.jn_table.specs.Tables.{numbered}
 use Rattle.jn_bounds.specs.Bounds.{AddsPaths}
 use Rattle.jn_bounds.specs.declared.bound.Bound.{Bound}
 use Rattle.jn_bounds.proofs.Adding.{Numbered, supers_numbered, supers_none}
@@ -9,7 +11,7 @@ use Rattle.jn_bounds.proofs.bound.Bound.supers.Goals.{in-None+in_ok-itself-in-No
 use Rattle.jn_bounds.proofs.bound.Bound.supers.Goals as goal
 
 pub returns : goal.returns
-returns c = λ p f S.
+returns c = λ p f.
     let t = c.args.t.now in
     let R = c.args.self.now in
     elim c.match-number.branch [
@@ -18,13 +20,13 @@ returns c = λ p f S.
           ap (λ (v : Vec Bound Global). v.items) w.all-is ∙ (w.in_ok-push-in-None.ensures.items
           ∙ (ap (λ (ps : List Path). ps ++ w.in_ok-itself-in-None.itself ∷ []) c.new-all.ensures.items
           ∙ ap (λ (P : Path). P ∷ []) w.in_ok-itself-in-None.ensures)) in
-          subst (λ (ps : List Path). Contains ps S ↔ Sup p R S) (sym alone) (supers_none p t R f w.in-None.ensures.none S)
+          subst (λ (ps : List Path). ArePaths p (Sup p R) ps) (sym alone) (supers_none p t R f w.in-None.ensures.none)
       | in-Some+in_ok-add_paths-in-Some w ↦
           let row = w.row.result.now in
-          let adds : AddsPaths t.known.items row.sups.items [] c.match-number.all.items =
+          let adds : AddsPaths t row.sups.items [] c.match-number.all.items =
           λ ps each.
           ap (λ (v : Vec Bound Global). v.items) w.all-is
-          ∙ (w.in_ok-add_paths-in-Some.ensures ps (subst (λ (ids : List ClassId). Numbered t.known.items ps ids) (sym w.deref.ensures.value) each)
+          ∙ (w.in_ok-add_paths-in-Some.ensures ps (subst (λ (ids : List ClassId). Numbered (numbered t) ps ids) (sym w.deref.ensures.value) each)
           ∙ ap (λ (before : List Path). before ++ ps) c.new-all.ensures.items) in
-          supers_numbered p t.known.items R row.sups.items c.match-number.all.items (w.row.ensures p R f.table w.in-Some.ensures.some).sups adds S
+          supers_numbered p t R row.sups.items c.match-number.all.items (w.row.ensures p R f.table w.in-Some.ensures.some).sups adds
     ]

@@ -1,4 +1,4 @@
-use Rattle.std.proofs.Common.{◌∙◌}
+use Rattle.std.proofs.Common.{◌∙◌, inl}
 use Rattle.jn_table.proofs.Shown.{no_rows}
 use Rattle.jn_table.proofs.table.Table.new.Goals as goal
 
@@ -9,4 +9,5 @@ returns-clause-table c named = record {
   entries = c.in_ok-entries.ensures;
   order = rw (← c.as_slice.ensures, ← c.deref.ensures.value) c.in_ok-order.ensures;
   rows = no_rows _ _ _ c.new.ensures.items c.new-2.ensures.items;
+  asked = inl c.new.ensures.items;
 }

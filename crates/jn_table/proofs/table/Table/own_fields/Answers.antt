@@ -1,7 +1,6 @@
 use Rattle.std.proofs.Common.{◌≡◌, List, Some, slice_get, refl, arith, subst, Contains, ◌↔◌, length}
 use Rattle.std.proofs.lemmas.Option.{slice_get_read}
 use Rattle.std.proofs.lemmas.Result.{IfOk-weaker}
-use Rattle.jn_base.specs.declared.tree.Name.{Name}
 use Rattle.jn_table.specs.declared.entry.Entry.{Entry}
 use Rattle.jn_table.specs.declared.gather.Part.TheVariants as part
 use Rattle.jn_table.specs.Gather.{OwnIn}

@@ -1,0 +1,9 @@
+pub mod Subsequence
+pub mod LocalPlaces
+pub mod BodyPlaces
+pub mod ProgramWords
+pub mod PlaceOrder
+pub mod Ascending
+pub mod Answered
+pub mod TokensThere
+pub mod WordsThere
