@@ -156,7 +156,7 @@ over m n l h = by (nat_lt m n) refl where
   by true e = refl
   by false e = absurd (omega (arith, h, ltb-false m n e))
 
-at_most : (m n : ℕ) (l : Limit) → ((if nat_lt m n then Some l else None) ≡ Some l → ⊥) → n ≤ m
+pub at_most : (m n : ℕ) (l : Limit) → ((if nat_lt m n then Some l else None) ≡ Some l → ⊥) → n ≤ m
 at_most m n l h = by (nat_lt m n) refl where
   by : (t : Bool) → nat_lt m n ≡ t → n ≤ m
   by true e = absurd (h (over m n l (ltb-true m n e)))

@@ -15,3 +15,5 @@ pub mod MovedTypes
 pub mod StoredValues
 pub mod SpelledForms
 pub mod CleanTexts
+pub mod SpelledBodies
+pub mod FewLocals

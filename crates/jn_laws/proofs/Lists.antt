@@ -29,7 +29,7 @@ none_got i x e = cc
 same_some : {A : Type 0} (y x : A) → Some y ≡ Some x → y ≡ x
 same_some y x e = cc
 
-got : {A : Type 0} (xs : List A) (i : ℕ) (x : A) → slice_get xs i ≡ Some x → Among xs x
+pub got : {A : Type 0} (xs : List A) (i : ℕ) (x : A) → slice_get xs i ≡ Some x → Among xs x
 got [] i x e = absurd (none_got i x e)
 got (y ∷ xs) zero x e = subst (Among (y ∷ xs)) (same_some y x e) first
 got (y ∷ xs) (suc i) x e = later (got xs i x e)

@@ -8,6 +8,7 @@ use Rattle.jn_base.specs.declared.tree.Program.{Program}
 use Rattle.jn_base.specs.declared.types.Anchor.{Anchor}
 use Rattle.jn_base.specs.declared.types.Anchor.TheVariants.{Root, Up}
 use Rattle.jn_base.specs.declared.types.Ty.{Ty}
+use Rattle.jn_base.specs.declared.types.Ty.TheVariants as ty
 use Rattle.jn_base.specs.Paths.{Path}
 use Rattle.jn_base.specs.Atoms.{Atom, atom, atoms_in, anchor_at, Among}
 use Rattle.jn_base.specs.Scopes.{Bind, Scope, bound_of, bound}
@@ -15,18 +16,18 @@ use Rattle.jn_base.specs.Fits.{Anchored, AtomsFit, TypeFits, BindsFit}
 use Rattle.jn_base.proofs.SuperLaws.{sup_level}
 use Rattle.jn_sem.specs.Widening.{reduced, Widens, loosened, raised, opened, widened}
 use Rattle.jn_sem.specs.Below.{Below, ints, booleans, nulls, classes}
-use Rattle.jn_sem.specs.Normal.{moved, MovedFits}
+use Rattle.jn_sem.specs.Normal.{normal, moved, MovedFits}
 use Rattle.jn_sem.specs.NormalFunction.{subst_type}
 use Rattle.jn_sem.proofs.NormalTypes.{among_map, map_among, type_subst_is, type_subst_fits}
-use Rattle.jn_sem.proofs.Under.{type_anchored, fits_whole, bound_depth}
-use Rattle.jn_sem.proofs.Levels.{reduced_anchored}
+use Rattle.jn_sem.proofs.Under.{type_anchored, fits_whole, bound_depth, atoms_fit}
+use Rattle.jn_sem.proofs.Levels.{reduced_anchored, normal_depth}
 use Rattle.jn_sem.proofs.Widenings.{lifted_at}
 use Rattle.jn_laws.specs.LawsOfFits.{AsDeep, MovedTypesFit, BelowKeepsDepth}
 
 -- ---- paths replaced
 
 module _ (h s : Scope) (f : ℕ → ℕ) where
-  moved_anchored : (a : Anchor) (es ns : List Name) → Anchored h a → ((q k : ℕ) → a ≡ Up q k → AsDeep h s q (f q)) → Anchored s (moved f (atom a es ns)).anchor
+  pub moved_anchored : (a : Anchor) (es ns : List Name) → Anchored h a → ((q k : ℕ) → a ≡ Up q k → AsDeep h s q (f q)) → Anchored s (moved f (atom a es ns)).anchor
   moved_anchored Root es ns i d = tt
   moved_anchored (Up q k) es ns i d = let r = d q k refl in (r.bound_in, omega (arith, i.1, r.depth))
 
@@ -59,13 +60,29 @@ module _ (h s : Scope) (f : ℕ → ℕ) where
     deep x y e m =
         sym (ap (λ (z : Atom). length (bound s z)) e) ∙ moved_deep y (λ q k. d y q k m) ∙ a.depth y m ∙ sym (moved_deep a.one (λ q k. d a.one q k a.among))
 
+-- an atom of the substituted type is the normal form of a moved one
+pub subst_from : (s : Scope) (f : ℕ → ℕ) (t : Ty) (y : Atom) → Among (atoms_in (subst_type s f t)) y → (x : Atom) × Among (atoms_in t) x × (y ≡ normal s (moved f x))
+subst_from s f (ty.Class xs m) y a = ((type_subst_is s f (ty.Class xs m) (subst_type s f (ty.Class xs m))).1 refl).0.only y a
+subst_from s f ty.Int y a = elim a [ ]
+subst_from s f ty.Bool y a = elim a [ ]
+subst_from s f ty.Null y a = elim a [ ]
+subst_from s f ty.Void y a = elim a [ ]
+
 pub moved_types_fit : MovedTypesFit
 moved_types_fit h s f t fits deep = record {
   moved = moves;
   substituted = λ g. type_subst_fits s f t (subst_type s f t) g moves ((type_subst_is s f t (subst_type s f t)).1 refl);
+  depth = λ g x y m n. let o = subst_from s f t y n in
+      depth g x y o.0 m o.1 o.2;
 } where
   moves : MovedFits s f t
   moves i = moved_fit h s f (atoms_in t) (fits.atoms i) deep
+
+  depth : BindsFit s → (x y z : Atom) → Among (atoms_in t) x → Among (atoms_in t) z → y ≡ normal s (moved f z) → length (bound s y) ≡ length (bound h x)
+  depth g x y z m n e =
+      let a = atoms_fit fits x m in
+      let anchored = moved_anchored h s f z.anchor z.exact z.names (a.anchored z n) (λ q k. deep z q k n) in
+      ap (λ (w : Atom). length (bound s w)) e ∙ normal_depth s g (moved f z) anchored ∙ moved_deep h s f z (λ q k. deep z q k n) ∙ a.depth z n ∙ sym (a.depth x m)
 
 -- ---- widening keeps the depth
 

@@ -18,10 +18,11 @@ use Rattle.jn_base.specs.declared.tree.Member.TheVariants as member
 use Rattle.jn_base.specs.declared.tree.Member.TheVariants.{outs-Inner, outs-Slot, outs-Body}
 use Rattle.jn_base.specs.declared.tree.Place.{Place}
 use Rattle.jn_base.specs.declared.tree.Program.{Program}
-use Rattle.jn_base.specs.declared.word.Mark.TheVariants.{OpenBrace, CloseBrace, OpenParen}
+use Rattle.jn_base.specs.declared.word.Mark.TheVariants.{OpenBrace, CloseBrace, OpenParen, CloseParen}
 use Rattle.jn_base.specs.Parts.{Part, Declares, name, named, new_name, opening, mark}
 use Rattle.jn_base.specs.GrammarTypes.{IsDotted, one_name, more_names, IsTerm, plain, own, in_prefix, IsView, view, IsAtoms, last_atom, then_atom, IsType, int, boolean, class}
 use Rattle.jn_base.specs.GrammarDecl.{IsParam, param, IsMoreParams, no_more_param, then_param, IsParams, no_param, params, IsRel, rel, IsMoreRels, no_more_rel, then_rel, IsSharing, no_sharing, sharing, IsResult, no_result, result, IsInner, IsMember, IsMembers, IsTop, IsProgram}
+use Rattle.jn_base.specs.GrammarStmt.{IsStmts}
 use Rattle.jn_base.specs.Paths.{Path, StandsIn, StandsAt, nested, fields, methods, and_nested, and_field, and_method}
 use Rattle.jn_base.specs.Members.{FieldAt, MethodAt}
 use Rattle.jn_base.specs.Atoms.{Among, first, later}
@@ -113,6 +114,9 @@ pub record MethodFormed (x : Method) : Type 0 where
   pub params : IsParams (suc around) param_words x.params
   pub sharing_words : List Part
   pub sharing : IsSharing around sharing_words x.sharing
+  pub body_words : List Part
+  pub locals : ℕ
+  pub body : IsStmts (suc around) 0 body_words x.body locals
 
 -- ---- members of the grammar
 
@@ -154,6 +158,7 @@ module _ (all : List Part) where
   pub record MethodIn (x : Method) : Type 0 where
     pub formed : MethodFormed x
     pub within : Within all formed.param_words
+    pub body_within : Within all formed.body_words
 
   -- A declaration whose words are among all: its name at the depth n, and its members.
   pub record DeclIn (n : ℕ) (d : Decl) : Type 0 where
@@ -231,20 +236,40 @@ module _ (all : List Part) where
   params_within r v rest w s o h =
       within_left all v rest (within_tail all o (v ++ rest) (within_tail all s (o ∷ (v ++ rest)) (within_right all r (s ∷ o ∷ (v ++ rest)) (within_left all (r ++ (s ∷ o ∷ (v ++ rest))) w h))))
 
+  statements_within : (r v u w rest : List Part) (s o c b e : Part) → Within all ((r ++ (s ∷ o ∷ (v ++ (c ∷ (u ++ (b ∷ (w ++ e ∷ []))))))) ++ rest) → Within all w
+  statements_within r v u w rest s o c b e h =
+      let close = w ++ e ∷ [] in
+      let block = u ++ (b ∷ close) in
+      let tail = v ++ (c ∷ block) in
+      within_left all w (e ∷ []) (within_tail all b close (within_right all u (b ∷ close) (within_tail all c block (within_right all v (c ∷ block)
+      (within_tail all o tail (within_tail all s (o ∷ tail) (within_right all r (s ∷ o ∷ tail) (within_left all (r ++ (s ∷ o ∷ tail)) rest h))))))))
+
   pub method_in : (k : Kind) (a l : ℕ) (w : List Part) (ms : List Member) → IsMembers k a l w ms → Within all w → (m : Method) → Contains (methods ms) m → MethodIn m
   method_in k a l _ _ IsMembers.no_member h m c = absurd (in_none m c)
   method_in k a l _ _ (IsMembers.then_member {v = v} {w = w} {ts = ts} (IsMember.declared {t = t} i) more) h m c =
       method_in k a l w ts more (within_right all v w h) m (as_method ts m (member.Inner t) _ (outs-Inner t) c)
   method_in k a l _ _ (IsMembers.then_member {v = v} {w = w} {ts = ts} (IsMember.slot {x = x} p s {t = ty} i) more) h m c =
       method_in _ a l w ts more (within_right all v w h) m (as_method ts m (member.Slot (record { ty = ty; name = named x p })) _ (outs-Slot (record { ty = ty; name = named x p })) c)
-  method_in k a l _ _ (IsMembers.then_member {v = v} {w = w} {ts = ts} (IsMember.method {x = x} p o c' b e {r = rw} {v = pw} {u = sw} {w = bw} {res = res} {ts = ps} {cs = cs} {ss = ss} r g u z) more) h m c =
+  method_in k a l _ _ (IsMembers.then_member {v = v} {w = w} {ts = ts} (IsMember.method {m = n} {x = x} p o c' b e {r = result_part} {v = pw} {u = sw} {w = bw} {res = res} {ts = ps} {cs = cs} {ss = ss} r g u z) more) h m c =
       or_else (in_cons (record { result = res; name = named x p; params = ps; sharing = cs; body = ss }) (methods ts) m
       (as_method ts m (member.Body (record { result = res; name = named x p; params = ps; sharing = cs; body = ss })) _ (outs-Body (record { result = res; name = named x p; params = ps; sharing = cs; body = ss })) c))
       (λ i. subst MethodIn i (record {
-        formed = record { around = a; result_words = rw; result = r; param_words = pw; params = g; sharing_words = sw; sharing = u };
-        within = params_within rw pw _ w (name x p) (opening a OpenParen o) h;
+        formed = record {
+          around = a;
+          result_words = result_part;
+          result = r;
+          param_words = pw;
+          params = g;
+          sharing_words = sw;
+          sharing = u;
+          body_words = bw;
+          locals = n;
+          body = z;
+        };
+        within = params_within result_part pw _ w (name x p) (opening a OpenParen o) h;
+        body_within = statements_within result_part pw sw bw w (name x p) (opening a OpenParen o) (mark CloseParen c') (opening a OpenBrace b) (mark CloseBrace e) h;
       }))
-      (λ n. method_in _ a l w ts more (within_right all v w h) m n)
+      (λ k. method_in _ a l w ts more (within_right all v w h) m k)
 
   tops_in : (w : List Part) (ds : List Decl) → IsProgram w ds → Within all w → (d : Decl) → Contains ds d → DeclIn 1 d
   tops_in _ _ IsProgram.no_top h d c = absurd (in_none d c)

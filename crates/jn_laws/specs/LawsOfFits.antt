@@ -23,6 +23,8 @@ pub record MovedOf (h s : Scope) (f : ℕ → ℕ) (t : Ty) : Type 0 where
   -- then what fits h fits s with its paths replaced, and so does its normal form there
   pub moved : MovedFits s f t
   pub substituted : BindsFit s → TypeFits s (subst_type s f t)
+  -- and the bounds are as deep
+  pub depth : BindsFit s → (x y : Atom) → Among (atoms_in t) x → Among (atoms_in (subst_type s f t)) y → length (bound s y) ≡ length (bound h x)
 
 abbrev pub MovedTypesFit : Type 0
 MovedTypesFit = (h s : Scope) (f : ℕ → ℕ) (t : Ty) → TypeFits h t → PutAsDeep h s f t → MovedOf h s f t

@@ -8,3 +8,4 @@ pub mod LawsOfFits
 pub mod Reading
 pub mod LawsOfStores
 pub mod LawsOfSources
+pub mod LawsOfBodies

@@ -1,3 +1,4 @@
+ghost use Rattle.jn_laws.specs.LawsOfBodies.{SourcesBodiesFormed, TextsHaveFewLocals};
 ghost use Rattle.jn_laws.specs.LawsOfSources.{SourcesBracketsNamed, SourcesWellFormed, TextsKeepLimits};
 
 /// In a program that a source spells the types of headers have terms, with names before each bracket.
@@ -13,4 +14,14 @@ pub fn sources_brackets_named()
 /// In a program whose source no limit refuses, paths have at most 8 names and methods at most 15 parameters.
 pub fn texts_keep_limits()
     ensures { TextsKeepLimits }
+{}
+
+/// In a program that a source spells the types and terms of bodies have names before each bracket.
+pub fn sources_bodies_formed()
+    ensures { SourcesBodiesFormed }
+{}
+
+/// In a program whose source no limit refuses the parameters and locals of a body have paths below 216.
+pub fn texts_have_few_locals()
+    ensures { TextsHaveFewLocals }
 {}

@@ -1,4 +1,9 @@
+pub mod Covers
 pub mod Exact
+pub mod FieldLists
+pub mod Growing
+pub mod Inside
+pub mod Kinship
 pub mod Making
 pub mod Names
 pub mod PairsFound
@@ -6,4 +11,7 @@ pub mod Partners
 pub mod Reading
 pub mod Refusing
 pub mod Relating
+pub mod SameFields
+pub mod Steps
 pub mod Walk
+pub mod Diffs

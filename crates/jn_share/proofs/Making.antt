@@ -1,10 +1,11 @@
 -- The groups that the rows make, and the first refusal.
-use Rattle.std.proofs.Common.{◌≡◌, ◌<◌, ◌↔◌, ℕ, List, [], ◌∷◌, ◌++◌, length, Contains, Some, Result, Ok, Err, slice_get, slice_index, refl, sym, ap, ◌∙◌, subst, arith}
+use Rattle.std.proofs.Common.{◌≡◌, ◌≤◌, ◌<◌, ◌↔◌, ◌⊎◌, inl, inr, ℕ, zero, suc, List, [], ◌∷◌, ◌++◌, length, Contains, Some, Result, Ok, Err, slice_get, slice_index, refl, sym, ap, ◌∙◌, subst, arith}
+use Rattle.std.proofs.lemmas.Bool.{cases_lt}
 use Rattle.std.proofs.lemmas.Option.{slice_get_within}
 use Rattle.std.proofs.lemmas.List.Elements.{Contains-append_right}
-use Rattle.jn_reach.specs.Equivalent.{Equivalent}
+use Rattle.jn_reach.specs.Equivalent.{Equivalent, itself}
 use Rattle.jn_reach.specs.Numbers.{NumbersPairs, AreDistinct}
-use Rattle.jn_reach.specs.Pairs.{IsPair}
+use Rattle.jn_reach.specs.Pairs.{IsPair, AreFirsts}
 use Rattle.jn_reach.proofs.Numbering.{Numbers-equivalent, Numbers-between}
 use Rattle.jn_reach.proofs.Searches.{same_some}
 use Rattle.jn_base.specs.declared.tree.Program.{Program}
@@ -26,7 +27,7 @@ use Rattle.jn_share.specs.declared.fault.ShareFault.TheVariants.{Refused, Memory
 use Rattle.jn_share.specs.declared.groups.Groups.{Groups}
 use Rattle.jn_share.specs.declared.rows.GroupRow.{GroupRow}
 use Rattle.jn_share.specs.declared.rows.Partner.{Partner}
-use Rattle.jn_share.specs.Groups.{HaveOneGroup, HasCounterpart, IsCounterpart, AreGroups, GroupsGive, RefusedOr}
+use Rattle.jn_share.specs.Groups.{HasGroup, HaveOneGroup, HasCounterpart, IsCounterpart, AreGroups, GroupsGive, RefusedOr}
 use Rattle.jn_share.specs.Listing.{PassesOr}
 use Rattle.jn_share.specs.Pairing.{IsAt, ArePairs}
 use Rattle.jn_share.specs.Rows.{LinkFirsts, IsGroupRow, GroupRowsTo}
@@ -93,14 +94,21 @@ module _ (p : Program) (t : Table) (f : IsFilled p t) where
 
   -- ---- the rows
 
-  pub are_groups : (firsts : List ℕ) (groups : Groups) → LinkFirsts p t.known.items firsts → GroupRowsTo p t.known.items firsts (length t.known.items) groups.rows.items
+  pub are_groups : (firsts : List ℕ) (groups : Groups) → ((a : ℕ) → slice_index firsts a ≤ a) → LinkFirsts p t.known.items firsts → GroupRowsTo p t.known.items firsts (length t.known.items) groups.rows.items
       → AreGroups p t.known.items groups
-  are_groups firsts groups link rows = record { whole = f.whole.whole; related = related; counterparts = counterparts } where
+  are_groups firsts groups lowest link rows = record { whole = f.whole.whole; low = low; related = related; counterparts = counterparts } where
     Row : ClassId → Path → Type 0
     Row a A = (row : GroupRow) × (slice_get groups.rows.items a.0 ≡ Some row) × IsGroupRow p t.known.items firsts a.0 A row
 
     row_at : (a : ClassId) (A : Path) → IsNumber t.known.items a A → (row : GroupRow) × (slice_get groups.rows.items a.0 ≡ Some row) × IsGroupRow p t.known.items firsts a.0 A row
     row_at a A x = rows.each a.0 A (slice_get_within t.known.items a.0 (shown A) x) x
+
+    low : (a : ClassId) (A : Path) (k : ℕ) → IsNumber t.known.items a A → HasGroup groups.rows.items a k → k ≤ a.0
+    low a A k x h =
+        let one = row_at a A x in
+        let same = same_some (slice_get groups.rows.items a.0) h.row one.0 h.at one.1 in
+        let q = (one.2.group k).0 (subst (λ (r : GroupRow). r.group ≡ Some k) same h.is) in
+        subst (λ (n : ℕ). n ≤ a.0) q.1 (lowest a.0)
 
     related : (a b : ClassId) (A B : Path) → IsNumber t.known.items a A → IsNumber t.known.items b B → HaveOneGroup groups.rows.items a b ↔ Related p A B
     related a b A B x y =
@@ -133,6 +141,17 @@ module _ (p : Program) (t : Table) (f : IsFilled p t) where
             among = one.2.counterparts.complete family class (slice_get_within t.known.items class.0 (shown c.W) c.class_is) c;
           },
         )
+
+-- no first number is greater than the number
+pub lowest : (n : ℕ) (E : ℕ → ℕ → Type 0) (firsts : List ℕ) → AreFirsts E n firsts → (a : ℕ) → slice_index firsts a ≤ a
+lowest n E firsts h a = by_place (cases_lt a n) where
+  by_place : (a < n) ⊎ (n ≤ a) → slice_index firsts a ≤ a
+  by_place (inl l) = (h.each a l).least a itself
+  by_place (inr l) = nothing firsts a (omega (arith, h.long, l)) where
+    nothing : (xs : List ℕ) (i : ℕ) → length xs ≤ i → slice_index xs i ≤ i
+    nothing [] i m = omega arith
+    nothing (x ∷ xs) zero m = absurd (omega arith)
+    nothing (x ∷ xs) (suc i) m = omega (arith, nothing xs i (omega (arith, m)))
 
 -- ---- the first refusal
 

@@ -1,5 +1,5 @@
 -- Of which program groups are, and what their calls say.
-use Rattle.std.specs.Prelude.{◌≡◌, ◌↔◌, ℕ, List, [], ◌∷◌, Contains, Option, Some, None, slice_get, Bool, IsTrue, Result, Ok, Err}
+use Rattle.std.specs.Prelude.{◌≡◌, ◌↔◌, ◌<◌, ◌≤◌, ℕ, List, [], ◌∷◌, Contains, Option, Some, None, slice_get, Bool, IsTrue, Result, Ok, Err}
 use Rattle.jn_base.specs.declared.tree.Name.{Name}
 use Rattle.jn_base.specs.declared.tree.Program.{Program}
 use Rattle.jn_base.specs.declared.path.Path.{Path as ShownPath}
@@ -42,9 +42,14 @@ pub record IsCounterpart (p : Program) (known : List ShownPath) (U : Path) (fami
 -- the groups of p, whose universe is numbered so
 pub record AreGroups (p : Program) (known : List ShownPath) (groups : Groups) : Type 0 where
   pub whole : (R : Path) → InUniverse p R → (id : ClassId) × IsNumber known id R
+  pub low : (id : ClassId) (A : Path) (f : ℕ) → IsNumber known id A → HasGroup groups.rows.items id f → f ≤ id.0
   pub related : (a b : ClassId) (A B : Path) → IsNumber known a A → IsNumber known b B → HaveOneGroup groups.rows.items a b ↔ Related p A B
   pub counterparts : (a family class : ClassId) (A : Path) → IsNumber known a A
       → HasCounterpart groups.rows.items a family class ↔ IsCounterpart p known A family class
+
+-- the first n numbers have the first number of their group
+abbrev pub StartsOf : List GroupRow → List ℕ → ℕ → Type 0
+StartsOf rows parts n = (k f : ℕ) (row : GroupRow) → k < n → slice_get rows k ≡ Some row → row.group ≡ Some f → f ≤ k → slice_get parts k ≡ Some f
 
 -- of whatever program the groups are, whether the paths A and B of the numbers are related
 abbrev pub SaysRelated : Groups → ClassId → ClassId → Bool → Type 0

@@ -1,4 +1,11 @@
+pub mod Atoms
 pub mod Groups
+pub mod Limits
 pub mod Listing
 pub mod Pairing
+pub mod Parting
+pub mod Parts
+pub mod Prepared
+pub mod Refining
 pub mod Rows
+pub mod Slots

@@ -1,13 +1,14 @@
-ghost use Rattle.std.specs.Prelude.{◌↔◌, ◌≡◌, Contains, ℕ, length, map, IsTrue, IfOk, IfSome, IfNone};
+ghost use Rattle.std.specs.Prelude.{◌↔◌, ◌≡◌, ◌≤◌, Contains, Some, ℕ, length, map, slice_get, slice_index, IsTrue, IfOk, IfSome, IfNone};
 ghost use Rattle.jn_reach.specs.Pairs.{AreBelow};
 ghost use Rattle.jn_base.specs.declared.tree.Program.{Program};
 ghost use Rattle.jn_base.specs.declared.refusal.Refusal.{Refusal};
 ghost use Rattle.jn_table.specs.Tables.{IsFilled};
 ghost use Rattle.jn_table.specs.declared.class.ClassId.{ClassId as AClassId};
 ghost use Rattle.jn_sem.specs.NotFamily.{IsFirstNotFamily, listed_names};
-ghost use Rattle.jn_share.specs.Groups.{HasGroup, HasCounterpart, AreGroups};
+ghost use Rattle.jn_share.specs.Groups.{HasGroup, HasCounterpart, AreGroups, StartsOf};
 ghost use Rattle.jn_share.specs.Listing.{listed_of};
 ghost use Rattle.jn_share.specs.Pairing.{ArePairs};
+ghost use Rattle.jn_share.specs.Refining.{AreLow};
 ghost use Rattle.jn_share.specs.Rows.{LinkFirsts};
 
 use crate::families::check;
@@ -73,6 +74,7 @@ fn counterpart(rows: &[GroupRow], id: ClassId, family: ClassId) -> Option<ClassI
 fn firsts_of(alloc: Global, t: &Table, pairs: &[(usize, usize)]) -> Result<Vec<usize>, AllocError>
     requires { AreBelow (length t.now.known.items) pairs.now }
     ensures long { IfOk result (λ firsts. length firsts.items ≡ length t.now.known.items) }
+    ensures low { IfOk result (λ firsts. (a : ℕ) → slice_index firsts.items a ≤ a) }
     ensures links { IfOk result (λ firsts. (p : Program) → IsFilled p t.now → ArePairs p t.now.known.items (listed_names p) pairs.now → LinkFirsts p t.now.known.items firsts.items) }
 {
     class_firsts(alloc, t.known().len(), pairs)
@@ -86,6 +88,17 @@ fn groups_of(alloc: Global, t: &Table, names: &[ListedName]) -> Result<Groups, A
     let firsts = firsts_of(alloc, t, &pairs)?;
     let rows = rows_of(alloc, t, &firsts)?;
     Ok(Groups { rows })
+}
+
+/// The first number of the group of the row, which is that of the number; the number itself where there is none.
+fn start_of(row: &GroupRow, k: usize) -> usize
+    ensures low { result ≤ k }
+    ensures is { (f : ℕ) → row.now.group ≡ Some f → f ≤ k → result ≡ f }
+{
+    match row.group {
+        None => k,
+        Some(first) => first.min(k),
+    }
 }
 
 impl Groups {
@@ -124,5 +137,18 @@ impl Groups {
         ensures { SaysCounterpart self.now a family result }
     {
         counterpart(&self.rows, a, family)
+    }
+
+    /// For each number the first one of its group; the number itself where it has none.
+    pub fn starts(&self, alloc: Global) -> Result<Vec<usize>, AllocError>
+        ensures long { IfOk result (λ parts. length parts.items ≡ length self.now.rows.items) }
+        ensures low { IfOk result (λ parts. AreLow parts.items) }
+        ensures is { IfOk result (λ parts. StartsOf self.now.rows.items parts.items (length self.now.rows.items)) }
+    {
+        let mut parts = Vec::new(alloc);
+        for (k, row) in self.rows.iter().enumerate() {
+            parts.push(start_of(row, k))?;
+        }
+        Ok(parts)
     }
 }

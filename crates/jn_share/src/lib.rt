@@ -11,16 +11,22 @@
 //! its counterparts by family (`rows`).
 #![tactic(auto)]
 
+mod alike;
+mod atoms;
 mod families;
 mod fault;
 mod groups;
 mod listed;
 mod pairs;
+mod parting;
 mod paths;
+mod prepared;
+mod refining;
 mod rows;
+mod slots;
 
+pub use atoms::{in_atom, in_type};
 pub use fault::ShareFault;
 pub use groups::Groups;
+pub use slots::Slots;
 
-#[cfg(test)]
-mod tests;

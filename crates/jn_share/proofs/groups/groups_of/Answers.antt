@@ -1,4 +1,4 @@
-use Rattle.std.proofs.Common.{sym, subst, List, ℕ}
+use Rattle.std.proofs.Common.{◌≤◌, sym, subst, List, ℕ, slice_index}
 use Rattle.jn_sem.specs.NotFamily.{Listed, listed_names}
 use Rattle.jn_share.specs.Pairing.{ArePairs}
 use Rattle.jn_share.specs.Rows.{LinkFirsts}
@@ -12,5 +12,6 @@ returns c = λ p f e.
     let pairs : ArePairs p known (listed_names p) c.deref.result.now =
     subst (λ (ps : List (ℕ × ℕ)). ArePairs p known (listed_names p) ps) (sym c.deref.ensures.value)
     (subst (λ (xs : List Listed). ArePairs p known xs c.in_ok-pairs.pairs.items) e (c.in_ok-pairs.ensures.exact p f)) in
+    let low : (a : ℕ) → slice_index firsts a ≤ a = subst (λ (fs : List ℕ). (a : ℕ) → slice_index fs a ≤ a) (sym c.deref-2.ensures.value) c.in_ok-firsts.ensures.low in
     let link : LinkFirsts p known firsts = subst (LinkFirsts p known) (sym c.deref-2.ensures.value) (c.in_ok-firsts.ensures.links p f pairs) in
-    are_groups p c.args.t.now f firsts (record { rows = c.in_ok-rows.rows }) link (c.in_ok-rows.ensures p f link)
+    are_groups p c.args.t.now f firsts (record { rows = c.in_ok-rows.rows }) low link (c.in_ok-rows.ensures p f link)

@@ -1,0 +1,3 @@
+pub mod LawsOfHeaders
+pub mod LawsOfMembers
+pub mod LawsOfForms
