@@ -26,7 +26,9 @@ among_at (Q ∷ ps) (suc k) P a = let r = among_at ps k P a in (suc r.0, omega (
 mutual
   pub direct_heir : {p : Program} {R S : Path} → Direct p R S → IsNamespace p R
   direct_heir (inherited d s x) = (direct_heir d, record { at = _; super = above d s; declared = x })
-  direct_heir (written s e t x) = (sup_heir s (stands_namespace _ _ e.decl e.stands.0), record { at = _; super = s; declared = record { decl = e.decl; stands = e.stands } })
+  direct_heir (written s e t x) =
+      (sup_heir s (stands_namespace _ _ e.decl e.stands.0), record { at = _; super = s; declared =
+      record { decl = e.decl; stands = e.stands } })
 
   pub sup_heir : {p : Program} {R S : Path} → Sup p R S → IsNamespace p S → IsNamespace p R
   sup_heir itself n = n
@@ -41,7 +43,9 @@ member_known p P C = (λ m. (member_namespace m, m), λ u. u.1)
 
 pub direct_known : {p : Program} {R S : Path} → Direct p R S → InUniverse p R
 direct_known (inherited d s x) = (direct_heir d, record { at = _; super = above d s; declared = x })
-direct_known (written s e t x) = (sup_heir s (stands_namespace _ _ e.decl e.stands.0), record { at = _; super = s; declared = record { decl = e.decl; stands = e.stands } })
+direct_known (written s e t x) =
+    (sup_heir s (stands_namespace _ _ e.decl e.stands.0), record { at = _; super = s; declared =
+    record { decl = e.decl; stands = e.stands } })
 
 -- a super is the path itself, or both are in the universe
 pub sup_known : {p : Program} {R S : Path} → Sup p R S → (R ≡ S) ⊎ (InUniverse p R × InUniverse p S)
@@ -49,7 +53,8 @@ sup_known itself = inl refl
 sup_known (above d s) = let u = direct_known d in inr (u, sup_in_universe (above d s) u)
 
 -- what has a number is in the universe, and what has none isn't
-pub numbered_known : (p : Program) (t : Table) (R : Path) (id : ClassId) → IsFilled p t → IsNumber t.known.items id R → InUniverse p R
+pub numbered_known : (p : Program) (t : Table) (R : Path) (id : ClassId) → IsFilled p t
+    → IsNumber t.known.items id R → InUniverse p R
 numbered_known p t R id f n =
     let r = f.table.rows in
     let o = in_order (class_cmp p) r.paths r.in_order in

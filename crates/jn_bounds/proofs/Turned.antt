@@ -6,8 +6,10 @@ use Rattle.std.proofs.Math.ListN.{drop_of_length-le}
 use Rattle.std.proofs.Math.Seq.{drop-append_seam, drop-cons}
 
 -- the element at i, and what stands behind it
-pub at_index : {A : Type 0} (xs : List A) (i : ℕ) (x : A) → i < length xs → x ≡ get_or xs i x → drop i xs ≡ x ∷ drop (i + 1) xs
-at_index {A} xs i x h e = drop-cons xs i x h ∙ (ap (λ (y : A). y ∷ drop (suc i) xs) (sym e) ∙ ap (λ (n : ℕ). x ∷ drop n xs) (sym (add-one i)))
+pub at_index : {A : Type 0} (xs : List A) (i : ℕ) (x : A) → i < length xs → x ≡ get_or xs i x
+    → drop i xs ≡ x ∷ drop (i + 1) xs
+at_index {A} xs i x h e = drop-cons xs i x h ∙
+    (ap (λ (y : A). y ∷ drop (suc i) xs) (sym e) ∙ ap (λ (n : ℕ). x ∷ drop n xs) (sym (add-one i)))
 
 pub at_place : {A : Type 0} (xs : List A) (i : ℕ) (d : A) → i < length xs → drop i xs ≡ get_or xs i d ∷ drop (i + 1) xs
 at_place xs i d h = drop-cons xs i d h ∙ ap (λ (n : ℕ). get_or xs i d ∷ drop n xs) (sym (add-one i))
@@ -21,7 +23,8 @@ turned_first x xs = reverse-append (x ∷ []) xs
 -- the first n of a list are, turned, what is left without as many last ones as are behind them
 pub kept : {A : Type 0} (xs : List A) (n k : ℕ) → n + k ≡ length xs → reverse (take n xs) ≡ drop k (reverse xs)
 kept {A} xs n k e =
-    let back : k ≡ length (reverse (drop n xs)) = sym (length-reverse (drop n xs) ∙ (length-drop n xs ∙ omega arith)) in
+    let back : k ≡ length (reverse (drop n xs)) = sym
+        (length-reverse (drop n xs) ∙ (length-drop n xs ∙ omega arith)) in
     let whole : reverse xs ≡ reverse (drop n xs) ++ reverse (take n xs) =
     ap reverse (sym (take-append-drop n xs)) ∙ reverse-append (take n xs) (drop n xs) in
     sym (ap (λ (m : ℕ). drop m (reverse xs)) back

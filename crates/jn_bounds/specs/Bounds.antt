@@ -12,4 +12,5 @@ HasNone t R = (id : ClassId) → StandsFor t id R → ⊥
 
 -- where the numbers stand for paths, those come behind the earlier ones, in the order of the numbers
 abbrev pub AddsPaths : Table → List ClassId → List Path → List Path → Type 0
-AddsPaths t ids before after = (paths : List Path) → Each (λ S id. StandsFor t id S) paths ids → after ≡ before ++ paths
+AddsPaths t ids before after =
+    (paths : List Path) → Each (λ S id. StandsFor t id S) paths ids → after ≡ before ++ paths

@@ -142,7 +142,8 @@ impl Bound {
         }
     }
 
-    /// The supers of the path, itself among them, each once and in class order, by a table in which the universe is filled.
+    /// The supers of the path, itself among them, each once and in class order, by a table in which the
+    /// universe is filled.
     pub fn supers(&self, alloc: Global, t: &Table) -> Result<Vec<Bound>, AllocError>
         ensures { IfOk result (λ all. (p : Program) → IsFilled p t.now → ArePaths p (Sup p self.now) all.items) }
     {

@@ -22,13 +22,16 @@ short p bytes t = by (cases_lt greatest_source (length bytes)) where
   by (inl h) = absurd (t.not_refused _ (too_long h))
   by (inr h) = h
 
-read_answered : (bytes : List ℕ) (names texts : List Text) (ws : List Lexeme) → length bytes ≤ greatest_source → AreWordsOf bytes names texts ws
+read_answered : (bytes : List ℕ) (names texts : List Text) (ws : List Lexeme) → length bytes ≤ greatest_source
+    → AreWordsOf bytes names texts ws
     → (r : Answer (List Decl)) → checked_in ws ≡ r → IsAnswered bytes
 read_answered bytes names texts ws h a (Ok x) e = inl (_, given_of bytes names texts ws x.0 x.1 h a e)
 read_answered bytes names texts ws h a (Err f) e = inr (_, refused_of bytes names texts ws f h a e)
 
-short_answered : (bytes : List ℕ) → length bytes ≤ greatest_source → IsUtf8 bytes ⊎ ((n : ℕ) × IsValidUpTo bytes n) → IsAnswered bytes
-short_answered bytes h (inl u) = let w = words_there bytes u in read_answered bytes w.names w.texts w.words h w.are (checked_in w.words) refl
+short_answered : (bytes : List ℕ) → length bytes ≤ greatest_source → IsUtf8 bytes ⊎ ((n : ℕ) × IsValidUpTo bytes n)
+    → IsAnswered bytes
+short_answered bytes h (inl u) =
+    let w = words_there bytes u in read_answered bytes w.names w.texts w.words h w.are (checked_in w.words) refl
 short_answered bytes h (inr n) = inr (_, not_utf8 h n.1)
 
 answered : (bytes : List ℕ) → IsAnswered bytes

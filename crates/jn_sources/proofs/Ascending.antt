@@ -25,8 +25,10 @@ module _ (p : Program) (bytes : List ℕ) (s : SourceSpells p bytes) where
 
   words_are : s.are_words.words ≡ map lexeme_of words
   words_are =
-      without_last s.are_words.words (map lexeme_of words) (last_word bytes s.are_words.fault) (lexeme_of (end_of_file (end_place s.is_program)))
-      (sym s.are_words.whole ∙ ap (λ (w : List Part). map lexeme_of w) (front_split s.is_program) ∙ map-append lexeme_of words (end_of_file (end_place s.is_program) ∷ []))
+      without_last s.are_words.words (map lexeme_of words) (last_word bytes s.are_words.fault)
+      (lexeme_of (end_of_file (end_place s.is_program)))
+      (sym s.are_words.whole ∙ ap (λ (w : List Part). map lexeme_of w) (front_split s.is_program) ∙
+      map-append lexeme_of words (end_of_file (end_place s.is_program) ∷ []))
 
   places_are : (w : List Part) → map (λ (x : Lexeme). x.at) (map lexeme_of w) ≡ map part_place w
   places_are [] = refl
@@ -34,8 +36,10 @@ module _ (p : Program) (bytes : List ℕ) (s : SourceSpells p bytes) where
 
   rises : Rise nowhere (map part_place words)
   rises =
-      subst (λ (ps : List Place). Rise nowhere ps) (ap (λ (w : List Lexeme). map (λ (x : Lexeme). x.at) w) words_are ∙ places_are words)
-      (words_rise bytes p.names p.texts s.are_words.tokens s.are_words.words 0 nowhere s.are_words.are_words (tokens_order bytes s.are_words.tokens s.are_words.fault s.are_words.lexed)
+      subst (λ (ps : List Place). Rise nowhere ps)
+      (ap (λ (w : List Lexeme). map (λ (x : Lexeme). x.at) w) words_are ∙ places_are words)
+      (words_rise bytes p.names p.texts s.are_words.tokens s.are_words.words 0 nowhere s.are_words.are_words
+      (tokens_order bytes s.are_words.tokens s.are_words.fault s.are_words.lexed)
       (λ i h k. by_line (omega arith)))
 
   ascends : {ps : List Place} → Sub ps words → Ascend ps

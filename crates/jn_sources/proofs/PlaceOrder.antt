@@ -38,7 +38,8 @@ earlier_still (by_column e h) (by_column f k) = by_column (e ∙ f) (omega arith
 
 next_later : (p : Place) (b : ℕ) → Earlier p (next_place p b)
 next_later p b = by (b == line_feed) where
-  by : (c : Bool) → Earlier p (if c then record { line = p.line + 1; column = 1 } else record { line = p.line; column = p.column + 1 })
+  by : (c : Bool) → Earlier p (if c then record { line = p.line + 1; column = 1 } else record { line = p.line;
+      column = p.column + 1 })
   by true = by_line (omega arith)
   by false = by_column refl (omega arith)
 
@@ -56,7 +57,9 @@ byte_later bytes i j h k =
     let n : ℕ = j - i in
     let room : n ≤ length (drop i bytes) = omega (arith, h, k, length-drop i bytes) in
     let some : 0 < length (take n (drop i bytes)) = omega (arith, h, length-take-le n (drop i bytes) room) in
-    subst (λ (p : Place). Earlier (place_of bytes i) p) (moved_to bytes i n ∙ ap (λ m. place_of bytes m) (omega (arith, h))) (some_later (place_of bytes i) (take n (drop i bytes)) some)
+    subst (λ (p : Place). Earlier (place_of bytes i) p)
+    (moved_to bytes i n ∙ ap (λ m. place_of bytes m) (omega (arith, h)))
+    (some_later (place_of bytes i) (take n (drop i bytes)) some)
 
 -- ---- places that rise
 
@@ -86,14 +89,17 @@ order_end : (from to : ℕ) (ts : List Token) → AreInOrder from ts to → from
 order_end from to [] o = o
 order_end from to (t ∷ ts) o = omega (arith, o.0, o.1, order_end t.end to ts o.2)
 
-pub words_rise : (bytes : List ℕ) (names texts : List Text) (ts : List Token) (ws : List Lexeme) (from : ℕ) (p : Place) → AreWords bytes names texts ts ws
-    → AreInOrder from ts (length bytes) → ((i : ℕ) → from ≤ i → i < length bytes → Earlier p (place_of bytes i)) → Rise p (map (λ (w : Lexeme). w.at) ws)
+pub words_rise : (bytes : List ℕ) (names texts : List Text) (ts : List Token) (ws : List Lexeme) (from : ℕ)
+    (p : Place) → AreWords bytes names texts ts ws
+    → AreInOrder from ts (length bytes) → ((i : ℕ) → from ≤ i → i < length bytes → Earlier p (place_of bytes i))
+    → Rise p (map (λ (w : Lexeme). w.at) ws)
 unfolding Rise
 words_rise bytes names texts _ _ from p AreWords.no_word o f = tt
 words_rise bytes names texts (t ∷ ts) _ from p (AreWords.then_word {ws = ws} is more) o f =
     let last = order_end t.end (length bytes) ts o.2 in (
       f t.start o.0 (omega (arith, o.1, last)),
-      words_rise bytes names texts ts ws t.end (place_of bytes t.start) more o.2 (λ i h k. byte_later bytes t.start i (omega (arith, o.1, h)) (omega (arith, k))),
+      words_rise bytes names texts ts ws t.end (place_of bytes t.start) more o.2
+      (λ i h k. byte_later bytes t.start i (omega (arith, o.1, h)) (omega (arith, k))),
     )
 
 -- ---- rising places are in order
@@ -105,9 +111,11 @@ same_is : (a b : ℕ) → a ≡ b → nat_cmp a b ≡ Equal
 same_is a b e = sym (nat_cmp_is a b Equal e)
 
 earlier_less : {a b : Place} → Earlier a b → place_cmp a b ≡ Less
-earlier_less {a} {b} (by_line h) = ap (λ (r : Ordering). ordering_then r (nat_cmp a.column b.column)) (less_is a.line b.line h)
+earlier_less {a} {b} (by_line h) =
+    ap (λ (r : Ordering). ordering_then r (nat_cmp a.column b.column)) (less_is a.line b.line h)
 earlier_less {a} {b} (by_column e h) =
-    ap (λ (r : Ordering). ordering_then r (nat_cmp a.column b.column)) (same_is a.line b.line e) ∙ less_is a.column b.column h
+    ap (λ (r : Ordering). ordering_then r (nat_cmp a.column b.column)) (same_is a.line b.line e) ∙
+    less_is a.column b.column h
 
 below_all : (p : Place) (qs : List Place) → Rise p qs → AllByRecursion (λ (q : Place). place_cmp p q ≡ Less) qs
 unfolding Rise
@@ -121,8 +129,10 @@ rise_ascends p (q ∷ qs) r = (below_all q qs r.1, rise_ascends q qs r.1)
 
 -- ---- the tokens of a source stand in order
 
-pub tokens_order : (bytes : List ℕ) (ts : List Token) (f : Option LexFault) → TokensOf bytes ts f → AreInOrder 0 ts (length bytes)
-tokens_order bytes ts f t = subst (λ n. AreInOrder 0 ts n) (zero-add (width t.characters) ∙ ap length t.spelled) (lexes_order t.lexed)
+pub tokens_order : (bytes : List ℕ) (ts : List Token) (f : Option LexFault) → TokensOf bytes ts f
+    → AreInOrder 0 ts (length bytes)
+tokens_order bytes ts f t =
+    subst (λ n. AreInOrder 0 ts n) (zero-add (width t.characters) ∙ ap length t.spelled) (lexes_order t.lexed)
 
 front_is : {A : Type 0} (xs : List A) (x : A) → take (length (xs ++ x ∷ []) - 1) (xs ++ x ∷ []) ≡ xs
 front_is {A} xs x =

@@ -38,7 +38,8 @@ before v (skip s) = skip (before v s)
 before v (take s) = take (before v s)
 
 -- the first one is there or not
-pub maybe : (b : Bool) {ps : List Place} {t : Part} {w : List Part} → Sub ps w → Sub (only_if b (t.at ∷ []) ++ ps) (t ∷ w)
+pub maybe : (b : Bool) {ps : List Place} {t : Part} {w : List Part} → Sub ps w
+    → Sub (only_if b (t.at ∷ []) ++ ps) (t ∷ w)
 maybe true s = take s
 maybe false s = skip s
 
@@ -46,7 +47,8 @@ pub places_both : {A : Type 0} (f : A → Place) (xs ys : List A) → map f (xs 
 places_both f [] ys = refl
 places_both f (x ∷ xs) ys = ap (λ (ps : List Place). f x ∷ ps) (places_both f xs ys)
 
-pub places_if : {A : Type 0} (f : A → Place) (b : Bool) (x : A) (xs : List A) → map f (only_if b (x ∷ []) ++ xs) ≡ only_if b (f x ∷ []) ++ map f xs
+pub places_if : {A : Type 0} (f : A → Place) (b : Bool) (x : A) (xs : List A)
+    → map f (only_if b (x ∷ []) ++ xs) ≡ only_if b (f x ∷ []) ++ map f xs
 places_if f true x xs = refl
 places_if f false x xs = refl
 
@@ -55,7 +57,8 @@ places_found R [] = refl
 places_found R (n ∷ ns) = ap (λ (ps : List Place). n.at ∷ ps) (places_found R ns)
 
 -- those that stand twice are some of them
-some_by : (seen : List Name) (ns : List Named) {ps : List Place} {w : List Part} → Sub ps w → ps ≡ map at_of ns → Sub (map at_of (seconds seen ns)) w
+some_by : (seen : List Name) (ns : List Named) {ps : List Place} {w : List Part} → Sub ps w → ps ≡ map at_of ns
+    → Sub (map at_of (seconds seen ns)) w
 some_by seen [] done e = done
 some_by seen (n ∷ ns) done e = cc e
 some_by seen ns (skip s) e = skip (some_by seen ns s e)
@@ -65,8 +68,10 @@ some_by seen (n ∷ ns) (take {ps = ps} {t = t} {w = w} s) e =
     let others : ps ≡ map at_of ns = cc e in
     let b : Bool = has_name seen n.name in
     subst (λ (qs : List Place). Sub qs (t ∷ w))
-    (ap (λ (at : Place). only_if b (at ∷ []) ++ map at_of (seconds (n.name ∷ seen) ns)) here ∙ sym (places_if at_of b n (seconds (n.name ∷ seen) ns)))
+    (ap (λ (at : Place). only_if b (at ∷ []) ++ map at_of (seconds (n.name ∷ seen) ns)) here
+    ∙ sym (places_if at_of b n (seconds (n.name ∷ seen) ns)))
     (maybe b (some_by (n.name ∷ seen) ns s others))
 
-pub some_seconds : (seen : List Name) (ns : List Named) (w : List Part) → Sub (map at_of ns) w → Sub (map at_of (seconds seen ns)) w
+pub some_seconds : (seen : List Name) (ns : List Named) (w : List Part) → Sub (map at_of ns) w
+    → Sub (map at_of (seconds seen ns)) w
 some_seconds seen ns w s = some_by seen ns s refl

@@ -20,15 +20,21 @@ pub record Lexed (at : ℕ) (cs : List ℕ) : Type 0 where
   pub lexes : Lexes at cs tokens found
 
 -- by what stands in front, where all shorter rests are lexed
-by_front : (n at : ℕ) {cs : List ℕ} {p : Piece} → Stands cs p → length cs ≤ suc n → ((to : ℕ) (rest : List ℕ) → length rest ≤ n → Lexed to rest) → Lexed at cs
+by_front : (n at : ℕ) {cs : List ℕ} {p : Piece} → Stands cs p → length cs ≤ suc n → ((to : ℕ) (rest : List ℕ)
+    → length rest ≤ n → Lexed to rest) → Lexed at cs
 by_front n at (Stands.blank {c = c} {cs = cs} b) h more =
-    let r = more (at + width (c ∷ [])) cs (omega (arith, h)) in record { tokens = r.tokens; found = r.found; lexes = blank b r.lexes }
+    let r = more (at + width (c ∷ [])) cs
+        (omega (arith, h)) in record { tokens = r.tokens; found = r.found; lexes = blank b r.lexes }
 by_front n at (Stands.comment {w = w} {rest = rest} d e) h more =
     let some : 0 < length w = comment_some d in
-    let r = more (at + width w) rest (omega (arith, h, some, length-append w rest)) in record { tokens = r.tokens; found = r.found; lexes = comment d r.lexes }
+    let r = more (at + width w) rest
+        (omega (arith, h, some, length-append w rest)) in record { tokens = r.tokens; found = r.found; lexes =
+        comment d r.lexes }
 by_front n at (Stands.token {w = w} {rest = rest} d e) h more =
     let some : 0 < length w = token_some d in
-    let r = more (at + width w) rest (omega (arith, h, some, length-append w rest)) in record { tokens = _; found = r.found; lexes = token d r.lexes }
+    let r = more (at + width w) rest
+        (omega (arith, h, some, length-append w rest)) in record { tokens = _; found = r.found; lexes =
+        token d r.lexes }
 by_front n at (Stands.fault d k) h more = record { tokens = []; found = _; lexes = fault (d at) }
 
 lexed_up_to : (n at : ℕ) (cs : List ℕ) → length cs ≤ n → Lexed at cs
@@ -39,7 +45,8 @@ lexed_up_to (suc n) at (c ∷ cs) h = by_front n at (front_stands c cs) h (lexed
 pub tokens_there : (bytes : List ℕ) → IsUtf8 bytes → (ts : List Token) × (f : Option LexFault) × TokensOf bytes ts f
 tokens_there bytes u =
     let l = lexed_up_to (length (chars bytes)) 0 (chars bytes) (omega arith) in
-    (l.tokens, l.found, record { characters = chars bytes; scalars = scalars-chars bytes u; spelled = encodes-chars bytes u; lexed = l.lexes })
+    (l.tokens, l.found, record { characters = chars bytes; scalars = scalars-chars bytes u; spelled =
+    encodes-chars bytes u; lexed = l.lexes })
 
 -- ---- bytes that are no UTF-8
 
@@ -58,7 +65,8 @@ nothing_utf8 : IsUtf8 []
 nothing_utf8 = ([], (refl, refl))
 
 longest_front : (bs : List ℕ) (m : ℕ) → m ≤ length bs → NoneFrom bs m → (n : ℕ) × IsValidUpTo bs n
-longest_front bs zero h none = absurd (not_utf8 (take 0 bs) (none 0 (omega arith) (omega arith)) (subst IsUtf8 (sym (take_none bs)) nothing_utf8))
+longest_front bs zero h none = absurd
+    (not_utf8 (take 0 bs) (none 0 (omega arith) (omega arith)) (subst IsUtf8 (sym (take_none bs)) nothing_utf8))
 longest_front bs (suc m) h none = by (is_utf8 (take m bs)) refl (longest_front bs m (omega (arith, h))) where
   beyond : (k : ℕ) → m < k → IsUtf8 (take k bs) → ⊥
   beyond k l u = elim (cases_lt (length bs) k) [
@@ -68,7 +76,8 @@ longest_front bs (suc m) h none = by (is_utf8 (take m bs)) refl (longest_front b
   ]
 
   by : (b : Bool) → is_utf8 (take m bs) ≡ b → (NoneFrom bs m → (n : ℕ) × IsValidUpTo bs n) → (n : ℕ) × IsValidUpTo bs n
-  by true e shorter = (m, record { short = omega (arith, h); front = IsUtf8-from_is_utf8 (take m bs) e; longest = beyond })
+  by true e shorter =
+      (m, record { short = omega (arith, h); front = IsUtf8-from_is_utf8 (take m bs) e; longest = beyond })
   by false e shorter = shorter (λ k l j. elim (cases_lt m k) [
     | inl more ↦ none k (omega (arith, more)) j
     | inr same ↦ subst (λ (i : ℕ). is_utf8 (take i bs) ≡ false) (let q : m ≡ k = omega (arith, l, same) in q) e

@@ -17,7 +17,8 @@ use Rattle.jn_parser.proofs.TokenTexts.{have_texts}
 use Rattle.jn_sources.proofs.TokensThere.{tokens_there}
 
 -- the bytes have a number in the table, or none
-find : (old : List (List ℕ)) (w : List ℕ) → ((n : ℕ) × (slice_get old n ≡ Some w)) ⊎ ((n : ℕ) → slice_get old n ≡ Some w → ⊥)
+find : (old : List (List ℕ)) (w : List ℕ) → ((n : ℕ) × (slice_get old n ≡ Some w)) ⊎ ((n : ℕ)
+    → slice_get old n ≡ Some w → ⊥)
 find [] w = inr (λ n e. cc e)
 find (v ∷ old) w = by (bytes_eq v w) refl (find old w) where
   with_others : (v ≡ w → ⊥) → ((n : ℕ) × (slice_get old n ≡ Some w)) ⊎ ((n : ℕ) → slice_get old n ≡ Some w → ⊥)
@@ -28,7 +29,8 @@ find (v ∷ old) w = by (bytes_eq v w) refl (find old w) where
     go zero e = differs (cc e)
     go (suc n) e = none n e
 
-  by : (b : Bool) → bytes_eq v w ≡ b → ((n : ℕ) × (slice_get old n ≡ Some w)) ⊎ ((n : ℕ) → slice_get old n ≡ Some w → ⊥)
+  by : (b : Bool) → bytes_eq v w ≡ b → ((n : ℕ) × (slice_get old n ≡ Some w)) ⊎ ((n : ℕ) → slice_get old n ≡ Some w
+      → ⊥)
       → ((n : ℕ) × (slice_get (v ∷ old) n ≡ Some w)) ⊎ ((n : ℕ) → slice_get (v ∷ old) n ≡ Some w → ⊥)
   by true e others = inl (0, ap (λ (u : List ℕ). Some u) ((bytes_eq-Decides v w).0 e))
   by false e others = with_others (λ same. cc (e, (bytes_eq-Decides v w).1 same)) others
@@ -49,13 +51,18 @@ record Mentioned (names texts : List (List ℕ)) (k : TokenKind) (w : List ℕ) 
 
 mentioned : (names texts : List (List ℕ)) (k : TokenKind) (w : List ℕ) → IsTextFor k w → Mentioned names texts k w
 mentioned names texts sort.Name w is =
-    let n = number_there names w in record { word_there = _; names_then = n.0; texts_then = texts; mentions = wording.a_name n.2 }
-mentioned names texts sort.Keyword w is = record { word_there = _; names_then = names; texts_then = texts; mentions = mention_keyword is.0 refl is.1 }
-mentioned names texts sort.Number w is = record { word_there = _; names_then = names; texts_then = texts; mentions = wording.a_number }
+    let n = number_there names w in record { word_there = _; names_then = n.0; texts_then = texts; mentions =
+        wording.a_name n.2 }
+mentioned names texts sort.Keyword w is =
+    record { word_there = _; names_then = names; texts_then = texts; mentions = mention_keyword is.0 refl is.1 }
+mentioned names texts sort.Number w is =
+    record { word_there = _; names_then = names; texts_then = texts; mentions = wording.a_number }
 mentioned names texts sort.Text w is =
     let n = number_there texts (unescaped false is.inner) in
-    record { word_there = _; names_then = names; texts_then = n.0; mentions = mention_text is.inner refl is.quoted refl n.2 }
-mentioned names texts sort.Mark w is = record { word_there = _; names_then = names; texts_then = texts; mentions = mention_mark is.0 refl is.1 }
+    record { word_there = _; names_then = names; texts_then = n.0; mentions =
+        mention_text is.inner refl is.quoted refl n.2 }
+mentioned names texts sort.Mark w is =
+    record { word_there = _; names_then = names; texts_then = texts; mentions = mention_mark is.0 refl is.1 }
 
 record Worded (bytes : List ℕ) (ts : List Token) : Type 0 where
   words : List Lexeme
@@ -63,7 +70,8 @@ record Worded (bytes : List ℕ) (ts : List Token) : Type 0 where
   texts : List (List ℕ)
   so_far : AreSoFar bytes ts words names texts
 
-worded_behind : (bytes : List ℕ) (done ts : List Token) → HaveTexts bytes ts → Worded bytes done → Worded bytes (done ++ ts)
+worded_behind : (bytes : List ℕ) (done ts : List Token) → HaveTexts bytes ts → Worded bytes done
+    → Worded bytes (done ++ ts)
 worded_behind bytes done [] h w = subst (λ (us : List Token). Worded bytes us) (sym (append-nil done)) w
 worded_behind bytes done (t ∷ ts) h w =
     let m = mentioned w.names w.texts t.kind (text_of bytes t) h.0 in
@@ -84,7 +92,8 @@ pub record HasWords (bytes : List ℕ) : Type 0 where
 pub words_there : (bytes : List ℕ) → IsUtf8 bytes → HasWords bytes
 words_there bytes u =
     let t = tokens_there bytes u in
-    let w = worded_behind bytes [] t.0 (have_texts bytes t.0 t.1 t.2) (record { words = []; names = []; texts = []; so_far = so_far_starts bytes }) in
+    let w = worded_behind bytes [] t.0 (have_texts bytes t.0 t.1 t.2)
+        (record { words = []; names = []; texts = []; so_far = so_far_starts bytes }) in
     record {
       names = table w.names;
       texts = table w.texts;

@@ -1,4 +1,5 @@
-//! Laws of sources: the first three steps of the verdict have one answer, and the order of the source is the order of places.
+//! Laws of sources: the first three steps of the verdict have one answer, and the order of the source is the
+//! order of places.
 #![tactic(auto)]
 
 ghost use Rattle.jn_sources.specs.OneVerdict.{TextVerdictIsOne};

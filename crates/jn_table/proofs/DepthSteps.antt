@@ -63,11 +63,13 @@ is_some : (n : ℕ) → nat_eq n 0 ≡ false → 0 < n
 is_some n h = grind arith
 
 -- a list that isn't empty has something
-pub some_length : {X : Type 0} (xs : List X) (b : Bool) (n : ℕ) → n ≡ length xs → b ≡ nat_eq n 0 → b ≡ false → 0 < length xs
+pub some_length : {X : Type 0} (xs : List X) (b : Bool) (n : ℕ) → n ≡ length xs → b ≡ nat_eq n 0 → b ≡ false
+    → 0 < length xs
 some_length xs b n l e t = let s = is_some n (sym e ∙ t) in omega (arith, s, l)
 
 -- a depth has as many paths as children
-pub below_long : (paths : List Path) (children : List Child) (all : List Path) → ChildPaths paths children all → length all ≡ length children
+pub below_long : (paths : List Path) (children : List Child) (all : List Path) → ChildPaths paths children all
+    → length all ≡ length children
 below_long paths children all cp = Each-length (ChildPath paths) cp
 
 take_short : {X : Type 0} (r : ℕ) (xs : List X) → length (take r xs) < r → take r xs ≡ xs
@@ -97,7 +99,8 @@ root_order p level is = record {
       absurd (omega (arith, l, same));
 }
 
-pub stage_root : (es : List Entry) (order : List Name) (nodes : Nodes) (level : Level) → nodes.paths.items ≡ [] → nodes.direct.items ≡ []
+pub stage_root : (es : List Entry) (order : List Name) (nodes : Nodes) (level : Level) → nodes.paths.items ≡ []
+    → nodes.direct.items ≡ []
     → IsShaped level → IsRoot level → Stage es order nodes level 4097
 stage_root es order nodes level no_paths no_rows shaped root = record {
   shaped = shaped;
@@ -105,7 +108,8 @@ stage_root es order nodes level no_paths no_rows shaped root = record {
     few = let l = ap length no_paths in omega (arith, l);
     long = ap length no_rows ∙ sym (ap length no_paths);
     within = subst (λ (g : Graph). InRange g (length nodes.paths.items)) (sym no_rows) (All-nil _);
-    ascending = subst (λ (g : Graph). All (λ (row : Vec ℕ Global). IsStrictlyIncreasing row.items) g) (sym no_rows) (All-nil _);
+    ascending = subst (λ (g : Graph). All (λ (row : Vec ℕ Global). IsStrictlyIncreasing row.items) g) (sym no_rows)
+    (All-nil _);
   };
   room_is = let l = ap length no_paths in omega (arith, l);
   some = omega arith;
@@ -119,8 +123,10 @@ stage_root es order nodes level no_paths no_rows shaped root = record {
 }
 
 -- what the picked children are, of which there was room for all or not
-children_all : (p : Program) (es : List Entry) (order : List Name) (level : Level) (n : ℕ) (children : List Child) → AreOf p es order
-    → IsLevel p n level → IsShaped level → AllPicks es order level (length level.paths.items) children → AreChildren p level children
+children_all : (p : Program) (es : List Entry) (order : List Name) (level : Level) (n : ℕ) (children : List Child)
+    → AreOf p es order
+    → IsLevel p n level → IsShaped level → AllPicks es order level (length level.paths.items) children
+    → AreChildren p level children
 children_all p es order level n children of is shaped all =
     let o = ordered p.names es order of.order_is in
     picked_children p es order n level of.flat is shaped o.distinct o.declared children all
@@ -134,17 +140,22 @@ picks_of es order level room children f l =
     subst (λ (cs : List Child). AllPicks es order level (length level.paths.items) cs) (sym same) f.all
 
 -- there is room for all of the next depth
-pub stage_few : (es : List Entry) (order : List Name) (nodes : Nodes) (level below : Level) (room : ℕ) (children : List Child)
-    → Stage es order nodes level room → length children < room → ChildPaths level.paths.items children below.paths.items
+pub stage_few : (es : List Entry) (order : List Name) (nodes : Nodes) (level below : Level) (room : ℕ)
+    (children : List Child)
+    → Stage es order nodes level room → length children < room
+    → ChildPaths level.paths.items children below.paths.items
     → length nodes.paths.items + length below.paths.items ≤ 4096
 stage_few es order nodes level below room children s l cp =
     let q = s.room_is in
     let h : length below.paths.items ≡ length children = Each-length (ChildPath level.paths.items) cp in
     omega (arith, q, h, l)
 
-pub stage_next : (es : List Entry) (order : List Name) (nodes after : Nodes) (level below : Level) (room : ℕ) (children : List Child)
-    → Stage es order nodes level room → ChildrenFront es order level (length level.paths.items) room children → length children < room
-    → IsShaped below → ChildPaths level.paths.items children below.paths.items → IsNextOf es level children below → AddsLevel below nodes after
+pub stage_next : (es : List Entry) (order : List Name) (nodes after : Nodes) (level below : Level) (room : ℕ)
+    (children : List Child)
+    → Stage es order nodes level room → ChildrenFront es order level (length level.paths.items) room children
+    → length children < room
+    → IsShaped below → ChildPaths level.paths.items children below.paths.items → IsNextOf es level children below
+    → AddsLevel below nodes after
     → (rest : ℕ) → rest + length children ≡ room → Stage es order after below rest
 stage_next es order nodes after level below room children s f l shaped cp next adds rest left_is = record {
   shaped = shaped;
@@ -172,14 +183,16 @@ stage_next es order nodes after level below room children s f l shaped cp next a
         depth = r.depth + 1;
         here = here;
         ordered_by = ys.ordered_by;
-        front = subst (FrontPaths p (r.depth + 1)) (sym adds.paths) (front_joined p r.depth nodes.paths.items below.paths.items r.front ys);
+        front = subst (FrontPaths p (r.depth + 1)) (sym adds.paths)
+        (front_joined p r.depth nodes.paths.items below.paths.items r.front ys);
         direct = subst (λ (ps : List Path). Numbers (Direct p) ps (HasEdge after.direct.items)) (sym adds.paths)
             (numbers_joined (Direct p) nodes.paths.items below.paths.items nodes.direct.items below.direct.items after.direct.items
             (s.fits).long r.direct here.direct adds.direct);
       }
 
 -- below a depth whose paths have no members there is none
-no_deeper : (p : Program) (n : ℕ) (level : Level) → IsLevel p n level → AreChildren p level [] → (P : Path) → IsNamespace p P → n < length P → ⊥
+no_deeper : (p : Program) (n : ℕ) (level : Level) → IsLevel p n level → AreChildren p level [] → (P : Path)
+    → IsNamespace p P → n < length P → ⊥
 no_deeper p n level is are [] s l = omega (arith, l)
 no_deeper p n level is are (C ∷ Q) s l = elim (cases_lt n (length Q)) [
   | inl further ↦ no_deeper p n level is are Q s.0 further
@@ -189,13 +202,16 @@ no_deeper p n level is are (C ∷ Q) s l = elim (cases_lt n (length Q)) [
       absurd (cc c.2)
 ]
 
-pub stage_last : (es : List Entry) (order : List Name) (nodes : Nodes) (level : Level) (room : ℕ) (children : List Child)
-    → Stage es order nodes level room → ChildrenFront es order level (length level.paths.items) room children → length children < room
+pub stage_last : (es : List Entry) (order : List Name) (nodes : Nodes) (level : Level) (room : ℕ)
+    (children : List Child)
+    → Stage es order nodes level room → ChildrenFront es order level (length level.paths.items) room children
+    → length children < room
     → children ≡ [] → (p : Program) → AreOf p es order → AreNodes p nodes
 stage_last es order nodes level room children s f l none p of = record {
   universe = record {
     exact = λ S. (
-      λ c. ((r.front).sound c.0 S (slice_get_read nodes.paths.items (length nodes.paths.items) c.0 S refl c.1 (sym c.2))).0,
+      λ c. ((r.front).sound c.0 S (slice_get_read nodes.paths.items (length nodes.paths.items) c.0 S refl c.1
+      (sym c.2))).0,
       λ u. in_list (has S u),
     );
     in_order = sorted (class_cmp p) nodes.paths.items (r.front).ordered_by;
@@ -206,7 +222,8 @@ stage_last es order nodes level room children s f l none p of = record {
   r = s.reaches p of
 
   gone : AreChildren p level []
-  gone = subst (AreChildren p level) none (children_all p es order level r.depth children of r.here s.shaped (picks_of es order level room children f l))
+  gone = subst (AreChildren p level) none
+      (children_all p es order level r.depth children of r.here s.shaped (picks_of es order level room children f l))
 
   has : (S : Path) → InUniverse p S → (i : ℕ) × (slice_get nodes.paths.items i ≡ Some S)
   has S u = elim (cases_lt r.depth (length S)) [
@@ -215,11 +232,14 @@ stage_last es order nodes level room children s f l none p of = record {
   ]
 
   in_list : {S : Path} → (i : ℕ) × (slice_get nodes.paths.items i ≡ Some S) → Contains nodes.paths.items S
-  in_list {S} h = (h.0, slice_get_within nodes.paths.items h.0 S h.1, get_or_from_slice_get nodes.paths.items h.0 S S h.1)
+  in_list {S} h =
+      (h.0, slice_get_within nodes.paths.items h.0 S h.1, get_or_from_slice_get nodes.paths.items h.0 S S h.1)
 
-in_whole : (es : List Entry) (order : List Name) (level : Level) (n room : ℕ) (children : List Child) (f : ChildrenFront es order level n room children)
+in_whole : (es : List Entry) (order : List Name) (level : Level) (n room : ℕ) (children : List Child)
+    (f : ChildrenFront es order level n room children)
     → (k : ℕ) (c : Child) → slice_get children k ≡ Some c → slice_get f.whole k ≡ Some c
-in_whole es order level n room children f k c at = (take_at room f.whole k c (subst (λ (cs : List Child). slice_get cs k ≡ Some c) f.front at)).1
+in_whole es order level n room children f k c at =
+    (take_at room f.whole k c (subst (λ (cs : List Child). slice_get cs k ≡ Some c) f.front at)).1
 
 pub front_within : (es : List Entry) (order : List Name) (level : Level) (n room : ℕ) (children : List Child)
     → ChildrenFront es order level n room children → All (λ (c : Child). c.up < n) children
@@ -228,11 +248,14 @@ front_within es order level n room children f i d l =
     (all_sound f.all i c (in_whole es order level n room children f i c (slice_get-get_or children i d l))).within
 
 -- where there is no room for all, the last for which there is is the 4,097th
-pub stage_over : (es : List Entry) (order : List Name) (nodes : Nodes) (level : Level) (room : ℕ) (children : List Child) (c : Child) (P : Path)
+pub stage_over : (es : List Entry) (order : List Name) (nodes : Nodes) (level : Level) (room : ℕ)
+    (children : List Child) (c : Child) (P : Path)
     → Stage es order nodes level room → ChildrenFront es order level (length level.paths.items) room children
-    → slice_get children (room - 1) ≡ Some c → slice_get level.paths.items c.up ≡ Some P → (p : Program) → AreOf p es order → IsOver p (c.name ∷ P)
+    → slice_get children (room - 1) ≡ Some c → slice_get level.paths.items c.up ≡ Some P → (p : Program)
+    → AreOf p es order → IsOver p (c.name ∷ P)
 stage_over es order nodes level room children c P s f at up_at p of =
-    path_after p (r.depth + 1) 4096 (nodes.paths.items ++ ys) joined (c.name ∷ P) place (let e = ((r.here).paths_sound c.up P up_at).1 in let q : suc (length P) ≡ r.depth + 1 = omega (arith, e) in q)
+    path_after p (r.depth + 1) 4096 (nodes.paths.items ++ ys) joined (c.name ∷ P) place
+    (let e = ((r.here).paths_sound c.up P up_at).1 in let q : suc (length P) ≡ r.depth + 1 = omega (arith, e) in q)
   where
     r : Reaches p nodes level
     r = s.reaches p of
@@ -254,6 +277,8 @@ stage_over es order nodes level room children c P s f at up_at p of =
         let e = Each-at (ChildPath level.paths.items) cp (room - 1) c w in
         let up : e.2.up ≡ P = same_some (slice_get level.paths.items c.up) e.2.up P e.2.up_at up_at in
         let is : e.0 ≡ c.name ∷ P = e.2.is ∙ ap (λ (Q : Path). c.name ∷ Q) up in
-        let n : length nodes.paths.items + (room - 1) ≡ 4096 = let q = s.room_is in let o = s.some in omega (arith, q, o) in
+        let n : length nodes.paths.items + (room - 1) ≡ 4096 = let q = s.room_is in let o = s.some in omega
+            (arith, q, o) in
         subst (λ (k : ℕ). slice_get (nodes.paths.items ++ ys) k ≡ Some (c.name ∷ P)) n
-        (right nodes.paths.items ys (room - 1) (c.name ∷ P) (subst (λ (R : Path). slice_get ys (room - 1) ≡ Some R) is e.1))
+        (right nodes.paths.items ys (room - 1) (c.name ∷ P)
+        (subst (λ (R : Path). slice_get ys (room - 1) ≡ Some R) is e.1))

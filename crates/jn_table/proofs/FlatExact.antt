@@ -28,14 +28,16 @@ stands_under p (C ∷ P) d h =
     let u = under_inside (stands_under p P h.0 h.1) h.3 in
     subst (λ (D : Name). Under p.decls [] (D ∷ P) d) h.2 u
 
-pub in_map : {X : Type 0} (f : X → Name) (xs : List X) (x : X) (D : Name) → Contains xs x → f x ≡ D → Contains (map f xs) D
+pub in_map : {X : Type 0} (f : X → Name) (xs : List X) (x : X) (D : Name) → Contains xs x → f x ≡ D
+    → Contains (map f xs) D
 in_map f (y ∷ ys) x D (zero, l, e) is = (0, omega arith, ap f e ∙ is)
 in_map f (y ∷ ys) x D (suc k, l, e) is =
     let c = in_map f ys x D (k, omega (arith, l), e) is in
     (suc c.0, omega (arith, c.1), c.2)
 in_map f [] x D c is = absurd (omega (arith, c.1))
 
-pub map_in : {X : Type 0} (f : X → Name) (xs : List X) (D : Name) → Contains (map f xs) D → (x : X) × Contains xs x × (f x ≡ D)
+pub map_in : {X : Type 0} (f : X → Name) (xs : List X) (D : Name) → Contains (map f xs) D
+    → (x : X) × Contains xs x × (f x ≡ D)
 map_in f [] D c = absurd (omega (arith, c.1))
 map_in f (y ∷ ys) D (zero, l, e) = (y, (0, omega arith, refl), e)
 map_in f (y ∷ ys) D (suc k, l, e) =
@@ -75,7 +77,8 @@ module _ (p : Program) (es : List Entry) (f : IsFlattened p es) where
         is = s.3;
       }
 
-  of_path : (R : Path) (d : Decl) → StandsAt p R d → (e : Entry) × Contains es e × (e.path ≡ R) × ((P : Path) × EntryIs e P d)
+  of_path : (R : Path) (d : Decl) → StandsAt p R d
+      → (e : Entry) × Contains es e × (e.path ≡ R) × ((P : Path) × EntryIs e P d)
   of_path [] d s = absurd s
   of_path (C ∷ P) d s =
       let e = f.complete P d (stands_under p P d s.0) in
@@ -109,7 +112,8 @@ module _ (p : Program) (es : List Entry) (f : IsFlattened p es) where
     extends_from P C D d =
         let e = f.complete P d.decl (stands_under p P d.decl d.stands.0) in
         let c = in_map named_name (d.decl).extends d.named D d.extends d.name in
-        (e.1.0, e.0, e.1.1, e.1.2, (e.2.name ∙ d.stands.1, e.2.namespace, subst (λ (ns : List Name). Contains ns D) (sym e.2.extends) c))
+        (e.1.0, e.0, e.1.1, e.1.2, (e.2.name ∙ d.stands.1, e.2.namespace, subst (λ (ns : List Name). Contains ns D)
+        (sym e.2.extends) c))
 
     kinds_to : (R : Path) (k : Kind) → KindIn es R k → KindAt p R k
     kinds_to R k a =
@@ -124,7 +128,8 @@ module _ (p : Program) (es : List Entry) (f : IsFlattened p es) where
     methods_to : (R : Path) (m : Name) → OwnIn es R part.Methods m → MethodNamed p R m
     methods_to R m a =
         let h = at_path a.1 R (a.0, a.2, a.3) a.4.0 in
-        let n = map_in method_name (methods (h.decl).members) m (subst (λ (ns : List Name). Contains ns m) h.is.methods_are a.4.1) in
+        let n = map_in method_name (methods (h.decl).members) m
+            (subst (λ (ns : List Name). Contains ns m) h.is.methods_are a.4.1) in
         (n.0, record { decl = h.decl; stands = h.stands; has = n.1; name = n.2 })
 
     methods_from : (R : Path) (m : Name) → MethodNamed p R m → OwnIn es R part.Methods m
@@ -137,7 +142,8 @@ module _ (p : Program) (es : List Entry) (f : IsFlattened p es) where
     fields_to : (R : Path) (n : Name) → OwnIn es R part.Fields n → FieldNamed p R n
     fields_to R m a =
         let h = at_path a.1 R (a.0, a.2, a.3) a.4.0 in
-        let n = map_in field_name (fields (h.decl).members) m (subst (λ (ns : List Name). Contains ns m) h.is.fields_are a.4.1) in
+        let n = map_in field_name (fields (h.decl).members) m
+            (subst (λ (ns : List Name). Contains ns m) h.is.fields_are a.4.1) in
         (n.0, record { decl = h.decl; stands = h.stands; has = n.1; name = n.2 })
 
     fields_from : (R : Path) (n : Name) → FieldNamed p R n → OwnIn es R part.Fields n

@@ -46,7 +46,8 @@ one_in x d (k, l, e) = at k l e where
   at (suc k) l e = absurd (omega (arith, l))
 
 -- the entries of two lists of declarations
-pub flat_joined : (ds es : List Decl) (N : Path) (xs ys : List Entry) → FlatOf ds N xs → FlatOf es N ys → FlatOf (ds ++ es) N (xs ++ ys)
+pub flat_joined : (ds es : List Decl) (N : Path) (xs ys : List Entry) → FlatOf ds N xs → FlatOf es N ys
+    → FlatOf (ds ++ es) N (xs ++ ys)
 flat_joined ds es N xs ys f g = record { sound = sound; complete = complete } where
   sound : (e : Entry) → Contains (xs ++ ys) e → (P : Path) × (d : Decl) × Under (ds ++ es) N P d × EntryIs e P d
   sound e h = elim (Contains-append_cases xs ys e h) [
@@ -67,7 +68,8 @@ adds_none N es = record {
   flat = record { sound = λ e h. absurd (omega (arith, h.1)); complete = λ P d u. under_none u };
 }
 
-pub adds_joined : (ds es : List Decl) (N : Path) (before mid after : List Entry) → AddsFlat ds N before mid → AddsFlat es N mid after
+pub adds_joined : (ds es : List Decl) (N : Path) (before mid after : List Entry) → AddsFlat ds N before mid
+    → AddsFlat es N mid after
     → AddsFlat (ds ++ es) N before after
 adds_joined ds es N before mid after a b = record {
   added = a.added ++ b.added;
@@ -93,7 +95,8 @@ head_or_tail : {X : Type 0} (y : X) (ys : List X) (x : X) → Contains (y ∷ ys
 head_or_tail y ys x (zero, l, e) = inl e
 head_or_tail y ys x (suc k, l, e) = inr (k, omega (arith, l), e)
 
-flat_one : (x : Decl) (N : Path) (entry : Entry) (inner : List Entry) → EntryIs entry N x → FlatOf (nested x.members) (x.name.name ∷ N) inner
+flat_one : (x : Decl) (N : Path) (entry : Entry) (inner : List Entry) → EntryIs entry N x
+    → FlatOf (nested x.members) (x.name.name ∷ N) inner
     → FlatOf (x ∷ []) N (entry ∷ inner)
 flat_one x N entry inner is g = record { sound = sound; complete = complete } where
   sound : (e : Entry) → Contains (entry ∷ inner) e → (P : Path) × (d : Decl) × Under (x ∷ []) N P d × EntryIs e P d
@@ -127,7 +130,8 @@ adds_one x N M before after entry members is under same a = record {
 nested_joined : (ms ns : List Member) → nested (ms ++ ns) ≡ nested ms ++ nested ns
 nested_joined [] ns = refl
 nested_joined (m ∷ ms) ns = step (out-Member m) (nested_joined ms ns) where
-  step : (f : _) → nested (ms ++ ns) ≡ nested ms ++ nested ns → and_nested f (nested (ms ++ ns)) ≡ and_nested f (nested ms) ++ nested ns
+  step : (f : _) → nested (ms ++ ns) ≡ nested ms ++ nested ns
+      → and_nested f (nested (ms ++ ns)) ≡ and_nested f (nested ms) ++ nested ns
   step (Member-F.Inner d) e = ap (λ ds. d ∷ ds) e
   step (Member-F.Slot f) e = e
   step (Member-F.Body m) e = e
@@ -160,10 +164,12 @@ pub adds_more : (ds : List Decl) (i : ℕ) (x : Decl) (N : Path) (before mid aft
     → AddsFlat (take (i + 1) ds) N before after
 adds_more ds i x N before mid after l is a b =
     let e : take (i + 1) ds ≡ take i ds ++ x ∷ [] = take_more ds i x l ∙ ap (λ y. take i ds ++ y ∷ []) (sym is) in
-    subst (λ (ys : List Decl). AddsFlat ys N before after) (sym e) (adds_joined (take i ds) (x ∷ []) N before mid after a b)
+    subst (λ (ys : List Decl). AddsFlat ys N before after) (sym e)
+    (adds_joined (take i ds) (x ∷ []) N before mid after a b)
 
 -- behind no entries stand exactly those of the declarations
-pub adds_flat : (ds all : List Decl) (N : Path) (after : List Entry) → ds ≡ all → AddsFlat ds N [] after → FlatOf all N after
+pub adds_flat : (ds all : List Decl) (N : Path) (after : List Entry) → ds ≡ all → AddsFlat ds N [] after
+    → FlatOf all N after
 adds_flat ds all N after same a =
     subst (λ (xs : List Decl). FlatOf xs N after) same (subst (FlatOf ds N) (sym a.is) a.flat)
 
@@ -193,12 +199,16 @@ adds_inner ms i m d N M before mid after l is one same a b =
     adds_nested ms i m d N before mid after l is (ap (λ x. nested (x ∷ [])) one ∙ inner_nested d) a
     (subst (λ (Q : Path). AddsFlat (d ∷ []) Q mid after) same b)
 
-pub adds_slot : (ms : List Member) (i : ℕ) (m : Member) (field : Field) (N : Path) (before after : List Entry) → i < length ms → m ≡ get_or ms i m
-    → m ≡ member.Slot field → AddsFlat (nested (take i ms)) N before after → AddsFlat (nested (take (i + 1) ms)) N before after
+pub adds_slot : (ms : List Member) (i : ℕ) (m : Member) (field : Field) (N : Path) (before after : List Entry)
+    → i < length ms → m ≡ get_or ms i m
+    → m ≡ member.Slot field → AddsFlat (nested (take i ms)) N before after
+    → AddsFlat (nested (take (i + 1) ms)) N before after
 adds_slot ms i m field N before after l is one a =
     adds_skipped ms i m N before after l is (ap (λ x. nested (x ∷ [])) one ∙ slot_nested field) a
 
-pub adds_body : (ms : List Member) (i : ℕ) (m : Member) (method : Method) (N : Path) (before after : List Entry) → i < length ms → m ≡ get_or ms i m
-    → m ≡ member.Body method → AddsFlat (nested (take i ms)) N before after → AddsFlat (nested (take (i + 1) ms)) N before after
+pub adds_body : (ms : List Member) (i : ℕ) (m : Member) (method : Method) (N : Path) (before after : List Entry)
+    → i < length ms → m ≡ get_or ms i m
+    → m ≡ member.Body method → AddsFlat (nested (take i ms)) N before after
+    → AddsFlat (nested (take (i + 1) ms)) N before after
 adds_body ms i m method N before after l is one a =
     adds_skipped ms i m N before after l is (ap (λ x. nested (x ∷ [])) one ∙ body_nested method) a

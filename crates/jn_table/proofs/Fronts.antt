@@ -52,7 +52,8 @@ in_namespace p (C ∷ P) u = u
 
 pub joined_order : {A : Type 0} (c : A → A → Ordering) (xs ys : List A) → InOrder c xs → InOrder c ys
     → ((i j : ℕ) (x y : A) → slice_get xs i ≡ Some x → slice_get ys j ≡ Some y → c x y ≡ Less) → InOrder c (xs ++ ys)
-joined_order {A} c xs ys ox oy cross = record { by = λ i j x y l a b. by_sides i j x y l (side xs ys i x a) (side xs ys j y b) } where
+joined_order {A} c xs ys ox oy cross =
+    record { by = λ i j x y l a b. by_sides i j x y l (side xs ys i x a) (side xs ys j y b) } where
   by_sides : (i j : ℕ) (x y : A) → i < j → Side xs ys i x → Side xs ys j y → c x y ≡ Less
   by_sides i j x y l (front a) (front b) = ox.by i j x y l a b
   by_sides i j x y l (front a) (back k e b) = cross i k x y a b
@@ -60,12 +61,14 @@ joined_order {A} c xs ys ox oy cross = record { by = λ i j x y l a b. by_sides 
   by_sides i j x y l (back k e a) (back m f b) = oy.by k m x y (omega (arith, l, e, f)) a b
 
 -- with the next depth behind them they are those up to it
-pub front_joined : (p : Program) (n : ℕ) (xs ys : List Path) → FrontPaths p n xs → LevelPaths p (n + 1) ys → FrontPaths p (n + 1) (xs ++ ys)
+pub front_joined : (p : Program) (n : ℕ) (xs ys : List Path) → FrontPaths p n xs → LevelPaths p (n + 1) ys
+    → FrontPaths p (n + 1) (xs ++ ys)
 front_joined p n xs ys f b = record {
   sound = λ i P at. sound i P (side xs ys i P at);
   complete = complete;
   ordered_by = joined_order (class_cmp p) xs ys f.ordered_by b.ordered_by
-      (λ i j P Q x y. let u = (f.sound i P x).1 in let v = (b.sound j Q y).1 in before_longer p P Q (omega (arith, u, v)));
+      (λ i j P Q x y. let u = (f.sound i P x).1 in let v = (b.sound j Q y).1 in before_longer p P Q
+      (omega (arith, u, v)));
 } where
   sound : (i : ℕ) (P : Path) → Side xs ys i P → InUniverse p P × (length P ≤ n + 1)
   sound i P (front a) = let s = f.sound i P a in (s.0, omega (arith, s.1))
@@ -80,7 +83,8 @@ front_joined p n xs ys f b = record {
   ]
 
 -- a front of a list
-pub take_at : {X : Type 0} (r : ℕ) (xs : List X) (k : ℕ) (x : X) → slice_get (take r xs) k ≡ Some x → (k < r) × (slice_get xs k ≡ Some x)
+pub take_at : {X : Type 0} (r : ℕ) (xs : List X) (k : ℕ) (x : X) → slice_get (take r xs) k ≡ Some x
+    → (k < r) × (slice_get xs k ≡ Some x)
 take_at zero xs k x at = absurd (cc at)
 take_at (suc r) [] k x at = absurd (cc at)
 take_at (suc r) (y ∷ ys) zero x at = (omega arith, at)
@@ -100,7 +104,8 @@ take_count (suc r) [] l = absurd (omega (arith, l))
 take_count (suc r) (y ∷ ys) l = ap suc (take_count r ys (omega (arith, l)))
 
 -- in the front up to a depth, a path of that depth has as many before it as its place says
-pub path_after : (p : Program) (m n : ℕ) (all : List Path) → FrontPaths p m all → (R : Path) → slice_get all n ≡ Some R → length R ≡ m → IsPathAfter p n R
+pub path_after : (p : Program) (m n : ℕ) (all : List Path) → FrontPaths p m all → (R : Path)
+    → slice_get all n ≡ Some R → length R ≡ m → IsPathAfter p n R
 path_after p m n all f R at e = record {
   universe = (f.sound n R at).0;
   earlier = take n all;
@@ -118,20 +123,23 @@ path_after p m n all f R at e = record {
   from Q h =
       let l = not_longer p Q R h.1 in
       let c = f.complete Q h.0 (omega (arith, l, e)) in
-      at_take n all c.0 Q (place_below (class_cmp p) (before_irreflexive p) (before_chain p) all f.ordered_by c.0 n Q R c.1 at h.1) c.1
+      at_take n all c.0 Q (place_below (class_cmp p) (before_irreflexive p)
+      (before_chain p) all f.ordered_by c.0 n Q R c.1 at h.1) c.1
 
 -- the paths of children
 abbrev pub child_path : List Path → Child → Path
 child_path paths c = c.name ∷ get_or paths c.up []
 
-pub paths_of : (paths : List Path) (cs : List Child) → ((k : ℕ) (c : Child) → slice_get cs k ≡ Some c → c.up < length paths)
+pub paths_of : (paths : List Path) (cs : List Child) → ((k : ℕ) (c : Child) → slice_get cs k ≡ Some c
+    → c.up < length paths)
     → ChildPaths paths cs (map (child_path paths) cs)
 paths_of paths [] w = none
 paths_of paths (c ∷ cs) w =
     more (record { up = get_or paths c.up []; up_at = slice_get-get_or paths c.up [] (w 0 c refl); is = refl })
     (paths_of paths cs (λ k d at. w (suc k) d at))
 
-module _ (p : Program) (es : List Entry) (order : List Name) (n : ℕ) (level : Level) (of : AreOf p es order) (is : IsLevel p n level)
+module _ (p : Program) (es : List Entry) (order : List Name) (n : ℕ) (level : Level) (of : AreOf p es order)
+    (is : IsLevel p n level)
     (above : InOrder (class_cmp p) level.paths.items) (shaped : IsShaped level) (children : List Child)
     (all : AllPicks es order level (length level.paths.items) children) where
   child_named : (k : ℕ) (c : Child) → slice_get children k ≡ Some c → (c.name).0 < length p.names
@@ -141,34 +149,43 @@ module _ (p : Program) (es : List Entry) (order : List Name) (n : ℕ) (level : 
       named_head p c.name m.2.at ((of.named).paths (c.name ∷ m.2.at) m.2.declared)
 
   names_before : (k l : ℕ) (a b : Child) → slice_get children k ≡ Some a → slice_get children l ≡ Some b → (P Q : Path)
-      → slice_get level.paths.items a.up ≡ Some P → slice_get level.paths.items b.up ≡ Some Q → a.up ≡ b.up → InNames order a.name b.name
+      → slice_get level.paths.items a.up ≡ Some P → slice_get level.paths.items b.up ≡ Some Q → a.up ≡ b.up
+      → InNames order a.name b.name
       → Before p (a.name ∷ P) (b.name ∷ Q)
   names_before k l a b at_k at_l P Q up_a up_b e i =
-      let less = (in_order (order_cmp p.names) order (of.order_is).in_order).by i.first i.second a.name b.name i.below i.first_at i.second_at in
-      let same : P ≡ Q = same_some (slice_get level.paths.items b.up) P Q (subst (λ (u : ℕ). slice_get level.paths.items u ≡ Some P) e up_a) up_b in
+      let less = (in_order (order_cmp p.names) order
+          (of.order_is).in_order).by i.first i.second a.name b.name i.below i.first_at i.second_at in
+      let same : P ≡ Q = same_some (slice_get level.paths.items b.up) P Q
+          (subst (λ (u : ℕ). slice_get level.paths.items u ≡ Some P) e up_a) up_b in
       subst (λ (R : Path). Before p (a.name ∷ P) (b.name ∷ R)) same
-      (before_sibling p P a.name b.name (name_less p (of.named).distinct a.name b.name (child_named k a at_k) (child_named l b at_l) less))
+      (before_sibling p P a.name b.name
+      (name_less p (of.named).distinct a.name b.name (child_named k a at_k) (child_named l b at_l) less))
 
-  paths_before : (k l : ℕ) (a b : Child) → k < l → slice_get children k ≡ Some a → slice_get children l ≡ Some b → (P Q : Path)
+  paths_before : (k l : ℕ) (a b : Child) → k < l → slice_get children k ≡ Some a → slice_get children l ≡ Some b
+      → (P Q : Path)
       → slice_get level.paths.items a.up ≡ Some P → slice_get level.paths.items b.up ≡ Some Q
       → (a.up < b.up) ⊎ ((a.up ≡ b.up) × InNames order a.name b.name) → Before p (a.name ∷ P) (b.name ∷ Q)
   paths_before k l a b h at_k at_l P Q up_a up_b (inl below) =
       let u = (is.paths_sound a.up P up_a).1 in
       let v = (is.paths_sound b.up Q up_b).1 in
       before_member p P Q a.name b.name (u ∙ sym v) (above.by a.up b.up P Q below up_a up_b)
-  paths_before k l a b h at_k at_l P Q up_a up_b (inr same) = names_before k l a b at_k at_l P Q up_a up_b same.0 same.1
+  paths_before k l a b h at_k at_l P Q up_a up_b (inr same) =
+      names_before k l a b at_k at_l P Q up_a up_b same.0 same.1
 
   pub children_order : (ys : List Path) → ChildPaths level.paths.items children ys → InOrder (class_cmp p) ys
   children_order ys cp = record {
     by = λ k l P Q h at_k at_l.
         let a = Each-back (ChildPath level.paths.items) cp k P at_k in
         let b = Each-back (ChildPath level.paths.items) cp l Q at_l in
-        let r = paths_before k l a.0 b.0 h a.1 b.1 a.2.up b.2.up a.2.up_at b.2.up_at (all_order all k l a.0 b.0 h a.1 b.1) in
-        subst (λ (R : Path). Before p P R) (sym b.2.is) (subst (λ (R : Path). Before p R ((b.0).name ∷ b.2.up)) (sym a.2.is) r);
+        let r = paths_before k l a.0 b.0 h a.1 b.1 a.2.up b.2.up a.2.up_at b.2.up_at
+            (all_order all k l a.0 b.0 h a.1 b.1) in
+        subst (λ (R : Path). Before p P R) (sym b.2.is)
+        (subst (λ (R : Path). Before p R ((b.0).name ∷ b.2.up)) (sym a.2.is) r);
   }
 
   -- the paths of the members are those of the next depth
-  pub next_paths : AreChildren p level children → (ys : List Path) → ChildPaths level.paths.items children ys → LevelPaths p (n + 1) ys
+  pub next_paths : AreChildren p level children → (ys : List Path) → ChildPaths level.paths.items children ys
+      → LevelPaths p (n + 1) ys
   next_paths are ys cp = record {
     sound = next_paths_sound p n level children is are ys cp;
     complete = next_paths_complete p n level children is are ys cp;

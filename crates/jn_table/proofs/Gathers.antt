@@ -21,7 +21,8 @@ any_in P xs x c p = (c.0, x, c.1, c.2, p)
 pub in_any : {X : Type 0} (P : X → Type 0) (xs : List X) → Any P xs → (x : X) × Contains xs x × P x
 in_any P xs a = (a.1, (a.0, a.2, a.3), a.4)
 
-taken : {X : Type 0} (xs : List X) (i : ℕ) (x : X) → i < length xs → x ≡ get_or xs i x → take (i + 1) xs ≡ take i xs ++ x ∷ []
+taken : {X : Type 0} (xs : List X) (i : ℕ) (x : X) → i < length xs → x ≡ get_or xs i x
+    → take (i + 1) xs ≡ take i xs ++ x ∷ []
 taken xs i x l is = take_more xs i x l ∙ ap (λ y. take i xs ++ y ∷ []) (sym is)
 
 pub gains_none : (S : Name → Type 0) (names : List Name) → ((D : Name) → S D → ⊥) → Gains S names names
@@ -31,7 +32,8 @@ pub none_of : {X : Type 0} (P : X → Type 0) → Any P [] → ⊥
 none_of P a = omega (arith, a.2)
 
 -- one more thing, which has the names of which `now` holds
-pub gains_more : {X : Type 0} (W : X → Name → Type 0) (xs : List X) (i : ℕ) (x : X) (now : Name → Type 0) (before mid after : List Name)
+pub gains_more : {X : Type 0} (W : X → Name → Type 0) (xs : List X) (i : ℕ) (x : X) (now : Name
+    → Type 0) (before mid after : List Name)
     → i < length xs → x ≡ get_or xs i x → ((D : Name) → W x D → now D) → ((D : Name) → now D → W x D)
     → Gains (λ D. Any (λ y. W y D) (take i xs)) before mid → Gains now mid after
     → Gains (λ D. Any (λ y. W y D) (take (i + 1) xs)) before after
@@ -61,35 +63,43 @@ gains_more {X} W xs i x now before mid after l is from to g h D = (forth, back) 
 
 pub gains_all : {X : Type 0} (W : X → Name → Type 0) (xs : List X) (i : ℕ) (before after : List Name) → length xs ≤ i
     → Gains (λ D. Any (λ y. W y D) (take i xs)) before after → Gains (λ D. Any (λ y. W y D) xs) before after
-gains_all W xs i before after past g = subst (λ ys. Gains (λ D. Any (λ y. W y D) ys) before after) (take_whole i xs past) g
+gains_all W xs i before after past g =
+    subst (λ ys. Gains (λ D. Any (λ y. W y D) ys) before after) (take_whole i xs past) g
 
 -- one more name
 pub gains_push : (names : List Name) (C : Name) → Gains (λ D. C ≡ D) names (names ++ C ∷ [])
 gains_push names C D = (
   λ c. Contains-push_cases names C D c,
-  λ s. elim s [ inl c ↦ Contains-append_left names (C ∷ []) D c | inr e ↦ subst (Contains (names ++ C ∷ [])) e (Contains-push names C) ],
+  λ s. elim s [ inl c ↦ Contains-append_left names (C ∷ []) D c | inr e ↦ subst (Contains (names ++ C ∷ [])) e
+      (Contains-push names C) ],
 )
 
 -- what all hold of which the gathering began with none
-pub gains_exact : (S : Name → Type 0) (before after : List Name) → before ≡ [] → Gains S before after → (D : Name) → Contains after D ↔ S D
+pub gains_exact : (S : Name → Type 0) (before after : List Name) → before ≡ [] → Gains S before after → (D : Name)
+    → Contains after D ↔ S D
 gains_exact S before after none g D = (
-  λ c. elim ((g D).0 c) [ inl b ↦ absurd (let n : Contains [] D = subst (λ ns. Contains ns D) none b in omega (arith, n.1)) | inr s ↦ s ],
+  λ c. elim ((g D).0 c) [ inl b ↦ absurd
+      (let n : Contains [] D = subst (λ ns. Contains ns D) none b in omega (arith, n.1)) | inr s ↦ s ],
   λ s. (g D).1 (inr s),
 )
 
 -- at a number stands one path
-pub at_path : (F : Path → Name → Type 0) (paths : List Path) (at : ℕ) (P : Path) (D : Name) → at < length paths → P ≡ get_or paths at P
+pub at_path : (F : Path → Name → Type 0) (paths : List Path) (at : ℕ) (P : Path) (D : Name) → at < length paths
+    → P ≡ get_or paths at P
     → (Q : Path) × (slice_get paths at ≡ Some Q) × F Q D → F P D
 at_path F paths at P D l is w =
-    subst (λ (Q : Path). F Q D) (same_some (slice_get paths at) w.0 P w.1 (slice_get_read paths (length paths) at P refl l is)) w.2
+    subst (λ (Q : Path). F Q D) (same_some (slice_get paths at) w.0 P w.1
+    (slice_get_read paths (length paths) at P refl l is)) w.2
 
-pub path_at : (F : Path → Name → Type 0) (paths : List Path) (at : ℕ) (P : Path) (D : Name) → at < length paths → P ≡ get_or paths at P
+pub path_at : (F : Path → Name → Type 0) (paths : List Path) (at : ℕ) (P : Path) (D : Name) → at < length paths
+    → P ≡ get_or paths at P
     → F P D → (Q : Path) × (slice_get paths at ≡ Some Q) × F Q D
 path_at F paths at P D l is f = (P, slice_get_read paths (length paths) at P refl l is, f)
 
 -- one more name of a list
 pub named_more : (names : List Name) (i : ℕ) (d : Name) (before mid : List Name) → i < length names
-    → Gains (Contains (take i names)) before mid → Gains (Contains (take (i + 1) names)) before (mid ++ get_or names i d ∷ [])
+    → Gains (Contains (take i names)) before mid
+    → Gains (Contains (take (i + 1) names)) before (mid ++ get_or names i d ∷ [])
 named_more names i d before mid l g D = (forth, back) where
   x : Name
   x = get_or names i d
@@ -103,7 +113,8 @@ named_more names i d before mid l g D = (forth, back) where
       | inl b ↦ inl b
       | inr a ↦ inr (subst (λ ys. Contains ys D) (sym more) (Contains-append_left (take i names) (x ∷ []) D a))
     ]
-    | inr e ↦ inr (subst (λ ys. Contains ys D) (sym more) (subst (Contains (take i names ++ x ∷ [])) e (Contains-push (take i names) x)))
+    | inr e ↦ inr (subst (λ ys. Contains ys D) (sym more)
+        (subst (Contains (take i names ++ x ∷ [])) e (Contains-push (take i names) x)))
   ]
 
   back : Contains before D ⊎ Contains (take (i + 1) names) D → Contains (mid ++ x ∷ []) D
@@ -113,7 +124,8 @@ named_more names i d before mid l g D = (forth, back) where
     | inr e ↦ subst (Contains (mid ++ x ∷ [])) e (Contains-push mid x)
   ]
 
-pub named_all : (names : List Name) (i : ℕ) (before after : List Name) → length names ≤ i → Gains (Contains (take i names)) before after
+pub named_all : (names : List Name) (i : ℕ) (before after : List Name) → length names ≤ i
+    → Gains (Contains (take i names)) before after
     → Gains (Contains names) before after
 named_all names i before after past g = subst (λ ys. Gains (Contains ys) before after) (take_whole i names past) g
 
@@ -135,27 +147,36 @@ module _ (es : List Entry) (i : ℕ) (x : Entry) (l : i < length es) (is : x ≡
   part_here C part D n c = (x, entry_at, n, c)
 
   pub part_is : (C : Name) (part : Part) (D : Name) → PartOf es C part D i → (x.name ≡ C) × Contains (part_of part x) D
-  part_is C part D w = subst (λ (e : Entry). (e.name ≡ C) × Contains (part_of part e) D) (same_some (slice_get es i) w.0 x w.1 entry_at) (w.2, w.3)
+  part_is C part D w = subst (λ (e : Entry). (e.name ≡ C) × Contains (part_of part e) D)
+      (same_some (slice_get es i) w.0 x w.1 entry_at) (w.2, w.3)
 
 -- one more number: the names of its entry, or none of them
-pub part_more : (es : List Entry) (C : Name) (part : Part) (row : List ℕ) (k d : ℕ) (x : Entry) (before mid after : List Name) → k < length row
-    → get_or row k d < length es → x ≡ get_or es (get_or row k d) x → x.name ≡ C → Gains (PartAmong es C part (take k row)) before mid
+pub part_more : (es : List Entry) (C : Name) (part : Part) (row : List ℕ) (k d : ℕ) (x : Entry)
+    (before mid after : List Name) → k < length row
+    → get_or row k d < length es → x ≡ get_or es (get_or row k d) x → x.name ≡ C
+    → Gains (PartAmong es C part (take k row)) before mid
     → Gains (Contains (part_of part x)) mid after → Gains (PartAmong es C part (take (k + 1) row)) before after
 part_more es C part row k d x before mid after l within is name g h =
-    gains_more (λ i D. PartOf es C part D i) row k (get_or row k d) (Contains (part_of part x)) before mid after l (same_item row k d l)
-    (λ D w. (part_is es (get_or row k d) x within is C part D w).1) (λ D c. part_here es (get_or row k d) x within is C part D name c) g h
+    gains_more (λ i D. PartOf es C part D i) row k (get_or row k d) (Contains (part_of part x)) before mid after l
+    (same_item row k d l)
+    (λ D w. (part_is es (get_or row k d) x within is C part D w).1)
+    (λ D c. part_here es (get_or row k d) x within is C part D name c) g h
 
-pub part_skipped : (es : List Entry) (C : Name) (part : Part) (row : List ℕ) (k d : ℕ) (x : Entry) (before mid : List Name) → k < length row
-    → get_or row k d < length es → x ≡ get_or es (get_or row k d) x → (x.name ≡ C → ⊥) → Gains (PartAmong es C part (take k row)) before mid
+pub part_skipped : (es : List Entry) (C : Name) (part : Part) (row : List ℕ) (k d : ℕ) (x : Entry)
+    (before mid : List Name) → k < length row
+    → get_or row k d < length es → x ≡ get_or es (get_or row k d) x → (x.name ≡ C → ⊥)
+    → Gains (PartAmong es C part (take k row)) before mid
     → Gains (PartAmong es C part (take (k + 1) row)) before mid
 part_skipped es C part row k d x before mid l within is none g =
     gains_more (λ i D. PartOf es C part D i) row k (get_or row k d) (λ D. ⊥) before mid mid l (same_item row k d l)
-    (λ D w. none (part_is es (get_or row k d) x within is C part D w).0) (λ D b. absurd b) g (gains_none (λ D. ⊥) mid (λ D b. b))
+    (λ D w. none (part_is es (get_or row k d) x within is C part D w).0) (λ D b. absurd b) g
+    (gains_none (λ D. ⊥) mid (λ D b. b))
 
 pub part_none : (es : List Entry) (C : Name) (part : Part) (all : List Name) → Gains (PartAmong es C part []) all all
 part_none es C part all = gains_none (PartAmong es C part []) all (λ D a. none_of (PartOf es C part D) a)
 
-pub part_all : (es : List Entry) (C : Name) (part : Part) (row : List ℕ) (k : ℕ) (before after : List Name) → length row ≤ k
+pub part_all : (es : List Entry) (C : Name) (part : Part) (row : List ℕ) (k : ℕ) (before after : List Name)
+    → length row ≤ k
     → Gains (PartAmong es C part (take k row)) before after → Gains (PartAmong es C part row) before after
 part_all es C part row k before after past g = gains_all (λ i D. PartOf es C part D i) row k before after past g
 
@@ -167,15 +188,19 @@ pub declared_more : (es : List Entry) (row : List ℕ) (k d : ℕ) (x : Entry) (
     → get_or row k d < length es → x ≡ get_or es (get_or row k d) x → Gains (NamedAmong es (take k row)) before mid
     → Gains (NamedAmong es (take (k + 1) row)) before (mid ++ x.name ∷ [])
 declared_more es row k d x before mid l within is g =
-    gains_more (λ i D. NamedAt es D i) row k (get_or row k d) (λ D. x.name ≡ D) before mid (mid ++ x.name ∷ []) l (same_item row k d l)
-    (λ D w. named_is es (get_or row k d) x within is D w) (λ D n. named_here es (get_or row k d) x within is D n) g (gains_push mid x.name)
+    gains_more (λ i D. NamedAt es D i) row k (get_or row k d) (λ D. x.name ≡ D) before mid (mid ++ x.name ∷ []) l
+    (same_item row k d l)
+    (λ D w. named_is es (get_or row k d) x within is D w) (λ D n. named_here es (get_or row k d) x within is D n) g
+    (gains_push mid x.name)
 
 pub declared_there : (es : List Entry) (row : List ℕ) (k d : ℕ) (x : Entry) (before mid : List Name) → k < length row
-    → get_or row k d < length es → x ≡ get_or es (get_or row k d) x → Contains mid x.name → Gains (NamedAmong es (take k row)) before mid
+    → get_or row k d < length es → x ≡ get_or es (get_or row k d) x → Contains mid x.name
+    → Gains (NamedAmong es (take k row)) before mid
     → Gains (NamedAmong es (take (k + 1) row)) before mid
 declared_there es row k d x before mid l within is c g =
     gains_more (λ i D. NamedAt es D i) row k (get_or row k d) (λ D. x.name ≡ D) before mid mid l (same_item row k d l)
-    (λ D w. named_is es (get_or row k d) x within is D w) (λ D n. named_here es (get_or row k d) x within is D n) g (gains_there mid x.name c)
+    (λ D w. named_is es (get_or row k d) x within is D w) (λ D n. named_here es (get_or row k d) x within is D n) g
+    (gains_there mid x.name c)
 
 pub declared_none : (es : List Entry) (all : List Name) → Gains (NamedAmong es []) all all
 declared_none es all = gains_none (NamedAmong es []) all (λ D a. none_of (NamedAt es D) a)
@@ -193,45 +218,64 @@ module _ (rows : Graph) (n : ℕ) (row : Vec ℕ Global) (l : n < length rows) (
   named_in es D h = record { row = row; at = row_at; has = h }
 
   in_named : (es : List Entry) (D : Name) → NamedIn es rows D n → NamedAmong es row.items D
-  in_named es D w = subst (λ (v : Vec ℕ Global). NamedAmong es v.items D) (same_some (slice_get rows n) w.row row w.at row_at) w.has
+  in_named es D w =
+      subst (λ (v : Vec ℕ Global). NamedAmong es v.items D) (same_some (slice_get rows n) w.row row w.at row_at) w.has
 
-  part_in : (es : List Entry) (C : Name) (part : Part) (D : Name) → PartAmong es C part row.items D → PartIn es C part rows D n
+  part_in : (es : List Entry) (C : Name) (part : Part) (D : Name) → PartAmong es C part row.items D
+      → PartIn es C part rows D n
   part_in es C part D h = record { row = row; at = row_at; has = h }
 
-  in_part : (es : List Entry) (C : Name) (part : Part) (D : Name) → PartIn es C part rows D n → PartAmong es C part row.items D
-  in_part es C part D w = subst (λ (v : Vec ℕ Global). PartAmong es C part v.items D) (same_some (slice_get rows n) w.row row w.at row_at) w.has
+  in_part : (es : List Entry) (C : Name) (part : Part) (D : Name) → PartIn es C part rows D n
+      → PartAmong es C part row.items D
+  in_part es C part D w = subst (λ (v : Vec ℕ Global). PartAmong es C part v.items D)
+      (same_some (slice_get rows n) w.row row w.at row_at) w.has
 
-pub parts_more : (es : List Entry) (C : Name) (part : Part) (rows : Graph) (numbers : List ℕ) (i d : ℕ) (row : Vec ℕ Global) (before mid after : List Name)
+pub parts_more : (es : List Entry) (C : Name) (part : Part) (rows : Graph) (numbers : List ℕ) (i d : ℕ)
+    (row : Vec ℕ Global) (before mid after : List Name)
     → i < length numbers → get_or numbers i d < length rows → row ≡ get_or rows (get_or numbers i d) row
-    → Gains (λ D. Any (PartIn es C part rows D) (take i numbers)) before mid → Gains (PartAmong es C part row.items) mid after
+    → Gains (λ D. Any (PartIn es C part rows D) (take i numbers)) before mid
+    → Gains (PartAmong es C part row.items) mid after
     → Gains (λ D. Any (PartIn es C part rows D) (take (i + 1) numbers)) before after
 parts_more es C part rows numbers i d row before mid after l within is g h =
-    gains_more (λ n D. PartIn es C part rows D n) numbers i (get_or numbers i d) (PartAmong es C part row.items) before mid after l (same_item numbers i d l)
-    (λ D w. in_part rows (get_or numbers i d) row within is es C part D w) (λ D f. part_in rows (get_or numbers i d) row within is es C part D f) g h
+    gains_more (λ n D. PartIn es C part rows D n) numbers i (get_or numbers i d)
+    (PartAmong es C part row.items) before mid after l (same_item numbers i d l)
+    (λ D w. in_part rows (get_or numbers i d) row within is es C part D w)
+    (λ D f. part_in rows (get_or numbers i d) row within is es C part D f) g h
 
-pub parts_none : (es : List Entry) (C : Name) (part : Part) (rows : Graph) (all : List Name) → all ≡ [] → Gains (λ D. Any (PartIn es C part rows D) []) [] all
+pub parts_none : (es : List Entry) (C : Name) (part : Part) (rows : Graph) (all : List Name) → all ≡ []
+    → Gains (λ D. Any (PartIn es C part rows D) []) [] all
 parts_none es C part rows all e =
     subst (Gains (λ D. Any (PartIn es C part rows D) []) []) (sym e)
     (gains_none (λ D. Any (PartIn es C part rows D) []) [] (λ D a. none_of (PartIn es C part rows D) a))
 
-pub parts_all : (es : List Entry) (C : Name) (part : Part) (rows : Graph) (numbers : List ℕ) (i : ℕ) (all : List Name) → length numbers ≤ i
-    → Gains (λ D. Any (PartIn es C part rows D) (take i numbers)) [] all → (D : Name) → Contains all D ↔ Any (PartIn es C part rows D) numbers
+pub parts_all : (es : List Entry) (C : Name) (part : Part) (rows : Graph) (numbers : List ℕ) (i : ℕ)
+    (all : List Name) → length numbers ≤ i
+    → Gains (λ D. Any (PartIn es C part rows D) (take i numbers)) [] all → (D : Name)
+    → Contains all D ↔ Any (PartIn es C part rows D) numbers
 parts_all es C part rows numbers i all past g =
-    gains_exact (λ D. Any (PartIn es C part rows D) numbers) [] all refl (gains_all (λ n D. PartIn es C part rows D n) numbers i [] all past g)
+    gains_exact (λ D. Any (PartIn es C part rows D) numbers) [] all refl
+    (gains_all (λ n D. PartIn es C part rows D n) numbers i [] all past g)
 
-pub members_more : (es : List Entry) (rows : Graph) (numbers : List ℕ) (i d : ℕ) (row : Vec ℕ Global) (before mid after : List Name)
+pub members_more : (es : List Entry) (rows : Graph) (numbers : List ℕ) (i d : ℕ) (row : Vec ℕ Global)
+    (before mid after : List Name)
     → i < length numbers → get_or numbers i d < length rows → row ≡ get_or rows (get_or numbers i d) row
     → Gains (λ D. Any (NamedIn es rows D) (take i numbers)) before mid → Gains (NamedAmong es row.items) mid after
     → Gains (λ D. Any (NamedIn es rows D) (take (i + 1) numbers)) before after
 members_more es rows numbers i d row before mid after l within is g h =
-    gains_more (λ n D. NamedIn es rows D n) numbers i (get_or numbers i d) (NamedAmong es row.items) before mid after l (same_item numbers i d l)
-    (λ D w. in_named rows (get_or numbers i d) row within is es D w) (λ D f. named_in rows (get_or numbers i d) row within is es D f) g h
+    gains_more (λ n D. NamedIn es rows D n) numbers i (get_or numbers i d)
+    (NamedAmong es row.items) before mid after l (same_item numbers i d l)
+    (λ D w. in_named rows (get_or numbers i d) row within is es D w)
+    (λ D f. named_in rows (get_or numbers i d) row within is es D f) g h
 
-pub members_none : (es : List Entry) (rows : Graph) (all : List Name) → all ≡ [] → Gains (λ D. Any (NamedIn es rows D) []) [] all
+pub members_none : (es : List Entry) (rows : Graph) (all : List Name) → all ≡ []
+    → Gains (λ D. Any (NamedIn es rows D) []) [] all
 members_none es rows all e =
-    subst (Gains (λ D. Any (NamedIn es rows D) []) []) (sym e) (gains_none (λ D. Any (NamedIn es rows D) []) [] (λ D a. none_of (NamedIn es rows D) a))
+    subst (Gains (λ D. Any (NamedIn es rows D) []) []) (sym e)
+    (gains_none (λ D. Any (NamedIn es rows D) []) [] (λ D a. none_of (NamedIn es rows D) a))
 
 pub members_all : (es : List Entry) (rows : Graph) (numbers : List ℕ) (i : ℕ) (all : List Name) → length numbers ≤ i
-    → Gains (λ D. Any (NamedIn es rows D) (take i numbers)) [] all → (D : Name) → Contains all D ↔ Any (NamedIn es rows D) numbers
+    → Gains (λ D. Any (NamedIn es rows D) (take i numbers)) [] all → (D : Name)
+    → Contains all D ↔ Any (NamedIn es rows D) numbers
 members_all es rows numbers i all past g =
-    gains_exact (λ D. Any (NamedIn es rows D) numbers) [] all refl (gains_all (λ n D. NamedIn es rows D n) numbers i [] all past g)
+    gains_exact (λ D. Any (NamedIn es rows D) numbers) [] all refl
+    (gains_all (λ n D. NamedIn es rows D n) numbers i [] all past g)

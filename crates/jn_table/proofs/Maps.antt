@@ -5,12 +5,14 @@ use Rattle.std.proofs.Math.ListN.{drop_of_length-le}
 use Rattle.std.proofs.Math.Seq.{drop-cons}
 use Rattle.jn_reach.specs.Each.{Each, none, more}
 
-pub at_map : {A B : Type 0} (f : A → B) (xs : List A) (i : ℕ) (y : B) → slice_get (map f xs) i ≡ Some y → (x : A) × (slice_get xs i ≡ Some x) × (f x ≡ y)
+pub at_map : {A B : Type 0} (f : A → B) (xs : List A) (i : ℕ) (y : B) → slice_get (map f xs) i ≡ Some y
+    → (x : A) × (slice_get xs i ≡ Some x) × (f x ≡ y)
 at_map f [] i y at = absurd (cc at)
 at_map f (x ∷ xs) zero y at = (x, refl, (let e : f x ≡ y = cc at in e))
 at_map f (x ∷ xs) (suc i) y at = at_map f xs i y at
 
-pub in_mapped : {A B : Type 0} (f : A → B) (xs : List A) (i : ℕ) (x : A) (y : B) → slice_get xs i ≡ Some x → f x ≡ y → Contains (map f xs) y
+pub in_mapped : {A B : Type 0} (f : A → B) (xs : List A) (i : ℕ) (x : A) (y : B) → slice_get xs i ≡ Some x
+    → f x ≡ y → Contains (map f xs) y
 in_mapped f [] i x y at e = absurd (cc at)
 in_mapped f (z ∷ xs) zero x y at e = (0, omega arith, (let h : f z ≡ y = cc (at, e) in h))
 in_mapped f (z ∷ xs) (suc i) x y at e =
@@ -32,7 +34,8 @@ pub each_right : {A B : Type 0} (R : A → B → Type 0) (xs : List A) (ys : Lis
 each_right R [] [] l h = none
 each_right R [] (y ∷ ys) l h = absurd (omega (arith, l))
 each_right R (x ∷ xs) [] l h = absurd (omega (arith, l))
-each_right R (x ∷ xs) (y ∷ ys) l h = more (h 0 x y refl refl) (each_right R xs ys (omega (arith, l)) (λ k a b at bt. h (suc k) a b at bt))
+each_right R (x ∷ xs) (y ∷ ys) l h =
+    more (h 0 x y refl refl) (each_right R xs ys (omega (arith, l)) (λ k a b at bt. h (suc k) a b at bt))
 
 -- between the two ways to say that a list has a thing
 pub in_list : {A : Type 0} (xs : List A) (k : ℕ) (x : A) → slice_get xs k ≡ Some x → Contains xs x
@@ -44,7 +47,8 @@ list_at xs x c = (c.0, slice_get_read xs (length xs) c.0 x refl c.1 (sym c.2))
 -- ---- loops that push what they map
 
 -- behind the items before comes that of the item at i
-pub mapped_at : {A B : Type 0} (f : A → B) (xs : List A) (i : ℕ) (d : A) (before now : List B) → i < length xs → before ++ map f (drop i xs) ≡ map f xs
+pub mapped_at : {A B : Type 0} (f : A → B) (xs : List A) (i : ℕ) (d : A) (before now : List B) → i < length xs
+    → before ++ map f (drop i xs) ≡ map f xs
     → now ≡ before ++ f (get_or xs i d) ∷ [] → now ++ map f (drop (i + 1) xs) ≡ map f xs
 mapped_at {A} {B} f xs i d before now l so_far put =
     let y : B = f (get_or xs i d) in
@@ -53,11 +57,14 @@ mapped_at {A} {B} f xs i d before now l so_far put =
     ap (λ (ys : List B). ys ++ map f (drop (i + 1) xs)) put ∙ (append_assoc before (y ∷ []) (map f (drop (i + 1) xs))
     ∙ (ap (λ (ys : List B). before ++ ys) (sym here) ∙ so_far))
 
-pub mapped_more : {A B : Type 0} (f : A → B) (xs : List A) (i : ℕ) (x : A) (y : B) (before now : List B) → i < length xs → x ≡ get_or xs i x
-    → before ++ map f (drop i xs) ≡ map f xs → y ≡ f x → now ≡ before ++ y ∷ [] → now ++ map f (drop (i + 1) xs) ≡ map f xs
+pub mapped_more : {A B : Type 0} (f : A → B) (xs : List A) (i : ℕ) (x : A) (y : B) (before now : List B)
+    → i < length xs → x ≡ get_or xs i x
+    → before ++ map f (drop i xs) ≡ map f xs → y ≡ f x → now ≡ before ++ y ∷ []
+    → now ++ map f (drop (i + 1) xs) ≡ map f xs
 mapped_more {A} {B} f xs i x y before now l is so_far same put =
     mapped_at f xs i x before now l so_far (put ∙ ap (λ (z : B). before ++ z ∷ []) (same ∙ ap f is))
 
-pub mapped_all : {A B : Type 0} (f : A → B) (xs : List A) (i : ℕ) (now : List B) → length xs ≤ i → now ++ map f (drop i xs) ≡ map f xs → now ≡ map f xs
+pub mapped_all : {A B : Type 0} (f : A → B) (xs : List A) (i : ℕ) (now : List B) → length xs ≤ i
+    → now ++ map f (drop i xs) ≡ map f xs → now ≡ map f xs
 mapped_all {A} {B} f xs i now past so_far =
     sym (append-nil now) ∙ (ap (λ (ys : List A). now ++ map f ys) (sym (drop_of_length-le xs past)) ∙ so_far)

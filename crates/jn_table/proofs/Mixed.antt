@@ -16,10 +16,12 @@ use Rattle.jn_table.specs.declared.gather.Part.TheVariants as part
 use Rattle.jn_table.specs.declared.own.Own.{Own}
 use Rattle.jn_table.specs.declared.universe.Universe.{Universe}
 
-pub mixed_here : (own : Own) (sups : Graph) (k : ℕ) (row : Vec ℕ Global) → slice_get sups k ≡ Some row → IsMixedBy own row.items → MixedAt own sups k
+pub mixed_here : (own : Own) (sups : Graph) (k : ℕ) (row : Vec ℕ Global) → slice_get sups k ≡ Some row
+    → IsMixedBy own row.items → MixedAt own sups k
 mixed_here own sups k row at m = record { row = row; at = at; mixed = m }
 
-pub mixed_more : (own : Own) (sups : Graph) (i : ℕ) (row : Vec ℕ Global) → slice_get sups i ≡ Some row → (IsMixedBy own row.items → ⊥)
+pub mixed_more : (own : Own) (sups : Graph) (i : ℕ) (row : Vec ℕ Global) → slice_get sups i ≡ Some row
+    → (IsMixedBy own row.items → ⊥)
     → ((k : ℕ) → k < i → MixedAt own sups k → ⊥) → (k : ℕ) → k < i + 1 → MixedAt own sups k → ⊥
 mixed_more own sups i row at none below k l m = elim (cases_lt k i) [
   | inl b ↦ below k b m
@@ -29,7 +31,8 @@ mixed_more own sups i row at none below k l m = elim (cases_lt k i) [
       none (subst (λ (r : Vec ℕ Global). IsMixedBy own r.items) s m.mixed)
 ]
 
-pub mixed_none : (own : Own) (sups : Graph) (i : ℕ) → length sups ≤ i → ((k : ℕ) → k < i → MixedAt own sups k → ⊥) → (k : ℕ) → MixedAt own sups k → ⊥
+pub mixed_none : (own : Own) (sups : Graph) (i : ℕ) → length sups ≤ i → ((k : ℕ) → k < i → MixedAt own sups k → ⊥)
+    → (k : ℕ) → MixedAt own sups k → ⊥
 mixed_none own sups i past below k m = below k (let w = slice_get_within sups k m.row m.at in omega (arith, w, past)) m
 
 pub universe_fits : (es : List Entry) (u : Universe) → FitNodes u.nodes → IsClosure u.nodes.direct.items u.sups.items

@@ -21,7 +21,8 @@ nameless : Text
 nameless = record { bytes = [] }
 
 -- two names of the program of the same bytes are one name
-one_name : (p : Program) → HasDistinctNames p → (a b : Name) → a.0 < length p.names → b.0 < length p.names → name_cmp p a b ≡ Equal → a ≡ b
+one_name : (p : Program) → HasDistinctNames p → (a b : Name) → a.0 < length p.names → b.0 < length p.names
+    → name_cmp p a b ≡ Equal → a ≡ b
 one_name p u a b la lb e =
     let ga = slice_get-get_or p.names a.0 nameless la in
     let gb = slice_get-get_or p.names b.0 nameless lb in
@@ -33,7 +34,8 @@ by_cases Less s o e h k = e
 by_cases Equal s o e h k = let b : Equal ≡ Less = sym (k refl) ∙ h in cc b
 by_cases Greater s o e h k = cc h
 
-pub name_less : (p : Program) → HasDistinctNames p → (C D : Name) → C.0 < length p.names → D.0 < length p.names → order_cmp p.names C D ≡ Less
+pub name_less : (p : Program) → HasDistinctNames p → (C D : Name) → C.0 < length p.names → D.0 < length p.names
+    → order_cmp p.names C D ≡ Less
     → name_cmp p C D ≡ Less
 name_less p u C D c d l = by_cases (name_cmp p C D) (nat_cmp C.0 D.0) (name_cmp p C D) refl l same where
   same : name_cmp p C D ≡ Equal → nat_cmp C.0 D.0 ≡ Equal
@@ -41,17 +43,20 @@ name_less p u C D c d l = by_cases (name_cmp p C D) (nat_cmp C.0 D.0) (name_cmp 
 
 -- so a list of the program's names that is in order is in the order of their bytes
 pub names_are : (p : Program) (T : Name → Type 0) (names order : List Name) → HasDistinctNames p
-    → ((n : Name) → Contains names n → T n) → ((n : Name) → T n → Contains names n) → ((n : Name) → T n → n.0 < length p.names)
+    → ((n : Name) → Contains names n → T n) → ((n : Name) → T n → Contains names n) → ((n : Name) → T n
+    → n.0 < length p.names)
     → IsOrderOf p.names names order → AreNames p T order
 names_are p T names order u to from within o = record {
   exact = λ n. (λ c. to n ((o.exact n).0 c), λ t. (o.exact n).1 (from n t));
   in_order = sorted (name_cmp p) order (record { by = by });
 } where
   named : (i : ℕ) (C : Name) → slice_get order i ≡ Some C → C.0 < length p.names
-  named i C at = within C (to C ((o.exact C).0 (i, slice_get_within order i C at, get_or_from_slice_get order i C C at)))
+  named i C at =
+      within C (to C ((o.exact C).0 (i, slice_get_within order i C at, get_or_from_slice_get order i C C at)))
 
   by : (i j : ℕ) (C D : Name) → i < j → slice_get order i ≡ Some C → slice_get order j ≡ Some D → name_cmp p C D ≡ Less
-  by i j C D l a b = name_less p u C D (named i C a) (named j D b) ((in_order (order_cmp p.names) order o.in_order).by i j C D l a b)
+  by i j C D l a b =
+      name_less p u C D (named i C a) (named j D b) ((in_order (order_cmp p.names) order o.in_order).by i j C D l a b)
 
 pub named_head : (p : Program) (C : Name) (P : Path) → HasItsNames p (C ∷ P) → C.0 < length p.names
 named_head p C P h = All-head (λ (n : Name). n.0 < length p.names) C P h

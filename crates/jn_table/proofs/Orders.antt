@@ -40,20 +40,27 @@ then_first Greater s e = cc
 -- what ties is the same
 spelled_exact : (x y : Spelled) → spelled_cmp x y ≡ Equal → x ≡ y
 spelled_exact x y e =
-    let b = exact_bytes x.bytes y.bytes (then_first (slice_cmp nat_cmp x.bytes y.bytes) (nat_cmp x.number y.number) e) in
-    let n = exact_unsigned x.number y.number (then_second (slice_cmp nat_cmp x.bytes y.bytes) (nat_cmp x.number y.number) e) in
-    ap (λ (bs : List ℕ). record { bytes = bs; number = x.number }) b ∙ ap (λ (k : ℕ). record { bytes = y.bytes; number = k }) n
+    let b = exact_bytes x.bytes y.bytes
+        (then_first (slice_cmp nat_cmp x.bytes y.bytes) (nat_cmp x.number y.number) e) in
+    let n = exact_unsigned x.number y.number
+        (then_second (slice_cmp nat_cmp x.bytes y.bytes) (nat_cmp x.number y.number) e) in
+    ap (λ (bs : List ℕ). record { bytes = bs; number = x.number }) b
+    ∙ ap (λ (k : ℕ). record { bytes = y.bytes; number = k }) n
 
-deduped_same : (xs ys zs : List Spelled) → IsPermutation xs ys → IsFiltered (DiffersFromLast (eq_by_cmp spelled_cmp)) [] ys zs
+deduped_same : (xs ys zs : List Spelled) → IsPermutation xs ys
+    → IsFiltered (DiffersFromLast (eq_by_cmp spelled_cmp)) [] ys zs
     → (n : Spelled) → Contains zs n ↔ Contains xs n
 deduped_same xs ys zs p f n =
     let e = dedup_is (eq_by_cmp spelled_cmp) ys zs f in (
-      λ h. Contains-permutation ys xs n (IsPermutation-sym xs ys p) (Contains-from_dedup (eq_by_cmp spelled_cmp) ys n (subst (λ (l : List Spelled). Contains l n) e h)),
+      λ h. Contains-permutation ys xs n (IsPermutation-sym xs ys p)
+      (Contains-from_dedup (eq_by_cmp spelled_cmp) ys n (subst (λ (l : List Spelled). Contains l n) e h)),
       λ h. subst (λ (l : List Spelled). Contains l n) (sym e)
-          (Contains-dedup (eq_by_cmp_equiv spelled_total) (tells_apart spelled_exact) ys n (Contains-permutation xs ys n p h)),
+          (Contains-dedup (eq_by_cmp_equiv spelled_total) (tells_apart spelled_exact) ys n
+          (Contains-permutation xs ys n p h)),
     )
 
-deduped_sorted : (ys zs : List Spelled) → IsSorted spelled_cmp ys → IsFiltered (DiffersFromLast (eq_by_cmp spelled_cmp)) [] ys zs
+deduped_sorted : (ys zs : List Spelled) → IsSorted spelled_cmp ys
+    → IsFiltered (DiffersFromLast (eq_by_cmp spelled_cmp)) [] ys zs
     → IsStrictlySortedBy spelled_cmp zs
 deduped_sorted ys zs s f =
     subst (IsStrictlySortedBy spelled_cmp) (sym (dedup_is (eq_by_cmp spelled_cmp) ys zs f))
@@ -69,8 +76,10 @@ first x xs = (0, omega arith, refl)
 later : {X : Type 0} (y : X) (xs : List X) (x : X) → Contains xs x → Contains (y ∷ xs) x
 later y xs x (k, l, e) = (suc k, omega (arith, l), e)
 
-less_named : (texts : List Text) (s : Spelled) (xs : List Spelled) → AreSpelled texts xs → s ≡ spelling texts (spelled_name s)
-    → AllByRecursion (λ y. spelled_cmp s y ≡ Less) xs → AllByRecursion (λ n. order_cmp texts (spelled_name s) n ≡ Less) (map spelled_name xs)
+less_named : (texts : List Text) (s : Spelled) (xs : List Spelled) → AreSpelled texts xs
+    → s ≡ spelling texts (spelled_name s)
+    → AllByRecursion (λ y. spelled_cmp s y ≡ Less) xs
+    → AllByRecursion (λ n. order_cmp texts (spelled_name s) n ≡ Less) (map spelled_name xs)
 less_named texts s [] are is all = tt
 less_named texts s (x ∷ xs) are is (now, rest) = (
   subst (λ (y : Spelled). spelled_cmp (spelling texts (spelled_name s)) y ≡ Less) (are x (first x xs))
@@ -87,14 +96,16 @@ names_sorted texts (x ∷ xs) are (now, rest) = (
   names_sorted texts xs (λ y c. are y (later x xs y c)) rest,
 )
 
-in_map : (xs : List Spelled) (s : Spelled) (C : Name) → Contains xs s → spelled_name s ≡ C → Contains (map spelled_name xs) C
+in_map : (xs : List Spelled) (s : Spelled) (C : Name) → Contains xs s → spelled_name s ≡ C
+    → Contains (map spelled_name xs) C
 in_map [] s C c is = absurd (omega (arith, c.1))
 in_map (y ∷ ys) s C (zero, l, e) is = (0, omega arith, ap spelled_name e ∙ is)
 in_map (y ∷ ys) s C (suc k, l, e) is =
     let c = in_map ys s C (k, omega (arith, l), e) is in
     (suc c.0, omega (arith, c.1), c.2)
 
-map_in : (xs : List Spelled) (C : Name) → Contains (map spelled_name xs) C → (s : Spelled) × Contains xs s × (spelled_name s ≡ C)
+map_in : (xs : List Spelled) (C : Name) → Contains (map spelled_name xs) C
+    → (s : Spelled) × Contains xs s × (spelled_name s ≡ C)
 map_in [] C c = absurd (omega (arith, c.1))
 map_in (y ∷ ys) C (zero, l, e) = (y, first y ys, e)
 map_in (y ∷ ys) C (suc k, l, e) =
@@ -102,7 +113,8 @@ map_in (y ∷ ys) C (suc k, l, e) =
     (r.0, later y ys r.0 r.1, r.2)
 
 -- the names and their spellings
-each_spelled : (texts : List Text) {ns : List Name} {xs : List Spelled} → Each (λ (n : Name) (s : Spelled). SpelledOf texts n s) ns xs
+each_spelled : (texts : List Text) {ns : List Name} {xs : List Spelled}
+    → Each (λ (n : Name) (s : Spelled). SpelledOf texts n s) ns xs
     → (s : Spelled) → Contains xs s → (n : Name) × Contains ns n × (s ≡ spelling texts n)
 each_spelled texts none s c = absurd (omega (arith, c.1))
 each_spelled texts (more {x = e} {y = t} {xs = es} {ys = xs} r rest) s (zero, l, h) = (e, first e es, sym h ∙ r)
@@ -110,7 +122,8 @@ each_spelled texts (more {x = e} {y = t} {xs = es} {ys = xs} r rest) s (suc k, l
     let f = each_spelled texts rest s (k, omega (arith, l), h) in
     (f.0, later e es f.0 f.1, f.2)
 
-spelled_each : (texts : List Text) {ns : List Name} {xs : List Spelled} → Each (λ (n : Name) (s : Spelled). SpelledOf texts n s) ns xs
+spelled_each : (texts : List Text) {ns : List Name} {xs : List Spelled}
+    → Each (λ (n : Name) (s : Spelled). SpelledOf texts n s) ns xs
     → (n : Name) → Contains ns n → Contains xs (spelling texts n)
 spelled_each texts none e c = absurd (omega (arith, c.1))
 spelled_each texts (more {x = d} {y = t} {xs = es} {ys = xs} r rest) e (zero, l, h) =
@@ -120,10 +133,12 @@ spelled_each texts (more {x = d} {y = t} {xs = es} {ys = xs} r rest) e (suc k, l
 
 pub order_is : (texts : List Text) (names : List Name) (xs ys zs : List Spelled) (order : List Name)
     → Each (λ (n : Name) (s : Spelled). SpelledOf texts n s) names xs → IsPermutation xs ys → IsSorted spelled_cmp ys
-    → IsFiltered (DiffersFromLast (eq_by_cmp spelled_cmp)) [] ys zs → order ≡ map spelled_name zs → IsOrderOf texts names order
+    → IsFiltered (DiffersFromLast (eq_by_cmp spelled_cmp)) [] ys zs → order ≡ map spelled_name zs
+    → IsOrderOf texts names order
 order_is texts names xs ys zs order each p s f is = record {
   exact = λ C. (to C, from C);
-  in_order = subst (IsStrictlySortedBy (order_cmp texts)) (sym is) (names_sorted texts zs are (deduped_sorted ys zs s f));
+  in_order =
+      subst (IsStrictlySortedBy (order_cmp texts)) (sym is) (names_sorted texts zs are (deduped_sorted ys zs s f));
 } where
   are : AreSpelled texts zs
   are t c =
@@ -139,7 +154,8 @@ order_is texts names xs ys zs order each p s f is = record {
   from : (C : Name) → Contains names C → Contains order C
   from C c =
       let s = spelled_each texts each C c in
-      subst (λ (ns : List Name). Contains ns C) (sym is) (in_map zs (spelling texts C) C ((deduped_same xs ys zs p f (spelling texts C)).1 s) refl)
+      subst (λ (ns : List Name). Contains ns C) (sym is)
+      (in_map zs (spelling texts C) C ((deduped_same xs ys zs p f (spelling texts C)).1 s) refl)
 
 -- none comes before itself, so that none is there twice
 no_less : (texts : List Text) (C : Name) → order_cmp texts C C ≡ Less → ⊥
@@ -148,7 +164,8 @@ no_less texts C e =
     let c : Less ≡ Greater = sym e ∙ (spelled_total.antisymm s s ∙ ap ordering_reverse e) in
     cc c
 
-pub each_all : {A B : Type 0} (R : A → B → Type 0) (xs : List A) (ys : List B) (i : ℕ) → length xs ≤ i → Each R (take i xs) ys → Each R xs ys
+pub each_all : {A B : Type 0} (R : A → B → Type 0) (xs : List A) (ys : List B) (i : ℕ) → length xs ≤ i
+    → Each R (take i xs) ys → Each R xs ys
 each_all R xs ys i past e = subst (λ zs. Each R zs ys) (take_whole i xs past) e
 
 -- the names of entries
@@ -159,7 +176,8 @@ name_in (d ∷ es) e (suc k, l, h) =
     let c = name_in es e (k, omega (arith, l), h) in
     (suc c.0, omega (arith, c.1), c.2)
 
-pub in_names : (es : List Entry) (C : Name) → Contains (map entry_name es) C → (e : Entry) × Contains es e × (e.name ≡ C)
+pub in_names : (es : List Entry) (C : Name) → Contains (map entry_name es) C
+    → (e : Entry) × Contains es e × (e.name ≡ C)
 in_names [] C c = absurd (omega (arith, c.1))
 in_names (d ∷ es) C (zero, l, h) = (d, (0, omega arith, refl), h)
 in_names (d ∷ es) C (suc k, l, h) =
@@ -167,12 +185,14 @@ in_names (d ∷ es) C (suc k, l, h) =
     (c.0, (suc c.1.0, omega (arith, c.1.1), c.1.2), c.2)
 
 pub sorted_apart : (texts : List Text) (order : List Name) → IsStrictlySortedBy (order_cmp texts) order
-    → (i j : ℕ) (C D : Name) → i < j → slice_get order i ≡ Some C → slice_get order j ≡ Some D → order_cmp texts C D ≡ Less
+    → (i j : ℕ) (C D : Name) → i < j → slice_get order i ≡ Some C → slice_get order j ≡ Some D
+    → order_cmp texts C D ≡ Less
 sorted_apart texts order s i j C D l a b =
     let less = Less-from_sorted (order_cmp texts) order i j C s l (slice_get_within order j D b) in
     rw (get_or_from_slice_get order i C C a, get_or_from_slice_get order j D C b) at less
 
-pub ordered : (texts : List Text) (es : List Entry) (order : List Name) → IsOrderOf texts (map entry_name es) order → IsOrdered es order
+pub ordered : (texts : List Text) (es : List Entry) (order : List Name) → IsOrderOf texts (map entry_name es) order
+    → IsOrdered es order
 ordered texts es order o = record { distinct = distinct; declared = declared } where
   apart : (i j : ℕ) (C : Name) → slice_get order i ≡ Some C → slice_get order j ≡ Some C → i < j → ⊥
   apart i j C a b l = no_less texts C (sorted_apart texts order o.in_order i j C C l a b)

@@ -13,7 +13,8 @@ use Rattle.jn_table.specs.declared.entry.Entry.{Entry}
 use Rattle.jn_table.specs.declared.level.Child.{Child}
 use Rattle.jn_table.specs.declared.level.Level.{Level}
 
-take_push : {X : Type 0} (r : ℕ) (xs : List X) (x : X) → length (take r xs) < r → take r (xs ++ x ∷ []) ≡ take r xs ++ x ∷ []
+take_push : {X : Type 0} (r : ℕ) (xs : List X) (x : X) → length (take r xs) < r
+    → take r (xs ++ x ∷ []) ≡ take r xs ++ x ∷ []
 take_push zero xs x l = absurd (omega (arith, l))
 take_push (suc r) [] x l = ap (λ ys. x ∷ ys) (take_none r)
 take_push (suc r) (y ∷ ys) x l = ap (λ zs. y ∷ zs) (take_push r ys x (omega (arith, l)))
@@ -45,7 +46,8 @@ picks_skip C nobody none = skips none nobody
 picks_skip C (takes t ps) none = takes t (picks_skip C ps none)
 picks_skip C (skips n ps) none = skips n (picks_skip C ps none)
 
-pub picks_same : {S T : Name → Type 0} {up : ℕ} {ns : List Name} {cs : List Child} → ((D : Name) → S D → T D) → ((D : Name) → T D → S D)
+pub picks_same : {S T : Name → Type 0} {up : ℕ} {ns : List Name} {cs : List Child} → ((D : Name) → S D → T D)
+    → ((D : Name) → T D → S D)
     → Picks S up ns cs → Picks T up ns cs
 picks_same to from nobody = nobody
 picks_same to from (takes s ps) = takes (to _ s) (picks_same to from ps)
@@ -54,29 +56,37 @@ picks_same to from (skips n ps) = skips (λ t. n (from _ t)) (picks_same to from
 taken : (xs : List Name) (i : ℕ) (x : Name) → i < length xs → x ≡ get_or xs i x → take (i + 1) xs ≡ take i xs ++ x ∷ []
 taken xs i x l is = take_more xs i x l ∙ ap (λ y. take i xs ++ y ∷ []) (sym is)
 
-pub adds_nobody : (S : Name → Type 0) (up room : ℕ) (all : List Child) → length all ≤ room → AddsPicked S up room [] all all
-adds_nobody S up room all l = record { picked = []; picks = nobody; is = sym (take_whole room all l) ∙ ap (take room) (sym (append-nil all)) }
+pub adds_nobody : (S : Name → Type 0) (up room : ℕ) (all : List Child) → length all ≤ room
+    → AddsPicked S up room [] all all
+adds_nobody S up room all l =
+    record { picked = []; picks = nobody; is = sym (take_whole room all l) ∙ ap (take room) (sym (append-nil all)) }
 
-module _ (S : Name → Type 0) (up room : ℕ) (order : List Name) (i : ℕ) (C : Name) (l : i < length order) (at : C ≡ get_or order i C) where
+module _ (S : Name → Type 0) (up room : ℕ) (order : List Name) (i : ℕ) (C : Name) (l : i < length order)
+    (at : C ≡ get_or order i C) where
   -- a member for which there is room
   pub adds_here : (before all : List Child) → length all < room → S C → AddsPicked S up room (take i order) before all
       → AddsPicked S up room (take (i + 1) order) before (all ++ record { up = up; name = C } ∷ [])
   adds_here before all small s a = record {
     picked = a.picked ++ record { up = up; name = C } ∷ [];
-    picks = subst (λ (ns : List Name). Picks S up ns (a.picked ++ record { up = up; name = C } ∷ [])) (sym (taken order i C l at)) (picks_push C a.picks s);
+    picks = subst (λ (ns : List Name). Picks S up ns (a.picked ++ record { up = up; name = C } ∷ []))
+    (sym (taken order i C l at)) (picks_push C a.picks s);
     is = ap (λ (xs : List Child). xs ++ record { up = up; name = C } ∷ []) a.is
-        ∙ (sym (take_push room (before ++ a.picked) (record { up = up; name = C }) (subst (λ (xs : List Child). length xs < room) a.is small))
+        ∙ (sym (take_push room (before ++ a.picked) (record { up = up; name = C })
+        (subst (λ (xs : List Child). length xs < room) a.is small))
         ∙ ap (take room) (simp append_assoc));
   }
 
   -- one for which there is none
-  pub adds_beyond : (before all : List Child) → room ≤ length all → S C → AddsPicked S up room (take i order) before all
+  pub adds_beyond : (before all : List Child) → room ≤ length all → S C
+      → AddsPicked S up room (take i order) before all
       → AddsPicked S up room (take (i + 1) order) before all
   adds_beyond before all large s a = record {
     picked = a.picked ++ record { up = up; name = C } ∷ [];
-    picks = subst (λ (ns : List Name). Picks S up ns (a.picked ++ record { up = up; name = C } ∷ [])) (sym (taken order i C l at)) (picks_push C a.picks s);
+    picks = subst (λ (ns : List Name). Picks S up ns (a.picked ++ record { up = up; name = C } ∷ []))
+    (sym (taken order i C l at)) (picks_push C a.picks s);
     is = a.is
-        ∙ (sym (take_full room (before ++ a.picked) (record { up = up; name = C } ∷ []) (subst (λ (xs : List Child). room ≤ length xs) a.is large))
+        ∙ (sym (take_full room (before ++ a.picked) (record { up = up; name = C } ∷ [])
+        (subst (λ (xs : List Child). room ≤ length xs) a.is large))
         ∙ ap (take room) (simp append_assoc));
   }
 
@@ -85,7 +95,8 @@ module _ (S : Name → Type 0) (up room : ℕ) (order : List Name) (i : ℕ) (C 
       → AddsPicked S up room (take (i + 1) order) before all
   adds_other before all none a = record {
     picked = a.picked;
-    picks = subst (λ (ns : List Name). Picks S up ns a.picked) (sym (taken order i C l at)) (picks_skip C a.picks none);
+    picks =
+        subst (λ (ns : List Name). Picks S up ns a.picked) (sym (taken order i C l at)) (picks_skip C a.picks none);
     is = a.is;
   }
 
@@ -112,8 +123,10 @@ named_or_not (D ∷ ns) C = elim (names_differ D C) [
   not_here D ns C other none (suc k, l, e) = none (k, omega (arith, l), e)
 
 -- where there is no room left, whether it is one or not
-pub adds_full : (members : List Name) (up room : ℕ) (order : List Name) (i : ℕ) → i < length order → (before all : List Child) → room ≤ length all
-    → AddsPicked (Contains members) up room (take i order) before all → AddsPicked (Contains members) up room (take (i + 1) order) before all
+pub adds_full : (members : List Name) (up room : ℕ) (order : List Name) (i : ℕ) → i < length order
+    → (before all : List Child) → room ≤ length all
+    → AddsPicked (Contains members) up room (take i order) before all
+    → AddsPicked (Contains members) up room (take (i + 1) order) before all
 adds_full members up room order i l before all large a =
     let C = get_or order i (record { 0 = 0 }) in
     let at = same_item order i (record { 0 = 0 }) l in
@@ -122,13 +135,17 @@ adds_full members up room order i l before all large a =
       | inr none ↦ adds_other (Contains members) up room order i C l at before all none a
     ]
 
-pub front_none : (es : List Entry) (order : List Name) (level : Level) (room : ℕ) (all : List Child) → all ≡ [] → ChildrenFront es order level 0 room all
+pub front_none : (es : List Entry) (order : List Name) (level : Level) (room : ℕ) (all : List Child) → all ≡ []
+    → ChildrenFront es order level 0 room all
 front_none es order level room all none = record { whole = []; all = no_path; front = none ∙ sym (take_none room) }
 
-pub front_small : (es : List Entry) (order : List Name) (level : Level) (n room : ℕ) (all : List Child) → ChildrenFront es order level n room all → length all ≤ room
-front_small es order level n room all f = subst (λ (xs : List Child). length xs ≤ room) (sym f.front) (take_within room f.whole)
+pub front_small : (es : List Entry) (order : List Name) (level : Level) (n room : ℕ) (all : List Child)
+    → ChildrenFront es order level n room all → length all ≤ room
+front_small es order level n room all f =
+    subst (λ (xs : List Child). length xs ≤ room) (sym f.front) (take_within room f.whole)
 
-pub front_more : (es : List Entry) (order : List Name) (level : Level) (n room : ℕ) (members : List Name) (sups : Vec ℕ Global) (before after : List Child)
+pub front_more : (es : List Entry) (order : List Name) (level : Level) (n room : ℕ) (members : List Name)
+    (sups : Vec ℕ Global) (before after : List Child)
     → slice_get level.sups.items n ≡ Some sups
     → ((D : Name) → Contains members D ↔ MembersAt es level.paths.items sups.items D)
     → ChildrenFront es order level n room before → AddsPicked (Contains members) n room order before after

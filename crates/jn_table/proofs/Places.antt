@@ -2,7 +2,8 @@
 use Rattle.std.proofs.Common.{◌≡◌, ◌<◌, ℕ, List, [], ◌∷◌, length, get_or, arith, refl, zero, suc, take, ap, ◌≤◌}
 
 -- the item of a loop
-pub same_item : {X : Type 0} (xs : List X) (i : ℕ) (d : X) → i < length xs → get_or xs i d ≡ get_or xs i (get_or xs i d)
+pub same_item : {X : Type 0} (xs : List X) (i : ℕ) (d : X) → i < length xs
+    → get_or xs i d ≡ get_or xs i (get_or xs i d)
 same_item [] i d l = absurd (omega (arith, l))
 same_item (x ∷ xs) zero d l = refl
 same_item (x ∷ xs) (suc i) d l = same_item xs i d (omega (arith, l))

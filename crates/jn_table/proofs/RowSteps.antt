@@ -25,7 +25,8 @@ members_none paths R all e = subst (MembersUpTo paths R 0) (sym e) (record {
 })
 
 -- one more path, which is no member
-pub members_skip : (paths : List Path) (R : Path) (n : ℕ) (P : Path) (all : List RowMember) → slice_get paths n ≡ Some P
+pub members_skip : (paths : List Path) (R : Path) (n : ℕ) (P : Path) (all : List RowMember)
+    → slice_get paths n ≡ Some P
     → ((C : Name) → P ≡ C ∷ R → ⊥) → MembersUpTo paths R n all → MembersUpTo paths R (n + 1) all
 members_skip paths R n P all at none u = record {
   sound = λ j m h. let s = u.sound j m h in (omega (arith, s.0), s.1);
@@ -33,34 +34,42 @@ members_skip paths R n P all at none u = record {
     | inl below ↦ u.complete k C below h
     | inr past ↦
         let e : k ≡ n = omega (arith, l, past) in
-        absurd (none C (same_some (slice_get paths n) P (C ∷ R) at (subst (λ (j : ℕ). slice_get paths j ≡ Some (C ∷ R)) e h)))
+        absurd (none C (same_some (slice_get paths n) P (C ∷ R) at
+        (subst (λ (j : ℕ). slice_get paths j ≡ Some (C ∷ R)) e h)))
   ];
   ascending = u.ascending;
 }
 
 -- one more, which is one
-pub members_push : (paths : List Path) (R : Path) (n : ℕ) (C : Name) (m : RowMember) (all : List RowMember) → slice_get paths n ≡ Some (C ∷ R)
+pub members_push : (paths : List Path) (R : Path) (n : ℕ) (C : Name) (m : RowMember) (all : List RowMember)
+    → slice_get paths n ≡ Some (C ∷ R)
     → m.name ≡ C → m.id.0 ≡ n → MembersUpTo paths R n all → MembersUpTo paths R (n + 1) (all ++ m ∷ [])
 members_push paths R n C m all at name id u = record {
   sound = λ j x h. sound j x (slice_get-push_cases all m j x h);
   complete = complete;
-  ascending = λ i j a b l h k. ascending i j a b l (slice_get-push_cases all m i a h) (slice_get-push_cases all m j b k);
+  ascending =
+      λ i j a b l h k. ascending i j a b l (slice_get-push_cases all m i a h) (slice_get-push_cases all m j b k);
 } where
   here : slice_get paths m.id.0 ≡ Some (m.name ∷ R)
-  here = subst (λ (k : ℕ). slice_get paths k ≡ Some (m.name ∷ R)) (sym id) (subst (λ (D : Name). slice_get paths n ≡ Some (D ∷ R)) (sym name) at)
+  here = subst (λ (k : ℕ). slice_get paths k ≡ Some (m.name ∷ R)) (sym id)
+      (subst (λ (D : Name). slice_get paths n ≡ Some (D ∷ R)) (sym name) at)
 
-  sound : (j : ℕ) (x : RowMember) → (slice_get all j ≡ Some x) ⊎ ((j ≡ length all) × (x ≡ m)) → (x.id.0 < n + 1) × (slice_get paths x.id.0 ≡ Some (x.name ∷ R))
+  sound : (j : ℕ) (x : RowMember) → (slice_get all j ≡ Some x) ⊎ ((j ≡ length all) × (x ≡ m))
+      → (x.id.0 < n + 1) × (slice_get paths x.id.0 ≡ Some (x.name ∷ R))
   sound j x (inl h) = let s = u.sound j x h in (omega (arith, s.0), s.1)
   sound j x (inr h) =
-      subst (λ (y : RowMember). (y.id.0 < n + 1) × (slice_get paths y.id.0 ≡ Some (y.name ∷ R))) (sym h.1) (omega (arith, id), here)
+      subst (λ (y : RowMember). (y.id.0 < n + 1) × (slice_get paths y.id.0 ≡ Some (y.name ∷ R))) (sym h.1)
+      (omega (arith, id), here)
 
-  complete : (k : ℕ) (D : Name) → k < n + 1 → slice_get paths k ≡ Some (D ∷ R) → (j : ℕ) × (x : RowMember) × (slice_get (all ++ m ∷ []) j ≡ Some x) × (x.id.0 ≡ k)
+  complete : (k : ℕ) (D : Name) → k < n + 1 → slice_get paths k ≡ Some (D ∷ R)
+      → (j : ℕ) × (x : RowMember) × (slice_get (all ++ m ∷ []) j ≡ Some x) × (x.id.0 ≡ k)
   complete k D l h = elim (cases_lt k n) [
     | inl below ↦ let c = u.complete k D below h in (c.0, c.1, slice_get-append_left all (m ∷ []) c.0 c.1 c.2, c.3)
     | inr past ↦ (length all, m, slice_get-push all m, (let e : m.id.0 ≡ k = omega (arith, l, past, id) in e))
   ]
 
-  ascending : (i j : ℕ) (a b : RowMember) → i < j → (slice_get all i ≡ Some a) ⊎ ((i ≡ length all) × (a ≡ m)) → (slice_get all j ≡ Some b) ⊎ ((j ≡ length all) × (b ≡ m))
+  ascending : (i j : ℕ) (a b : RowMember) → i < j → (slice_get all i ≡ Some a) ⊎ ((i ≡ length all) × (a ≡ m))
+      → (slice_get all j ≡ Some b) ⊎ ((j ≡ length all) × (b ≡ m))
       → a.id.0 < b.id.0
   ascending i j a b l (inl h) (inl k) = u.ascending i j a b l h k
   ascending i j a b l (inl h) (inr k) =
@@ -70,12 +79,14 @@ members_push paths R n C m all at name id u = record {
   ascending i j a b l (inr h) (inl k) = absurd (let w = slice_get_within all j b k in omega (arith, l, h.0, w))
   ascending i j a b l (inr h) (inr k) = absurd (omega (arith, l, h.0, k.0))
 
-pub members_all : (paths : List Path) (R : Path) (n : ℕ) (all : List RowMember) → n ≡ length paths → MembersUpTo paths R n all
+pub members_all : (paths : List Path) (R : Path) (n : ℕ) (all : List RowMember) → n ≡ length paths
+    → MembersUpTo paths R n all
     → MembersUpTo paths R (length paths) all
 members_all paths R n all e u = subst (λ (k : ℕ). MembersUpTo paths R k all) e u
 
 -- what was gathered, in order
-pub gathered_order : (texts : List Text) (T : Name → Type 0) (names order : List Name) → ((D : Name) → Contains names D ↔ T D)
+pub gathered_order : (texts : List Text) (T : Name → Type 0) (names order : List Name) → ((D : Name)
+    → Contains names D ↔ T D)
     → IsOrderOf texts names order → OrderedBy texts T order
 gathered_order texts T names order g o = record {
   exact = λ C. (λ c. (g C).0 ((o.exact C).0 c), λ t. (o.exact C).1 ((g C).1 t));
@@ -85,7 +96,8 @@ gathered_order texts T names order g o = record {
 pub rows_none : (texts : List Text) (u : Universe) (rows : List Row) → rows ≡ [] → RowsOf texts u 0 rows
 rows_none texts u rows e = subst (RowsOf texts u 0) (sym e) (record { long = refl; each = λ k row at. absurd (cc at) })
 
-pub rows_more : (texts : List Text) (u : Universe) (n : ℕ) (rows : List Row) (row : Row) → RowsOf texts u n rows → RowOf texts u n row
+pub rows_more : (texts : List Text) (u : Universe) (n : ℕ) (rows : List Row) (row : Row) → RowsOf texts u n rows
+    → RowOf texts u n row
     → RowsOf texts u (n + 1) (rows ++ row ∷ [])
 rows_more texts u n rows row r now = record {
   long = let l = length-append rows (row ∷ []) in omega (arith, l, r.long);
@@ -96,7 +108,8 @@ rows_more texts u n rows row r now = record {
   ];
 }
 
-pub rows_all : (texts : List Text) (u : Universe) (n m : ℕ) (rows : List Row) → n ≡ m → RowsOf texts u n rows → RowsOf texts u m rows
+pub rows_all : (texts : List Text) (u : Universe) (n m : ℕ) (rows : List Row) → n ≡ m → RowsOf texts u n rows
+    → RowsOf texts u m rows
 rows_all texts u n m rows e r = subst (λ (k : ℕ). RowsOf texts u k rows) e r
 
 pub at_is : (paths : List Path) (n : ℕ) (P Q : Path) → slice_get paths n ≡ Some P → P ≡ Q → slice_get paths n ≡ Some Q
@@ -106,7 +119,8 @@ pub shown_is : (path : ShownPath) (R : Path) → path.names ≡ reverse R → pa
 shown_is path R e = ap (λ (ns : List Name). record { names = ns }) e
 
 -- the same of what is answered
-pub ordered_answer : {E : Type 0} (texts : List Text) (T : Name → Type 0) (names : List Name) (r : Result (Vec Name Global) E) → ((D : Name) → Contains names D ↔ T D)
+pub ordered_answer : {E : Type 0} (texts : List Text) (T : Name
+    → Type 0) (names : List Name) (r : Result (Vec Name Global) E) → ((D : Name) → Contains names D ↔ T D)
     → IfOk r (λ order. IsOrderOf texts names order.items) → IfOk r (λ order. OrderedBy texts T order.items)
 ordered_answer texts T names (Ok order) g o = gathered_order texts T names order.items g o
 ordered_answer texts T names (Err e) g o = tt

@@ -19,7 +19,8 @@ use Rattle.jn_table.proofs.Sides.{Side, front, back, side, left, right}
 pub shifted_none : (off : ℕ) (xs : Graph) → AddsShifted off [] xs xs
 shifted_none off xs = record { added = []; is = sym (append-nil xs); each = Each-none (IsShifted off) [] refl }
 
-pub shifted_more : (off : ℕ) (rows before mid : Graph) (i : ℕ) (row moved : Vec ℕ Global) → i < length rows → row ≡ get_or rows i row
+pub shifted_more : (off : ℕ) (rows before mid : Graph) (i : ℕ) (row moved : Vec ℕ Global) → i < length rows
+    → row ≡ get_or rows i row
     → AddsShifted off (take i rows) before mid → moved.items ≡ map (λ j. j + off) row.items
     → AddsShifted off (take (i + 1) rows) before (mid ++ moved ∷ [])
 shifted_more off rows before mid i row moved l is a m = record {
@@ -28,11 +29,14 @@ shifted_more off rows before mid i row moved l is a m = record {
   each = Each-more (IsShifted off) rows a.added i row moved l is a.each m;
 }
 
-pub shifted_all : (off : ℕ) (rows before after : Graph) (i : ℕ) → length rows ≤ i → AddsShifted off (take i rows) before after
+pub shifted_all : (off : ℕ) (rows before after : Graph) (i : ℕ) → length rows ≤ i
+    → AddsShifted off (take i rows) before after
     → AddsShifted off rows before after
-shifted_all off rows before after i past a = subst (λ (rs : Graph). AddsShifted off rs before after) (take_whole i rows past) a
+shifted_all off rows before after i past a =
+    subst (λ (rs : Graph). AddsShifted off rs before after) (take_whole i rows past) a
 
-moved_in : (off : ℕ) (xs : List ℕ) (j : ℕ) → Contains (map (λ k. k + off) xs) j → (k : ℕ) × Contains xs k × (j ≡ k + off)
+moved_in : (off : ℕ) (xs : List ℕ) (j : ℕ) → Contains (map (λ k. k + off) xs) j
+    → (k : ℕ) × Contains xs k × (j ≡ k + off)
 moved_in off [] j c = absurd (omega (arith, c.1))
 moved_in off (x ∷ xs) j (zero, l, e) = (x, (0, omega arith, refl), sym e)
 moved_in off (x ∷ xs) j (suc n, l, e) =
@@ -55,12 +59,15 @@ module _ {A : Type 0} (E : A → A → Type 0) (xs ys : List A) (g h after : Gra
     by_side (back j e x) = absurd (omega (arith, l, long, e))
 
   in_new : (j : ℕ) (row : Vec ℕ Global) → slice_get after (length xs + j) ≡ Some row → slice_get a.added j ≡ Some row
-  in_new j row at = by_side (side g a.added (length xs + j) row (subst (λ (r : Graph). slice_get r (length xs + j) ≡ Some row) a.is at)) where
+  in_new j row at = by_side (side g a.added (length xs + j) row
+      (subst (λ (r : Graph). slice_get r (length xs + j) ≡ Some row) a.is at)) where
     by_side : Side g a.added (length xs + j) row → slice_get a.added j ≡ Some row
     by_side (front x) = absurd (let w = slice_get_within g (length xs + j) row x in omega (arith, w, long))
-    by_side (back k e x) = subst (λ (i : ℕ). slice_get a.added i ≡ Some row) (let f : k ≡ j = omega (arith, e, long) in f) x
+    by_side (back k e x) =
+        subst (λ (i : ℕ). slice_get a.added i ≡ Some row) (let f : k ≡ j = omega (arith, e, long) in f) x
 
-  sound_by : (i j : ℕ) (x : A) → HasEdge after i j → Side xs ys i x → (y : A) × (slice_get (xs ++ ys) j ≡ Some y) × E x y
+  sound_by : (i j : ℕ) (x : A) → HasEdge after i j → Side xs ys i x
+      → (y : A) × (slice_get (xs ++ ys) j ≡ Some y) × E x y
   sound_by i j x e (front f) =
       let w = slice_get_within xs i x f in
       let s = n.sound i j x f (record { row = e.row; at = in_old i e.row w e.at; in_row = e.in_row }) in
@@ -70,9 +77,11 @@ module _ {A : Type 0} (E : A → A → Type 0) (xs ys : List A) (g h after : Gra
       let r = Each-back (IsShifted (length xs)) a.each k e.row at in
       let c = moved_in (length xs) (r.0).items j (subst (λ (ns : List ℕ). Contains ns j) r.2 e.in_row) in
       let s = m.sound k c.0 x f (record { row = r.0; at = r.1; in_row = c.1 }) in
-      (s.0, subst (λ (q : ℕ). slice_get (xs ++ ys) q ≡ Some s.0) (let q : length xs + c.0 ≡ j = omega (arith, c.2) in q) (right xs ys c.0 s.0 s.1), s.2)
+      (s.0, subst (λ (q : ℕ). slice_get (xs ++ ys) q ≡ Some s.0)
+      (let q : length xs + c.0 ≡ j = omega (arith, c.2) in q) (right xs ys c.0 s.0 s.1), s.2)
 
-  complete_by : (i : ℕ) (x y : A) → E x y → Side xs ys i x → (j : ℕ) × (slice_get (xs ++ ys) j ≡ Some y) × HasEdge after i j
+  complete_by : (i : ℕ) (x y : A) → E x y → Side xs ys i x
+      → (j : ℕ) × (slice_get (xs ++ ys) j ≡ Some y) × HasEdge after i j
   complete_by i x y h (front f) =
       let c = n.complete i x y f h in
       let e = c.2 in (
@@ -96,7 +105,8 @@ module _ {A : Type 0} (E : A → A → Type 0) (xs ys : List A) (g h after : Gra
           row = r.0;
           at = subst (λ (q : ℕ). slice_get after q ≡ Some r.0) off
               (subst (λ (s : Graph). slice_get s (length g + k) ≡ Some r.0) (sym a.is) (right g a.added k r.0 r.1));
-          in_row = subst (λ (ns : List ℕ). Contains ns (c.0 + length xs)) (sym r.2) (in_moved (length xs) (e.row).items c.0 e.in_row);
+          in_row = subst (λ (ns : List ℕ). Contains ns (c.0 + length xs)) (sym r.2)
+          (in_moved (length xs) (e.row).items c.0 e.in_row);
         },
       )
 
@@ -107,7 +117,8 @@ module _ {A : Type 0} (E : A → A → Type 0) (xs ys : List A) (g h after : Gra
     complete = λ i x y at h. complete_by i x y h (side xs ys i x at);
   }
 
-module _ (level : Level) (before after : Nodes) (s : IsShaped level) (f : FitNodes before) (a : AddsLevel level before after)
+module _ (level : Level) (before after : Nodes) (s : IsShaped level) (f : FitNodes before)
+    (a : AddsLevel level before after)
     (few : length before.paths.items + length level.paths.items ≤ 4096) where
   off : ℕ
   off = length before.paths.items
@@ -121,10 +132,12 @@ module _ (level : Level) (before after : Nodes) (s : IsShaped level) (f : FitNod
   moved : length (a.direct).added ≡ length level.direct.items
   moved = Each-length (IsShifted (length before.paths.items)) (a.direct).each
 
-  row_within : (k : ℕ) (row : Vec ℕ Global) → slice_get (a.direct).added k ≡ Some row → All (λ (j : ℕ). j < length after.paths.items) row.items
+  row_within : (k : ℕ) (row : Vec ℕ Global) → slice_get (a.direct).added k ≡ Some row
+      → All (λ (j : ℕ). j < length after.paths.items) row.items
   row_within k row at i d l =
       let r = Each-back (IsShifted (length before.paths.items)) (a.direct).each k row at in
-      let c = moved_in (length before.paths.items) (r.0).items (get_or row.items i d) (subst (λ (ns : List ℕ). Contains ns (get_or row.items i d)) r.2 (Contains-get_or row.items i d l)) in
+      let c = moved_in (length before.paths.items) (r.0).items (get_or row.items i d)
+          (subst (λ (ns : List ℕ). Contains ns (get_or row.items i d)) r.2 (Contains-get_or row.items i d l)) in
       let in_level = s.direct_in k r.0 (slice_get_within level.direct.items k r.0 r.1) in
       let same : get_or level.direct.items k r.0 ≡ r.0 = get_or_from_slice_get level.direct.items k r.0 r.0 r.1 in
       let w = All-contains (λ (j : ℕ). j < length level.paths.items) (r.0).items c.0
@@ -137,8 +150,11 @@ module _ (level : Level) (before after : Nodes) (s : IsShaped level) (f : FitNod
       let r = Each-back (IsShifted (length before.paths.items)) (a.direct).each k row at in
       let up = s.ascending k r.0 (slice_get_within level.direct.items k r.0 r.1) in
       let same : get_or level.direct.items k r.0 ≡ r.0 = get_or_from_slice_get level.direct.items k r.0 r.0 r.1 in
-      subst IsStrictlyIncreasing (sym r.2) (shifts (length before.paths.items) (r.0).items (subst (λ (v : Vec ℕ Global). IsStrictlyIncreasing v.items) same up)) where
-        at_moved : (off : ℕ) (xs : List ℕ) (k : ℕ) → k < length xs → get_or (map (λ j. j + off) xs) k 0 ≡ get_or xs k 0 + off
+      subst IsStrictlyIncreasing (sym r.2)
+      (shifts (length before.paths.items) (r.0).items
+      (subst (λ (v : Vec ℕ Global). IsStrictlyIncreasing v.items) same up)) where
+        at_moved : (off : ℕ) (xs : List ℕ) (k : ℕ) → k < length xs
+            → get_or (map (λ j. j + off) xs) k 0 ≡ get_or xs k 0 + off
         at_moved off [] k l = absurd (omega (arith, l))
         at_moved off (x ∷ xs) zero l = refl
         at_moved off (x ∷ xs) (suc k) l = at_moved off xs k (omega (arith, l))
@@ -164,13 +180,17 @@ module _ (level : Level) (before after : Nodes) (s : IsShaped level) (f : FitNod
     few = let t = total in omega (arith, t, few);
     long = let t = total in let r = rows in let m = moved in omega (arith, t, r, m, f.long, s.direct);
     within = subst (λ (g : Graph). InRange g (length after.paths.items)) (sym (a.direct).is)
-        (All-append (λ (row : Vec ℕ Global). All (λ (j : ℕ). j < length after.paths.items) row.items) before.direct.items (a.direct).added
+        (All-append (λ (row : Vec ℕ Global). All
+        (λ (j : ℕ). j < length after.paths.items) row.items) before.direct.items (a.direct).added
         (All-weaker (λ (row : Vec ℕ Global). All (λ (j : ℕ). j < length before.paths.items) row.items)
         (λ (row : Vec ℕ Global). All (λ (j : ℕ). j < length after.paths.items) row.items)
         (λ row w. All-weaker (λ (j : ℕ). j < length before.paths.items) (λ (j : ℕ). j < length after.paths.items)
         (λ j l. let t = total in omega (arith, l, t)) row.items w) before.direct.items f.within)
-        (all_at (λ (row : Vec ℕ Global). All (λ (j : ℕ). j < length after.paths.items) row.items) (a.direct).added row_within));
-    ascending = subst (λ (g : Graph). All (λ (row : Vec ℕ Global). IsStrictlyIncreasing row.items) g) (sym (a.direct).is)
-        (All-append (λ (row : Vec ℕ Global). IsStrictlyIncreasing row.items) before.direct.items (a.direct).added f.ascending
+        (all_at (λ (row : Vec ℕ Global). All (λ (j : ℕ). j < length after.paths.items) row.items)
+        (a.direct).added row_within));
+    ascending =
+        subst (λ (g : Graph). All (λ (row : Vec ℕ Global). IsStrictlyIncreasing row.items) g) (sym (a.direct).is)
+        (All-append (λ (row : Vec ℕ Global). IsStrictlyIncreasing row.items) before.direct.items
+        (a.direct).added f.ascending
         (all_at (λ (row : Vec ℕ Global). IsStrictlyIncreasing row.items) (a.direct).added row_ascends));
   }

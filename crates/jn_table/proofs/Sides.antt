@@ -19,7 +19,9 @@ left [] ys k x at = absurd (cc at)
 left (z ∷ zs) ys zero x at = at
 left (z ∷ zs) ys (suc k) x at = left zs ys k x at
 
-pub right : {X : Type 0} (xs ys : List X) (k : ℕ) (x : X) → slice_get ys k ≡ Some x → slice_get (xs ++ ys) (length xs + k) ≡ Some x
+pub right : {X : Type 0} (xs ys : List X) (k : ℕ) (x : X) → slice_get ys k ≡ Some x
+    → slice_get (xs ++ ys) (length xs + k) ≡ Some x
 right [] ys k x at = subst (λ (j : ℕ). slice_get ys j ≡ Some x) (let e : k ≡ 0 + k = omega arith in e) at
 right (z ∷ zs) ys k x at =
-    subst (λ (j : ℕ). slice_get (z ∷ (zs ++ ys)) j ≡ Some x) (let e : suc (length zs + k) ≡ suc (length zs) + k = omega arith in e) (right zs ys k x at)
+    subst (λ (j : ℕ). slice_get (z ∷ (zs ++ ys)) j ≡ Some x)
+    (let e : suc (length zs + k) ≡ suc (length zs) + k = omega arith in e) (right zs ys k x at)

@@ -57,16 +57,19 @@ some_kind p (C ∷ P) h =
     )
 
 -- no more than a universe may have
-pub not_over : (p : Program) (paths : List Path) → InOrder (class_cmp p) paths → ((R : Path) → InUniverse p R → Contains paths R) → length paths ≤ 4096
+pub not_over : (p : Program) (paths : List Path) → InOrder (class_cmp p) paths → ((R : Path) → InUniverse p R
+    → Contains paths R) → length paths ≤ 4096
     → NoneIs (IsOver p)
 not_over p paths o has few R over =
-    let l = no_longer p paths (over.earlier ++ R ∷ []) (sorted (class_cmp p) (over.earlier ++ R ∷ []) longer) (sorted (class_cmp p) paths o) within in
+    let l = no_longer p paths (over.earlier ++ R ∷ []) (sorted (class_cmp p) (over.earlier ++ R ∷ []) longer)
+        (sorted (class_cmp p) paths o) within in
     let n = length-append over.earlier (R ∷ []) in
     omega (arith, l, n, over.count, few)
   where
     one : InOrder (class_cmp p) (R ∷ [])
     one = record { by = by } where
-      by : (i j : ℕ) (x y : Path) → i < j → slice_get (R ∷ []) i ≡ Some x → slice_get (R ∷ []) j ≡ Some y → class_cmp p x y ≡ Less
+      by : (i j : ℕ) (x y : Path) → i < j → slice_get (R ∷ []) i ≡ Some x → slice_get (R ∷ []) j ≡ Some y
+          → class_cmp p x y ≡ Less
       by i zero x y l a b = absurd (omega (arith, l))
       by i (suc j) x y l a b = absurd (cc b)
 
@@ -80,7 +83,8 @@ not_over p paths o has few R over =
 
     by_part : (Q : Path) → Contains over.earlier Q ⊎ Contains (R ∷ []) Q → Contains paths Q
     by_part Q (inl c) = has Q ((over.exact Q).0 c).0
-    by_part Q (inr c) = let i = list_at (R ∷ []) Q c in subst (Contains paths) (sym (last i.0 Q i.1)) (has R over.universe)
+    by_part Q (inr c) =
+        let i = list_at (R ∷ []) Q c in subst (Contains paths) (sym (last i.0 Q i.1)) (has R over.universe)
 
     within : (Q : Path) → Contains (over.earlier ++ R ∷ []) Q → Contains paths Q
     within Q c = by_part Q (Contains-append_cases over.earlier (R ∷ []) Q c)
@@ -94,13 +98,16 @@ module _ (p : Program) (es : List Entry) (u : Universe) (f : FitUniverse u) (is 
       let s = numbers.sound k k R at c in
       let same : s.0 ≡ R = same_some (slice_get u.nodes.paths.items k) s.0 R s.1 at in
       let t = s.2 in
-      (placed p es u f is k R at, record { next = t.between; direct = t.first; back = subst (Sup p t.between) same (sup_chain p t.between s.0 t.rest) })
+      (placed p es u f is k R at, record { next = t.between; direct = t.first; back = subst (Sup p t.between) same
+      (sup_chain p t.between s.0 t.rest) })
 
   cycle_from : (k : ℕ) (R : Path) → slice_get u.nodes.paths.items k ≡ Some R → IsCycle p R → CycleAt u k
   cycle_from k R at c =
       let o = c.1 in
-      let s = numbers.complete k R R at (record { between = o.next; first = o.direct; rest = chain_sup p o.next R o.back }) in
-      let same = one_place (class_cmp p) (before_irreflexive p) u.nodes.paths.items (places p es u f is) s.0 k R s.1 at in
+      let s = numbers.complete k R R at
+          (record { between = o.next; first = o.direct; rest = chain_sup p o.next R o.back }) in
+      let same = one_place (class_cmp p) (before_irreflexive p) u.nodes.paths.items
+          (places p es u f is) s.0 k R s.1 at in
       subst (λ (j : ℕ). Steps (HasEdge u.nodes.direct.items) k j) same s.2
 
   mixed_to : (k : ℕ) (R : Path) → slice_get u.nodes.paths.items k ≡ Some R → TwoKindsAt u k → IsMixed p R
@@ -134,7 +141,8 @@ module _ (p : Program) (es : List Entry) (u : Universe) (f : FitUniverse u) (is 
     holds = to t.number R t.at t.holds;
     first = λ Q s b.
         let k = place p es u f is Q (inside Q s) in
-        let l = place_below (class_cmp p) (before_irreflexive p) (before_chain p) u.nodes.paths.items (places p es u f is) k.0 t.number Q R k.1 t.at b in
+        let l = place_below (class_cmp p) (before_irreflexive p) (before_chain p) u.nodes.paths.items
+            (places p es u f is) k.0 t.number Q R k.1 t.at b in
         t.first k.0 l (from k.0 Q k.1 s);
   }
 
@@ -151,7 +159,8 @@ module _ (p : Program) (es : List Entry) (u : Universe) (f : FitUniverse u) (is 
   no_cycles n = none_right (CycleAt u) (IsCycle p) cycle_from (λ R c. c.0) n
 
   pub refused_right : (fault : TableFault) → RefusedBy u fault → UniverseRefused p fault
-  refused_right fault (cycle_at {R = R} t) = cycle within (first_right (CycleAt u) (IsCycle p) cycle_to cycle_from (λ Q c. c.0) R t)
+  refused_right fault (cycle_at {R = R} t) =
+      cycle within (first_right (CycleAt u) (IsCycle p) cycle_to cycle_from (λ Q c. c.0) R t)
   refused_right fault (kinds_at {R = R} n t) =
       two_kinds within (no_cycles n) (first_right (TwoKindsAt u) (IsMixed p) mixed_to mixed_from (λ Q c. c.0) R t)
   refused_right fault memory_at = memory
@@ -165,7 +174,8 @@ module _ (p : Program) (es : List Entry) (u : Universe) (f : FitUniverse u) (is 
 
   -- where no path has two kinds
   module _ (one : NoneIs (IsMixed p)) where
-    kind_right : (k : ℕ) (R : Path) (above : Vec ℕ Global) (own : Kind) → slice_get u.nodes.paths.items k ≡ Some R → slice_get u.sups.items k ≡ Some above
+    kind_right : (k : ℕ) (R : Path) (above : Vec ℕ Global) (own : Kind) → slice_get u.nodes.paths.items k ≡ Some R
+        → slice_get u.sups.items k ≡ Some above
         → KindBy u.own above.items own → (c : Kind) → HasKind p R c ↔ (c ≡ own)
     kind_right k R above own at above_at (inl h) c = (to c, from) where
       class : HasKind p R kind.Class
@@ -200,7 +210,8 @@ module _ (p : Program) (es : List Entry) (u : Universe) (f : FitUniverse u) (is 
       kind = kind_right k r.R r.above row.kind r.at r.above_at r.kind_by;
       up = row_up p es u f is r.R row.up (placed p es u f is k r.R r.at) r.up_by;
       direct = row_classes p es u f is (Direct p) u.nodes.direct.items (is.nodes).direct k r.R r.below r.at r.below_at
-          (all_at (λ (v : Vec ℕ Global). IsStrictlyIncreasing v.items) u.nodes.direct.items k r.below ((f.nodes).ascending) r.below_at)
+          (all_at (λ (v : Vec ℕ Global). IsStrictlyIncreasing v.items) u.nodes.direct.items k r.below
+          ((f.nodes).ascending) r.below_at)
           row.direct.items r.direct;
       sups = row_classes p es u f is (Sup p) u.sups.items (supers p es u f is) k r.R r.above r.at r.above_at
           (all_at (λ (v : Vec ℕ Global). IsStrictlyIncreasing v.items) u.sups.items k r.above f.sups_up r.above_at)
@@ -210,7 +221,8 @@ module _ (p : Program) (es : List Entry) (u : Universe) (f : FitUniverse u) (is 
       fields = row_fields p es u f is k r.R r.above r.at r.above_at row.fields.items r.fields;
     }
 
-    pub rows_right : (rows : List Row) → RowsOf p.names u (length u.nodes.paths.items) rows → AreRows p (map shown u.nodes.paths.items) rows
+    pub rows_right : (rows : List Row) → RowsOf p.names u (length u.nodes.paths.items) rows
+        → AreRows p (map shown u.nodes.paths.items) rows
     rows_right rows r = record {
       paths = u.nodes.paths.items;
       shown_are = refl;
@@ -219,7 +231,8 @@ module _ (p : Program) (es : List Entry) (u : Universe) (f : FitUniverse u) (is 
       each = each_right (IsRow p (map shown u.nodes.paths.items)) u.nodes.paths.items rows r.long
           (λ k R row at row_at.
           let x = r.each k row row_at in
-          subst (λ (Q : Path). IsRow p (map shown u.nodes.paths.items) Q row) (same_some (slice_get u.nodes.paths.items k) x.R R x.at at) (row_right k row x));
+          subst (λ (Q : Path). IsRow p (map shown u.nodes.paths.items) Q row)
+          (same_some (slice_get u.nodes.paths.items k) x.R R x.at at) (row_right k row x));
     }
 
   pub whole : HasUniverse p (map shown u.nodes.paths.items)

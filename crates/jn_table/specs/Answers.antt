@@ -36,5 +36,6 @@ pub record UniversePasses (p : Program) : Type 0 where
 pub data UniverseRefused (p : Program) : TableFault → Type 0 where
   too_many : {R : Path} → IsOver p R → UniverseRefused p (fault.TooMany (shown R))
   cycle : {R : Path} → NoneIs (IsOver p) → IsFirst p (IsCycle p) R → UniverseRefused p (fault.Cycle (shown R))
-  two_kinds : {R : Path} → NoneIs (IsOver p) → NoneIs (IsCycle p) → IsFirst p (IsMixed p) R → UniverseRefused p (fault.Kind (shown R))
+  two_kinds : {R : Path} → NoneIs (IsOver p) → NoneIs (IsCycle p) → IsFirst p (IsMixed p) R
+      → UniverseRefused p (fault.Kind (shown R))
   memory : UniverseRefused p fault.Memory

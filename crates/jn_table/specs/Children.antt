@@ -11,7 +11,8 @@ use Rattle.jn_table.specs.declared.level.Level.{Level}
 -- those of the names of which S holds, in the order of the names, as members of the path of that number
 pub data Picks (S : Name → Type 0) (up : ℕ) : List Name → List Child → Type 0 where
   nobody : Picks S up [] []
-  takes : {C : Name} {ns : List Name} {cs : List Child} → S C → Picks S up ns cs → Picks S up (C ∷ ns) (record { up = up; name = C } ∷ cs)
+  takes : {C : Name} {ns : List Name} {cs : List Child} → S C → Picks S up ns cs
+      → Picks S up (C ∷ ns) (record { up = up; name = C } ∷ cs)
   skips : {C : Name} {ns : List Name} {cs : List Child} → (S C → ⊥) → Picks S up ns cs → Picks S up (C ∷ ns) cs
 
 -- behind what was there they stand, as far as there is room
@@ -29,10 +30,12 @@ pub record MemberOf (es : List Entry) (level : Level) (up : ℕ) (C : Name) : Ty
 -- the members of the first n paths
 pub data AllPicks (es : List Entry) (order : List Name) (level : Level) : ℕ → List Child → Type 0 where
   no_path : AllPicks es order level 0 []
-  one_path : {n : ℕ} {cs ds : List Child} → AllPicks es order level n cs → Picks (MemberOf es level n) n order ds → AllPicks es order level (n + 1) (cs ++ ds)
+  one_path : {n : ℕ} {cs ds : List Child} → AllPicks es order level n cs → Picks (MemberOf es level n) n order ds
+      → AllPicks es order level (n + 1) (cs ++ ds)
 
 -- of these as many as there is room for
-pub record ChildrenFront (es : List Entry) (order : List Name) (level : Level) (n room : ℕ) (children : List Child) : Type 0 where
+pub record ChildrenFront (es : List Entry) (order : List Name) (level : Level) (n room : ℕ) (children : List Child)
+    : Type 0 where
   pub whole : List Child
   pub all : AllPicks es order level n whole
   pub front : children ≡ take room whole

@@ -50,7 +50,8 @@ pub record AreChildren (p : Program) (level : Level) (children : List Child) : T
       → (P : Path) × (slice_get level.paths.items child.up ≡ Some P) × Member p P child.name
   pub complete : (i : ℕ) (P : Path) (C : Name) → slice_get level.paths.items i ≡ Some P → Member p P C
       → (k : ℕ) × (child : Child) × (slice_get children k ≡ Some child) × (child.up ≡ i) × (child.name ≡ C)
-  pub distinct : (k l : ℕ) (a b : Child) → slice_get children k ≡ Some a → slice_get children l ≡ Some b → a.up ≡ b.up → a.name ≡ b.name → k ≡ l
+  pub distinct : (k l : ℕ) (a b : Child) → slice_get children k ≡ Some a → slice_get children l ≡ Some b
+      → a.up ≡ b.up → a.name ≡ b.name → k ≡ l
 
 -- of whatever program the level is, the level below it is too
 abbrev pub IsNextOf : List Entry → Level → List Child → Level → Type 0

@@ -22,7 +22,8 @@ field_name f = f.name.name
 -- d stands in the namespace P, where the declarations ds stand in the namespace N
 pub data Under : List Decl → Path → Path → Decl → Type 0 where
   at_top : {ds : List Decl} {N : Path} {d : Decl} → Contains ds d → Under ds N N d
-  deeper : {ds : List Decl} {N P : Path} {e d : Decl} → Contains ds e → Under (nested e.members) (e.name.name ∷ N) P d → Under ds N P d
+  deeper : {ds : List Decl} {N P : Path} {e d : Decl} → Contains ds e
+      → Under (nested e.members) (e.name.name ∷ N) P d → Under ds N P d
 
 -- the names are those of the declaration d
 pub record NamesAre (names : Names) (d : Decl) : Type 0 where

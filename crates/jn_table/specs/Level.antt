@@ -19,24 +19,28 @@ pub data DirectBy (written : List Name) (direct : List ℕ) (heir super : Child)
   inherits_it : heir.name ≡ super.name → Contains direct super.up → DirectBy written direct heir super
 
 -- the path of that number is one
-pub record DirectByAt (written : List Name) (direct : List ℕ) (children : List Child) (heir : Child) (k : ℕ) : Type 0 where
+pub record DirectByAt (written : List Name) (direct : List ℕ) (children : List Child) (heir : Child)
+    (k : ℕ) : Type 0 where
   pub super : Child
   pub at : slice_get children k ≡ Some super
   pub by : DirectBy written direct heir super
 
 -- by the numbers of the direct supers and of the supers of the heir's namespace
 pub data DirectChild (es : List Entry) (paths : List Path) (direct sups : List ℕ) (heir super : Child) : Type 0 where
-  writes : heir.up ≡ super.up → Any (PartAt es paths heir.name part.Extends super.name) sups → DirectChild es paths direct sups heir super
+  writes : heir.up ≡ super.up → Any (PartAt es paths heir.name part.Extends super.name) sups
+      → DirectChild es paths direct sups heir super
   inherits : heir.name ≡ super.name → Contains direct super.up → DirectChild es paths direct sups heir super
 
 -- the path of that number is one
-pub record DirectChildAt (es : List Entry) (paths : List Path) (direct sups : List ℕ) (children : List Child) (heir : Child) (k : ℕ) : Type 0 where
+pub record DirectChildAt (es : List Entry) (paths : List Path) (direct sups : List ℕ) (children : List Child)
+    (heir : Child) (k : ℕ) : Type 0 where
   pub super : Child
   pub at : slice_get children k ≡ Some super
   pub by : DirectChild es paths direct sups heir super
 
 -- the numbers of the direct supers of a path of the next depth, in order
-pub record DirectRow (es : List Entry) (level : Level) (children : List Child) (heir : Child) (row : List ℕ) : Type 0 where
+pub record DirectRow (es : List Entry) (level : Level) (children : List Child) (heir : Child)
+    (row : List ℕ) : Type 0 where
   pub direct : Vec ℕ Global
   pub direct_at : slice_get level.direct.items heir.up ≡ Some direct
   pub sups : Vec ℕ Global

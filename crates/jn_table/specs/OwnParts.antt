@@ -10,7 +10,9 @@ use Rattle.jn_table.specs.Tables.{IsTableOf, StandsFor}
 
 -- the names are those of the methods that a declaration at the path of the number has
 abbrev pub SaysMethods : Table → ClassId → List Name → Type 0
-SaysMethods t id names = (p : Program) (R : Path) → IsTableOf p t → StandsFor t id R → (m : Name) → Contains names m ↔ MethodNamed p R m
+SaysMethods t id names =
+    (p : Program) (R : Path) → IsTableOf p t → StandsFor t id R → (m : Name) → Contains names m ↔ MethodNamed p R m
 
 abbrev pub SaysFields : Table → ClassId → List Name → Type 0
-SaysFields t id names = (p : Program) (R : Path) → IsTableOf p t → StandsFor t id R → (f : Name) → Contains names f ↔ FieldNamed p R f
+SaysFields t id names =
+    (p : Program) (R : Path) → IsTableOf p t → StandsFor t id R → (f : Name) → Contains names f ↔ FieldNamed p R f

@@ -59,11 +59,13 @@ SaysRow t id row = (p : Program) (R : Path) → IsTableOf p t → StandsFor t id
 
 -- whether B is in Sup(A), of the paths A and B of the numbers
 abbrev pub SaysSup : Table → ClassId → ClassId → Bool → Type 0
-SaysSup t a b told = (p : Program) (A B : Path) → IsTableOf p t → StandsFor t a A → StandsFor t b B → IsTrue told ↔ Sup p A B
+SaysSup t a b told =
+    (p : Program) (A B : Path) → IsTableOf p t → StandsFor t a A → StandsFor t b B → IsTrue told ↔ Sup p A B
 
 -- whether A comes before B in the class order
 abbrev pub SaysBefore : Table → ClassId → ClassId → Bool → Type 0
-SaysBefore t a b told = (p : Program) (A B : Path) → IsTableOf p t → StandsFor t a A → StandsFor t b B → IsTrue told ↔ Before p A B
+SaysBefore t a b told =
+    (p : Program) (A B : Path) → IsTableOf p t → StandsFor t a A → StandsFor t b B → IsTrue told ↔ Before p A B
 
 -- each number stands for the path for which it stood
 abbrev pub KeepsNumbers : Table → Table → Type 0

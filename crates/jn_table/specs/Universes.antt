@@ -48,7 +48,9 @@ pub record IsUniverseOf (p : Program) (es : List Entry) (u : Universe) : Type 0 
 
 -- a class where one of the flags says so
 abbrev pub KindBy : Own → List ℕ → Kind → Type 0
-KindBy own sups k = ((k ≡ kind.Class) × Any (IsFlagAt own.classes.items) sups) ⊎ ((k ≡ kind.Package) × (Any (IsFlagAt own.classes.items) sups → ⊥))
+KindBy own sups k =
+    ((k ≡ kind.Class) × Any (IsFlagAt own.classes.items) sups) ⊎
+    ((k ≡ kind.Package) × (Any (IsFlagAt own.classes.items) sups → ⊥))
 
 -- the number of R without its last name, where this is one of the paths
 abbrev pub UpBy : List Path → Path → Option ClassId → Type 0
@@ -60,9 +62,12 @@ class_id n = record { 0 = n }
 
 -- the members of R among the first n paths, in the order of their numbers
 pub record MembersUpTo (paths : List Path) (R : Path) (n : ℕ) (members : List RowMember) : Type 0 where
-  pub sound : (j : ℕ) (m : RowMember) → slice_get members j ≡ Some m → (m.id.0 < n) × (slice_get paths m.id.0 ≡ Some (m.name ∷ R))
-  pub complete : (k : ℕ) (C : Name) → k < n → slice_get paths k ≡ Some (C ∷ R) → (j : ℕ) × (m : RowMember) × (slice_get members j ≡ Some m) × (m.id.0 ≡ k)
-  pub ascending : (i j : ℕ) (a b : RowMember) → i < j → slice_get members i ≡ Some a → slice_get members j ≡ Some b → a.id.0 < b.id.0
+  pub sound : (j : ℕ) (m : RowMember) → slice_get members j ≡ Some m
+      → (m.id.0 < n) × (slice_get paths m.id.0 ≡ Some (m.name ∷ R))
+  pub complete : (k : ℕ) (C : Name) → k < n → slice_get paths k ≡ Some (C ∷ R)
+      → (j : ℕ) × (m : RowMember) × (slice_get members j ≡ Some m) × (m.id.0 ≡ k)
+  pub ascending : (i j : ℕ) (a b : RowMember) → i < j
+      → slice_get members i ≡ Some a → slice_get members j ≡ Some b → a.id.0 < b.id.0
 
 -- the names of which T holds, each once, in order
 pub record OrderedBy (texts : List Text) (T : Name → Type 0) (order : List Name) : Type 0 where
@@ -71,9 +76,12 @@ pub record OrderedBy (texts : List Text) (T : Name → Type 0) (order : List Nam
 
 -- the numbers in the row of that number
 pub record NumbersOf (u : Universe) (number : ℕ) (numbers : Numbers) : Type 0 where
-  pub direct : (below : Vec ℕ Global) → slice_get u.nodes.direct.items number ≡ Some below → numbers.direct.items ≡ map class_id below.items
-  pub sups : (above : Vec ℕ Global) → slice_get u.sups.items number ≡ Some above → numbers.sups.items ≡ map class_id above.items
-  pub members : (R : Path) → slice_get u.nodes.paths.items number ≡ Some R → MembersUpTo u.nodes.paths.items R (length u.nodes.paths.items) numbers.members.items
+  pub direct : (below : Vec ℕ Global) → slice_get u.nodes.direct.items number ≡ Some below
+      → numbers.direct.items ≡ map class_id below.items
+  pub sups : (above : Vec ℕ Global) → slice_get u.sups.items number ≡ Some above
+      → numbers.sups.items ≡ map class_id above.items
+  pub members : (R : Path) → slice_get u.nodes.paths.items number ≡ Some R
+      → MembersUpTo u.nodes.paths.items R (length u.nodes.paths.items) numbers.members.items
 
 -- the row of that number
 pub record RowOf (texts : List Text) (u : Universe) (number : ℕ) (row : Row) : Type 0 where

@@ -40,7 +40,8 @@ pub fn children(
 ) -> Result<Vec<Child>, AllocError>
     requires shaped { IsShaped level.now }
     requires inside { AreInside entries.now level.now.paths.items inside.now }
-    ensures { IfOk result (λ all. ChildrenFront entries.now order.now level.now (length level.now.paths.items) room all.items) }
+    ensures { IfOk result (λ all.
+        ChildrenFront entries.now order.now level.now (length level.now.paths.items) room all.items) }
 {
     let mut all = Vec::new(alloc);
     for up in 0..level.paths.len() {

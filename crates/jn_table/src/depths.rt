@@ -55,7 +55,8 @@ fn depth_below(
     Ok(Below::Next(below))
 }
 
-/// The paths of a universe, depth by depth: each depth has the members of the one above it, up to the last that has any.
+/// The paths of a universe, depth by depth: each depth has the members of the one above it, up to the last
+/// that has any.
 pub fn depths(alloc: Global, entries: &[Entry], order: &[Name]) -> Result<Found, AllocError>
     ensures exact { IfOk result (λ found. Answers entries.now order.now found) }
     ensures fits { IfOk result (λ found. Fits found) }

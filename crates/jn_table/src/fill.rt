@@ -69,7 +69,8 @@ fn universe_in(alloc: Global, entries: &[Entry], order: &[Name]) -> Result<Unive
 fn rows_in(alloc: Global, texts: &[Text], universe: &Universe) -> Result<Rows, AllocError>
     requires { FitUniverse universe.now }
     ensures known { IfOk result (λ all. all.known.items ≡ map shown universe.now.nodes.paths.items) }
-    ensures rows { IfOk result (λ all. RowsOf texts.now universe.now (length universe.now.nodes.paths.items) all.rows.items) }
+    ensures rows { IfOk result (λ all.
+        RowsOf texts.now universe.now (length universe.now.nodes.paths.items) all.rows.items) }
 {
     let known = known_of(alloc, &universe.nodes.paths)?;
     let rows = rows_of(alloc, texts, universe)?;

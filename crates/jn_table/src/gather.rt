@@ -98,7 +98,8 @@ pub fn parts(
 ) -> Result<Vec<Name>, AllocError>
     requires inside { All (λ row. All (λ i. i < length entries.now) row.items) inside.now }
     requires numbers { All (λ n. n < length inside.now) numbers.now }
-    ensures { IfOk result (λ all. (D : AName) → Contains all.items D ↔ Any (PartIn entries.now name part inside.now D) numbers.now) }
+    ensures { IfOk result (λ all. (D : AName) →
+        Contains all.items D ↔ Any (PartIn entries.now name part inside.now D) numbers.now) }
 {
     let mut all = Vec::new(alloc);
     for at in numbers {
@@ -130,7 +131,8 @@ pub fn declared(
 ) -> Result<Vec<Name>, AllocError>
     requires inside { All (λ row. All (λ i. i < length entries.now) row.items) inside.now }
     requires numbers { All (λ n. n < length inside.now) numbers.now }
-    ensures { IfOk result (λ all. (D : AName) → Contains all.items D ↔ Any (NamedIn entries.now inside.now D) numbers.now) }
+    ensures { IfOk result (λ all. (D : AName) →
+        Contains all.items D ↔ Any (NamedIn entries.now inside.now D) numbers.now) }
 {
     let mut all = Vec::new(alloc);
     for at in numbers {

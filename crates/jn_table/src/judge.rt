@@ -7,7 +7,8 @@ use crate::universe::{Universe, first_mixed};
 use jn_reach::first_on_cycle;
 use std::alloc::Global;
 
-/// Whether no path of the universe is its own strict super, and none has supers of both kinds; else the first that does.
+/// Whether no path of the universe is its own strict super, and none has supers of both kinds; else the first
+/// that does.
 pub fn judged(alloc: Global, universe: &Universe) -> Result<(), TableFault>
     requires fits { FitUniverse universe.now }
     requires closure { IsClosure universe.now.nodes.direct.items universe.now.sups.items }

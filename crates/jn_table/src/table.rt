@@ -36,8 +36,8 @@ impl Table {
 
     /// The table of a program, which knows no path yet. It holds the program's declarations.
     ///
-    /// `IsNamed` says that equal names of the program have one number and that it has each name of a declaration, as each
-    /// program has that a source spells.
+    /// `IsNamed` says that equal names of the program have one number and that it has each name of a
+    /// declaration, as each program has that a source spells.
     pub fn new(alloc: Global, p: &Program) -> Result<Table, AllocError>
         ensures table { IfOk result (λ table. IsNamed p.now → IsTableOf p.now table) }
         ensures unknown { IfOk result (λ table. numbered table ≡ []) }
@@ -57,9 +57,10 @@ impl Table {
 
     /// Fills the rows of the whole universe.
     ///
-    /// It is refused exactly where the universe has more than 4,096 paths, with the 4,097th in class order; then where a path is its own
-    /// strict super, and then where the supers of a path have both kinds, each with the first such path in class order.
-    /// After a refusal the table has what it had. A number stands for one path for good.
+    /// It is refused exactly where the universe has more than 4,096 paths, with the 4,097th in class order;
+    /// then where a path is its own strict super, and then where the supers of a path have both kinds, each
+    /// with the first such path in class order. After a refusal the table has what it had. A number stands
+    /// for one path for good.
     pub fn ask_all(&mut self) -> Result<(), TableFault>
         ensures stays { StaysTable self.old self.new }
         ensures numbers { KeepsNumbers self.old self.new }

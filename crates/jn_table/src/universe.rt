@@ -45,7 +45,8 @@ pub fn first_mixed(universe: &Universe) -> Option<usize>
     requires { FitUniverse universe.now }
     ensures within { IfSome result (λ number. number < length universe.now.nodes.paths.items) }
     ensures some { IfSome result (λ number. MixedAt universe.now.own universe.now.sups.items number) }
-    ensures first { IfSome result (λ number. (k : ℕ) → k < number → MixedAt universe.now.own universe.now.sups.items k → ⊥) }
+    ensures first { IfSome result (λ number. (k : ℕ) → k < number →
+        MixedAt universe.now.own universe.now.sups.items k → ⊥) }
     ensures none { IfNone result ((k : ℕ) → MixedAt universe.now.own universe.now.sups.items k → ⊥) }
 {
     for (number, row) in universe.sups.iter().enumerate() {

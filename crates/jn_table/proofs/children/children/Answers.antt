@@ -11,7 +11,8 @@ pub loop-up-init : goal.loop-up-init
 loop-up-init c = front_none _ _ _ _ _ c.new-all.ensures.items
 
 pub declared-requires-clause-inside : goal.declared-requires-clause-inside
-declared-requires-clause-inside c = insides_within c.args.entries.now c.args.level.now.paths.items c.args.inside.now c.requires.inside
+declared-requires-clause-inside c =
+    insides_within c.args.entries.now c.args.level.now.paths.items c.args.inside.now c.requires.inside
 
 pub declared-requires-clause-numbers : goal.declared-requires-clause-numbers
 declared-requires-clause-numbers c =
@@ -20,7 +21,8 @@ declared-requires-clause-numbers c =
     rw c.deref.ensures.value
     (subst (λ (k : ℕ). All (λ (j : ℕ). j < k) c.index.result.now.items)
     (sym (insides_long c.args.entries.now c.args.level.now.paths.items c.args.inside.now c.requires.inside))
-    (All_here (λ (row : Vec ℕ Global). All (λ (j : ℕ). j < length c.args.level.now.paths.items) row.items) c.args.level.now.sups.items c.loop-up.up
+    (All_here (λ (row : Vec ℕ Global). All
+    (λ (j : ℕ). j < length c.args.level.now.paths.items) row.items) c.args.level.now.sups.items c.loop-up.up
     c.index.result.now l c.index.ensures c.requires.shaped.sups_in))
 
 pub loop-up-preserved : goal.loop-up-preserved

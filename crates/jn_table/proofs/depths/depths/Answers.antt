@@ -7,7 +7,8 @@ loop-level-init c = stage_root _ _ _ _ c.new.ensures.items c.new-2.ensures.items
 
 pub returns-in-Nothing-clause-exact : goal.returns-in-Nothing-clause-exact
 returns-in-Nothing-clause-exact c =
-    stage_last c.args.entries.now c.args.order.now _ _ c.loop-level.room _ c.loop-level.invariant (rw c.in-Nothing.is at c.in_ok-depth_below.ensures)
+    stage_last c.args.entries.now c.args.order.now _ _ c.loop-level.room _ c.loop-level.invariant
+    (rw c.in-Nothing.is at c.in_ok-depth_below.ensures)
     (omega (arith, c.loop-level.invariant.some)) refl
 
 pub returns-in-Over-clause-exact : goal.returns-in-Over-clause-exact
@@ -34,4 +35,5 @@ pub loop-level-preserved : goal.loop-level-preserved
 loop-level-preserved c =
     let n = rw c.in-Next.is at c.in_ok-depth_below.ensures in
     stage_next c.args.entries.now c.args.order.now _ _ _ c.in-Next.below c.loop-level.room n.children c.loop-level.invariant n.front n.few n.shaped n.paths n.exact
-    c.in_ok-add_level-in-Next.ensures _ (omega (arith, c.len-room.ensures, below_long _ _ _ n.paths, n.few, c.in-Next.below.paths.ok.0))
+    c.in_ok-add_level-in-Next.ensures _
+    (omega (arith, c.len-room.ensures, below_long _ _ _ n.paths, n.few, c.in-Next.below.paths.ok.0))

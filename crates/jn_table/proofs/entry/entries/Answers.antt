@@ -8,7 +8,9 @@ loop-decl-init c = rw c.new-all.ensures.items (adds_none [] [])
 
 pub loop-decl-preserved : goal.loop-decl-preserved
 loop-decl-preserved c =
-    adds_more _ _ _ _ _ _ _ c.loop-decl-test.true c.decl-item.is c.loop-decl.invariant (rw c.root-root.ensures at c.in_ok-flatten.ensures.adds)
+    adds_more _ _ _ _ _ _ _ c.loop-decl-test.true c.decl-item.is c.loop-decl.invariant
+    (rw c.root-root.ensures at c.in_ok-flatten.ensures.adds)
 
 pub returns : goal.returns
-returns c = adds_flat _ _ _ _ (take_whole _ _ c.loop-decl-test.false ∙ c.as_slice-decl-items.ensures) c.loop-decl.invariant
+returns c =
+    adds_flat _ _ _ _ (take_whole _ _ c.loop-decl-test.false ∙ c.as_slice-decl-items.ensures) c.loop-decl.invariant

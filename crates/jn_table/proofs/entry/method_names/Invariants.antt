@@ -4,4 +4,5 @@ use Rattle.jn_table.specs.Flat.{method_name}
 use Rattle.jn_table.proofs.entry.method_names.Given as goal
 
 abbrev pub invariant-loop-member : goal.invariant-loop-member
-invariant-loop-member l = l.all ++ map method_name (methods (drop l.member-index l.members)) ≡ map method_name (methods l.members)
+invariant-loop-member l =
+    l.all ++ map method_name (methods (drop l.member-index l.members)) ≡ map method_name (methods l.members)

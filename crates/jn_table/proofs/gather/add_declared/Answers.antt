@@ -10,12 +10,14 @@ pub loop-number-preserved : goal.loop-number-preserved
 loop-number-preserved c = elim c.if-not-has_name.branch [
   | then-not-has_name+in_ok-push w ↦
       rw (w.all-is, w.in_ok-push.ensures.items)
-      (declared_more _ _ _ _ c.index-entries-number.result _ _ c.loop-number-test.true (c.requires _ _ c.loop-number-test.true) c.index-entries-number.is
+      (declared_more _ _ _ _ c.index-entries-number.result _ _ c.loop-number-test.true
+      (c.requires _ _ c.loop-number-test.true) c.index-entries-number.is
       c.loop-number.invariant)
   | else-not-has_name w ↦
       let there : c.has_name.result ≡ true = grind (arith, w.if-not-has_name.false) in
       rw w.all-is
-      (declared_there _ _ _ _ c.index-entries-number.result _ _ c.loop-number-test.true (c.requires _ _ c.loop-number-test.true) c.index-entries-number.is
+      (declared_there _ _ _ _ c.index-entries-number.result _ _ c.loop-number-test.true
+      (c.requires _ _ c.loop-number-test.true) c.index-entries-number.is
       (rw c.deref.ensures.value at (c.has_name.ensures.among.0 there)) c.loop-number.invariant)
 ]
 

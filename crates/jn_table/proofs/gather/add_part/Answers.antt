@@ -10,11 +10,14 @@ pub loop-number-preserved : goal.loop-number-preserved
 loop-number-preserved c = elim c.if-is_name.branch [
   | then-is_name+in_ok-add_names w ↦
       rw w.all-is
-      (part_more _ _ _ _ _ _ c.index-entries-number.result _ _ _ c.loop-number-test.true (c.requires _ _ c.loop-number-test.true) c.index-entries-number.is
-      (c.is_name.ensures.0 w.if-is_name.true) c.loop-number.invariant (rw w.names_of.ensures at w.in_ok-add_names.ensures))
+      (part_more _ _ _ _ _ _ c.index-entries-number.result _ _ _ c.loop-number-test.true
+      (c.requires _ _ c.loop-number-test.true) c.index-entries-number.is
+      (c.is_name.ensures.0 w.if-is_name.true) c.loop-number.invariant
+      (rw w.names_of.ensures at w.in_ok-add_names.ensures))
   | else-is_name w ↦
       rw w.all-is
-      (part_skipped _ _ _ _ _ _ c.index-entries-number.result _ _ c.loop-number-test.true (c.requires _ _ c.loop-number-test.true) c.index-entries-number.is
+      (part_skipped _ _ _ _ _ _ c.index-entries-number.result _ _ c.loop-number-test.true
+      (c.requires _ _ c.loop-number-test.true) c.index-entries-number.is
       (not_when w.if-is_name.false c.is_name.ensures) c.loop-number.invariant)
 ]
 

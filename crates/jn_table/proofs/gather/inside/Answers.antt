@@ -12,11 +12,14 @@ pub loop-number-preserved : goal.loop-number-preserved
 loop-number-preserved c = elim c.if-is.branch [
   | then-is+in_ok-push w ↦
       rw (w.row-is, w.in_ok-push.ensures.items)
-      (Listing-push _ _ _ (inside_at _ _ _ _ c.loop-number-test.true c.index-entries-number.is (c.is.ensures.0 w.if-is.true)) c.loop-number.invariant)
+      (Listing-push _ _ _ (inside_at _ _ _ _ c.loop-number-test.true c.index-entries-number.is
+      (c.is.ensures.0 w.if-is.true)) c.loop-number.invariant)
   | else-is w ↦
       rw w.row-is
-      (Listing-skip _ _ _ (not_inside _ _ _ _ c.loop-number-test.true c.index-entries-number.is (not_when w.if-is.false c.is.ensures)) c.loop-number.invariant)
+      (Listing-skip _ _ _ (not_inside _ _ _ _ c.loop-number-test.true c.index-entries-number.is
+      (not_when w.if-is.false c.is.ensures)) c.loop-number.invariant)
 ]
 
 pub returns : goal.returns
-returns c = Listing-done _ _ _ (λ b f. omega (arith, inside_within _ _ b f, c.loop-number-test.false)) c.loop-number.invariant
+returns c =
+    Listing-done _ _ _ (λ b f. omega (arith, inside_within _ _ b f, c.loop-number-test.false)) c.loop-number.invariant

@@ -9,7 +9,8 @@ use Rattle.jn_table.proofs.Orders.{each_all}
 use Rattle.jn_table.proofs.gather.insides.Goals as goal
 
 pub loop-path-init : goal.loop-path-init
-loop-path-init c = Each-none (λ (P : Path) (row : Vec ℕ Global). Lists (StandsInside c.args.entries.now P) row.items) _ c.new-rows.ensures.items
+loop-path-init c = Each-none (λ (P : Path) (row : Vec ℕ Global). Lists
+    (StandsInside c.args.entries.now P) row.items) _ c.new-rows.ensures.items
 
 pub loop-path-preserved : goal.loop-path-preserved
 loop-path-preserved c =
@@ -18,4 +19,5 @@ loop-path-preserved c =
     c.loop-path-test.true c.path-item.is c.loop-path.invariant c.in_ok-row.ensures)
 
 pub returns : goal.returns
-returns c = each_all (λ (P : Path) (row : Vec ℕ Global). Lists (StandsInside c.args.entries.now P) row.items) _ _ _ c.loop-path-test.false c.loop-path.invariant
+returns c = each_all (λ (P : Path) (row : Vec ℕ Global). Lists
+    (StandsInside c.args.entries.now P) row.items) _ _ _ c.loop-path-test.false c.loop-path.invariant

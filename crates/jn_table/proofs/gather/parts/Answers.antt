@@ -7,7 +7,8 @@ loop-at-init c = parts_none _ _ _ _ _ c.new-all.ensures.items
 
 pub loop-at-preserved : goal.loop-at-preserved
 loop-at-preserved c =
-    parts_more _ _ _ _ _ _ _ c.index-inside-at.result [] _ _ c.loop-at-test.true (c.requires.numbers _ _ c.loop-at-test.true) c.index-inside-at.is
+    parts_more _ _ _ _ _ _ _ c.index-inside-at.result [] _ _ c.loop-at-test.true
+    (c.requires.numbers _ _ c.loop-at-test.true) c.index-inside-at.is
     c.loop-at.invariant (rw c.deref.ensures.value at c.in_ok-add_part.ensures)
 
 pub returns : goal.returns

@@ -11,7 +11,8 @@ loop-child-init c = Each-none (ChildPath c.args.level.now.paths.items) _ c.new-p
 pub loop-child-preserved : goal.loop-child-preserved
 loop-child-preserved c =
     rw c.in_ok-push.ensures.items
-    (Each-more (ChildPath c.args.level.now.paths.items) _ _ _ _ _ c.loop-child-test.true (same_item _ _ _ c.loop-child-test.true) c.loop-child.invariant
+    (Each-more (ChildPath c.args.level.now.paths.items) _ _ _ _ _ c.loop-child-test.true
+    (same_item _ _ _ c.loop-child-test.true) c.loop-child.invariant
     (record {
       up = c.index.result.now;
       up_at = slice_get_read _ _ _ c.index.result.now refl (c.requires _ _ c.loop-child-test.true) c.index.ensures;

@@ -8,25 +8,31 @@ use Rattle.jn_table.proofs.LevelRows.{row_from_tests}
 use Rattle.jn_table.proofs.level.direct_row.Goals as goal
 
 pub parts-requires-clause-inside : goal.parts-requires-clause-inside
-parts-requires-clause-inside c = insides_within c.args.entries.now c.args.level.now.paths.items c.args.inside.now c.requires.inside
+parts-requires-clause-inside c =
+    insides_within c.args.entries.now c.args.level.now.paths.items c.args.inside.now c.requires.inside
 
 pub parts-requires-clause-numbers : goal.parts-requires-clause-numbers
 parts-requires-clause-numbers c =
-    let ls : c.args.heir.now.up < length c.args.level.now.sups.items = omega (arith, c.requires.heir, c.requires.shaped.sups) in
+    let ls : c.args.heir.now.up < length c.args.level.now.sups.items = omega
+        (arith, c.requires.heir, c.requires.shaped.sups) in
     rw c.deref.ensures.value
     (subst (λ (k : ℕ). All (λ (j : ℕ). j < k) c.index-sups.result.now.items)
     (sym (insides_long c.args.entries.now c.args.level.now.paths.items c.args.inside.now c.requires.inside))
-    (All_here (λ (row : Vec ℕ Global). All (λ (j : ℕ). j < length c.args.level.now.paths.items) row.items) c.args.level.now.sups.items c.args.heir.now.up
+    (All_here (λ (row : Vec ℕ Global). All
+    (λ (j : ℕ). j < length c.args.level.now.paths.items) row.items) c.args.level.now.sups.items c.args.heir.now.up
     c.index-sups.result.now ls c.index-sups.ensures c.requires.shaped.sups_in))
 
 pub returns : goal.returns
 returns c = record {
   row =
-      let ld : c.args.heir.now.up < length c.args.level.now.direct.items = omega (arith, c.requires.heir, c.requires.shaped.direct) in
-      let ls : c.args.heir.now.up < length c.args.level.now.sups.items = omega (arith, c.requires.heir, c.requires.shaped.sups) in
+      let ld : c.args.heir.now.up < length c.args.level.now.direct.items = omega
+          (arith, c.requires.heir, c.requires.shaped.direct) in
+      let ls : c.args.heir.now.up < length c.args.level.now.sups.items = omega
+          (arith, c.requires.heir, c.requires.shaped.sups) in
       row_from_tests _ _ _ _ c.index.result.now c.index-sups.result.now c.in_ok-written.written.items _
       (slice_get_read _ _ _ c.index.result.now refl ld c.index.ensures)
       (slice_get_read _ _ _ c.index-sups.result.now refl ls c.index-sups.ensures)
-      (by_parts c.args.entries.now c.args.level.now.paths.items c.args.inside.now c.requires.inside _ _ _ _ (rw c.deref.ensures.value at c.in_ok-written.ensures))
+      (by_parts c.args.entries.now c.args.level.now.paths.items c.args.inside.now c.requires.inside _ _ _ _
+      (rw c.deref.ensures.value at c.in_ok-written.ensures))
       (rw (c.deref-2.ensures.value, c.deref-3.ensures.value) at c.in_ok-row.ensures);
 }

@@ -13,10 +13,12 @@ pub loop-number-preserved : goal.loop-number-preserved
 loop-number-preserved c = elim c.if-is_direct.branch [
   | then-is_direct+in_ok-push w ↦
       rw (w.row-is, w.in_ok-push.ensures.items)
-      (Listing-push _ _ _ (by_at _ _ _ _ _ _ c.loop-number-test.true (same_item _ _ _ c.loop-number-test.true) (c.is_direct.ensures.0 w.if-is_direct.true)) c.loop-number.invariant)
+      (Listing-push _ _ _ (by_at _ _ _ _ _ _ c.loop-number-test.true (same_item _ _ _ c.loop-number-test.true)
+      (c.is_direct.ensures.0 w.if-is_direct.true)) c.loop-number.invariant)
   | else-is_direct w ↦
       rw w.row-is
-      (Listing-skip _ _ _ (not_by_at _ _ _ _ _ _ c.loop-number-test.true (same_item _ _ _ c.loop-number-test.true) (not_when w.if-is_direct.false c.is_direct.ensures)) c.loop-number.invariant)
+      (Listing-skip _ _ _ (not_by_at _ _ _ _ _ _ c.loop-number-test.true (same_item _ _ _ c.loop-number-test.true)
+      (not_when w.if-is_direct.false c.is_direct.ensures)) c.loop-number.invariant)
 ]
 
 pub returns : goal.returns

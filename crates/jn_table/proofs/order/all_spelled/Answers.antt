@@ -7,7 +7,8 @@ use Rattle.jn_table.proofs.Places.{same_item}
 use Rattle.jn_table.proofs.order.all_spelled.Goals as goal
 
 pub loop-name-init : goal.loop-name-init
-loop-name-init c = Each-none (λ (name : Name) (s : Spelled). SpelledOf c.args.texts.now name s) _ c.new-all.ensures.items
+loop-name-init c =
+    Each-none (λ (name : Name) (s : Spelled). SpelledOf c.args.texts.now name s) _ c.new-all.ensures.items
 
 pub loop-name-preserved : goal.loop-name-preserved
 loop-name-preserved c =
@@ -16,4 +17,5 @@ loop-name-preserved c =
     c.loop-name-test.true (same_item _ _ _ c.loop-name-test.true) c.loop-name.invariant c.in_ok-one.ensures)
 
 pub returns : goal.returns
-returns c = each_all (λ (name : Name) (s : Spelled). SpelledOf c.args.texts.now name s) _ _ _ c.loop-name-test.false c.loop-name.invariant
+returns c = each_all (λ (name : Name)
+    (s : Spelled). SpelledOf c.args.texts.now name s) _ _ _ c.loop-name-test.false c.loop-name.invariant

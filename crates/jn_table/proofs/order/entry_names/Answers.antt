@@ -9,4 +9,5 @@ loop-entry-preserved c =
     c.loop-entry.invariant refl c.in_ok-push.ensures.items
 
 pub returns : goal.returns
-returns c = mapped_all entry_name c.args.entries.now c.loop-entry.entry-index _ c.loop-entry-test.false c.loop-entry.invariant
+returns c =
+    mapped_all entry_name c.args.entries.now c.loop-entry.entry-index _ c.loop-entry-test.false c.loop-entry.invariant

@@ -10,11 +10,13 @@ pub loop-entry-preserved : goal.loop-entry-preserved
 loop-entry-preserved c = elim c.if-is.branch [
   | then-is+in_ok-add_names w ↦
       rw w.all-is
-      (own_more _ _ _ _ _ _ _ c.loop-entry-test.true c.entry-item.is (c.is.ensures.0 w.if-is.true) c.loop-entry.invariant
+      (own_more _ _ _ _ _ _ _ c.loop-entry-test.true c.entry-item.is
+      (c.is.ensures.0 w.if-is.true) c.loop-entry.invariant
       (rw w.names_of.ensures at w.in_ok-add_names.ensures))
   | else-is w ↦
       rw w.all-is
-      (own_skipped _ _ _ _ _ _ c.loop-entry-test.true c.entry-item.is (not_when w.if-is.false c.is.ensures) c.loop-entry.invariant)
+      (own_skipped _ _ _ _ _ _ c.loop-entry-test.true c.entry-item.is
+      (not_when w.if-is.false c.is.ensures) c.loop-entry.invariant)
 ]
 
 pub returns : goal.returns

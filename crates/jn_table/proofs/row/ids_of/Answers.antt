@@ -6,4 +6,5 @@ pub loop-number-preserved : goal.loop-number-preserved
 loop-number-preserved c = mapped_at class_id c.args.row.now c.loop-number.number-index 0 _ _ c.loop-number-test.true c.loop-number.invariant c.in_ok-push.ensures.items
 
 pub returns : goal.returns
-returns c = mapped_all class_id c.args.row.now c.loop-number.number-index _ c.loop-number-test.false c.loop-number.invariant
+returns c =
+    mapped_all class_id c.args.row.now c.loop-number.number-index _ c.loop-number-test.false c.loop-number.invariant

@@ -12,7 +12,8 @@ loop-number-preserved c = elim c.match-under.branch [
   | in-Some+in_ok-push w ↦
       rw (w.all-is, w.in_ok-push.ensures.items)
       (members_push _ _ _ w.in-Some.name _ _
-      (at_is c.args.paths.now c.loop-number.number _ _ (slice_get_read _ _ _ c.index-paths-number.result refl c.loop-number-test.true c.index-paths-number.is) w.in-Some.ensures.some)
+      (at_is c.args.paths.now c.loop-number.number _ _
+      (slice_get_read _ _ _ c.index-paths-number.result refl c.loop-number-test.true c.index-paths-number.is) w.in-Some.ensures.some)
       refl refl c.loop-number.invariant)
   | in_default w ↦
       rw w.all-is
@@ -21,4 +22,5 @@ loop-number-preserved c = elim c.match-under.branch [
 ]
 
 pub returns : goal.returns
-returns c = members_all _ _ _ _ (omega (arith, c.loop-number-test.false, c.loop-number.auto.number-end)) c.loop-number.invariant
+returns c = members_all _ _ _ _
+    (omega (arith, c.loop-number-test.false, c.loop-number.auto.number-end)) c.loop-number.invariant

@@ -11,12 +11,16 @@ returns c =
     let paths : List Path = c.args.universe.now.nodes.paths.items in
     let n : c.args.number < length paths = c.requires.number in
     let s : c.args.number < length c.args.universe.now.sups.items = omega (arith, n, c.requires.fits.sups_long) in
-    let d : c.args.number < length c.args.universe.now.nodes.direct.items = omega (arith, n, c.requires.fits.nodes.long) in
+    let d : c.args.number < length c.args.universe.now.nodes.direct.items = omega
+        (arith, n, c.requires.fits.nodes.long) in
     record {
       direct = λ below at. subst (λ (v : Vec ℕ Global). c.in_ok-direct.direct.items ≡ map class_id v.items)
-          (same_Some _ _ (sym (slice_get_read _ _ _ c.index.result.now refl d c.index.ensures) ∙ at)) (rw c.deref.ensures.value at c.in_ok-direct.ensures);
+          (same_Some _ _ (sym (slice_get_read _ _ _ c.index.result.now refl d c.index.ensures) ∙ at))
+          (rw c.deref.ensures.value at c.in_ok-direct.ensures);
       sups = λ above at. subst (λ (v : Vec ℕ Global). c.in_ok-sups.sups.items ≡ map class_id v.items)
-          (same_Some _ _ (sym (slice_get_read _ _ _ c.index-2.result.now refl s c.index-2.ensures) ∙ at)) (rw c.deref-2.ensures.value at c.in_ok-sups.ensures);
+          (same_Some _ _ (sym (slice_get_read _ _ _ c.index-2.result.now refl s c.index-2.ensures) ∙ at))
+          (rw c.deref-2.ensures.value at c.in_ok-sups.ensures);
       members = λ R at. subst (λ (P : Path). MembersUpTo paths P (length paths) c.in_ok-members.members.items)
-          (same_Some _ _ (sym (slice_get_read _ _ _ c.index-3.result.now refl n c.index-3.ensures) ∙ at)) (rw c.deref-3.ensures.value at c.in_ok-members.ensures);
+          (same_Some _ _ (sym (slice_get_read _ _ _ c.index-3.result.now refl n c.index-3.ensures) ∙ at))
+          (rw c.deref-3.ensures.value at c.in_ok-members.ensures);
     }

@@ -6,7 +6,8 @@ pub loop-number-init : goal.loop-number-init
 loop-number-init c = rows_none _ _ _ c.new-rows.ensures.items
 
 pub loop-number-preserved : goal.loop-number-preserved
-loop-number-preserved c = rw c.in_ok-push.ensures.items (rows_more _ _ _ _ _ c.loop-number.invariant c.in_ok-row.ensures)
+loop-number-preserved c =
+    rw c.in_ok-push.ensures.items (rows_more _ _ _ _ _ c.loop-number.invariant c.in_ok-row.ensures)
 
 pub returns : goal.returns
 returns c =

@@ -5,7 +5,9 @@ use Rattle.jn_bounds.proofs.Known.{none_known, field_known}
 use Rattle.jn_bounds.proofs.bound.Bound.has_field.Goals as goal
 
 pub returns-in-None : goal.returns-in-None
-returns-in-None c = λ p f. iff_false (λ h. none_known p c.args.t.now c.args.self.now f c.in-None.ensures.none (field_known p c.args.self.now c.args.name h))
+returns-in-None c = λ p f. iff_false
+    (λ h. none_known p c.args.t.now c.args.self.now f c.in-None.ensures.none
+    (field_known p c.args.self.now c.args.name h))
 
 pub returns-in-Some : goal.returns-in-Some
 returns-in-Some c = λ p f.

@@ -5,7 +5,9 @@ use Rattle.jn_bounds.proofs.Known.{none_known, kind_known}
 use Rattle.jn_bounds.proofs.bound.Bound.is_class.Goals as goal
 
 pub returns-in-None : goal.returns-in-None
-returns-in-None c = λ p f. iff_false (λ h. none_known p c.args.t.now c.args.self.now f c.in-None.ensures.none (kind_known p c.args.self.now kind.Class h))
+returns-in-None c = λ p f. iff_false
+    (λ h. none_known p c.args.t.now c.args.self.now f c.in-None.ensures.none
+    (kind_known p c.args.self.now kind.Class h))
 
 pub returns-in-Some : goal.returns-in-Some
 returns-in-Some c = λ p f.

@@ -26,7 +26,9 @@ returns c = λ p f.
           let adds : AddsPaths t row.sups.items [] c.match-number.all.items =
           λ ps each.
           ap (λ (v : Vec Bound Global). v.items) w.all-is
-          ∙ (w.in_ok-add_paths-in-Some.ensures ps (subst (λ (ids : List ClassId). Numbered (numbered t) ps ids) (sym w.deref.ensures.value) each)
+          ∙ (w.in_ok-add_paths-in-Some.ensures ps
+          (subst (λ (ids : List ClassId). Numbered (numbered t) ps ids) (sym w.deref.ensures.value) each)
           ∙ ap (λ (before : List Path). before ++ ps) c.new-all.ensures.items) in
-          supers_numbered p t R row.sups.items c.match-number.all.items (w.row.ensures p R f.table w.in-Some.ensures.some).sups adds
+          supers_numbered p t R row.sups.items c.match-number.all.items
+          (w.row.ensures p R f.table w.in-Some.ensures.some).sups adds
     ]
