@@ -36,7 +36,7 @@ pub add_one : (known : List ShownPath) (ids : List ClassId) (paths before now af
 add_one known ids paths before now after i id q is each at so_far put =
     let e = path_at known ids paths i id is each in
     let one : reverse q.names ≡ e.0 = ap (λ (x : ShownPath). reverse x.names)
-        (same_some (slice_get known id.0) q (shown e.0) at e.2) ∙ reverse-reverse e.0 in
+    (same_some (slice_get known id.0) q (shown e.0) at e.2) ∙ reverse-reverse e.0 in
     let within : i < length paths = slice_get_within paths i e.0 e.1 in
     let taken : take (i + 1) paths ≡ take i paths ++ e.0 ∷ [] =
     take_more paths i e.0 within ∙ ap (λ (z : Path). take i paths ++ z ∷ [])
@@ -74,8 +74,11 @@ only_one R S (suc k, l, e) = absurd (omega (arith, l))
 
 pub supers_none : (p : Program) (t : Table) (R : Path) → IsFilled p t → HasNone t R → ArePaths p (Sup p R) (R ∷ [])
 unfolding IsStrictlySortedBy
-supers_none p t R f n = record { exact = λ S.
-    (λ c. itself_below p R S (only_one R S c), λ s. by_super S (sup_known s)); in_order = (tt, tt) } where
+supers_none p t R f n = record {
+  exact = λ S.
+      (λ c. itself_below p R S (only_one R S c), λ s. by_super S (sup_known s));
+  in_order = (tt, tt);
+} where
   by_super : (S : Path) → (R ≡ S) ⊎ (InUniverse p R × InUniverse p S) → Contains (R ∷ []) S
   by_super S (inl e) = (0, omega arith, e)
   by_super S (inr u) = absurd (none_known p t R f n u.0)

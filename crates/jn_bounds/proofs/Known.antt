@@ -26,9 +26,15 @@ among_at (Q ∷ ps) (suc k) P a = let r = among_at ps k P a in (suc r.0, omega (
 mutual
   pub direct_heir : {p : Program} {R S : Path} → Direct p R S → IsNamespace p R
   direct_heir (inherited d s x) = (direct_heir d, record { at = _; super = above d s; declared = x })
-  direct_heir (written s e t x) =
-      (sup_heir s (stands_namespace _ _ e.decl e.stands.0), record { at = _; super = s; declared =
-      record { decl = e.decl; stands = e.stands } })
+  direct_heir (written s e t x) = (
+    sup_heir s (stands_namespace _ _ e.decl e.stands.0),
+    record {
+      at = _;
+      super = s;
+      declared =
+          record { decl = e.decl; stands = e.stands };
+    },
+  )
 
   pub sup_heir : {p : Program} {R S : Path} → Sup p R S → IsNamespace p S → IsNamespace p R
   sup_heir itself n = n
@@ -43,9 +49,15 @@ member_known p P C = (λ m. (member_namespace m, m), λ u. u.1)
 
 pub direct_known : {p : Program} {R S : Path} → Direct p R S → InUniverse p R
 direct_known (inherited d s x) = (direct_heir d, record { at = _; super = above d s; declared = x })
-direct_known (written s e t x) =
-    (sup_heir s (stands_namespace _ _ e.decl e.stands.0), record { at = _; super = s; declared =
-    record { decl = e.decl; stands = e.stands } })
+direct_known (written s e t x) = (
+  sup_heir s (stands_namespace _ _ e.decl e.stands.0),
+  record {
+    at = _;
+    super = s;
+    declared =
+        record { decl = e.decl; stands = e.stands };
+  },
+)
 
 -- a super is the path itself, or both are in the universe
 pub sup_known : {p : Program} {R S : Path} → Sup p R S → (R ≡ S) ⊎ (InUniverse p R × InUniverse p S)

@@ -24,7 +24,7 @@ turned_first x xs = reverse-append (x ∷ []) xs
 pub kept : {A : Type 0} (xs : List A) (n k : ℕ) → n + k ≡ length xs → reverse (take n xs) ≡ drop k (reverse xs)
 kept {A} xs n k e =
     let back : k ≡ length (reverse (drop n xs)) = sym
-        (length-reverse (drop n xs) ∙ (length-drop n xs ∙ omega arith)) in
+    (length-reverse (drop n xs) ∙ (length-drop n xs ∙ omega arith)) in
     let whole : reverse xs ≡ reverse (drop n xs) ++ reverse (take n xs) =
     ap reverse (sym (take-append-drop n xs)) ∙ reverse-append (take n xs) (drop n xs) in
     sym (ap (λ (m : ℕ). drop m (reverse xs)) back

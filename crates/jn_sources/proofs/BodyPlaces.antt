@@ -76,7 +76,7 @@ decl_at t k s w e f b P =
 abbrev MemberAt : List Part → Member → Type 0
 MemberAt w m =
     (b : Bool) (R : Path)
-        → Sub (only_if b ((in_member m).given.name.at ∷ []) ++ map refused_at ((in_member m).inside R)) w
+    → Sub (only_if b ((in_member m).given.name.at ∷ []) ++ map refused_at ((in_member m).inside R)) w
 
 abbrev FormAt : List Part → Member-F Member Decl → Type 0
 FormAt w o = (b : Bool) (R : Path) →

@@ -38,8 +38,10 @@ earlier_still (by_column e h) (by_column f k) = by_column (e ∙ f) (omega arith
 
 next_later : (p : Place) (b : ℕ) → Earlier p (next_place p b)
 next_later p b = by (b == line_feed) where
-  by : (c : Bool) → Earlier p (if c then record { line = p.line + 1; column = 1 } else record { line = p.line;
-      column = p.column + 1 })
+  by : (c : Bool) → Earlier p (if c then record { line = p.line + 1; column = 1 } else record {
+    line = p.line;
+    column = p.column + 1;
+  })
   by true = by_line (omega arith)
   by false = by_column refl (omega arith)
 
@@ -99,7 +101,7 @@ words_rise bytes names texts (t ∷ ts) _ from p (AreWords.then_word {ws = ws} i
     let last = order_end t.end (length bytes) ts o.2 in (
       f t.start o.0 (omega (arith, o.1, last)),
       words_rise bytes names texts ts ws t.end (place_of bytes t.start) more o.2
-      (λ i h k. byte_later bytes t.start i (omega (arith, o.1, h)) (omega (arith, k))),
+          (λ i h k. byte_later bytes t.start i (omega (arith, o.1, h)) (omega (arith, k))),
     )
 
 -- ---- rising places are in order

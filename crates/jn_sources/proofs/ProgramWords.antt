@@ -104,17 +104,38 @@ pub record BodyIn (whole : List Part) (d : Decl) : Type 0 where
 
 inner_in : {a l : ℕ} (w : List Part) (t : Decl) → IsInner a l w t → BodyIn w t
 inner_in _ _ (IsInner.inner {d = d} {n = n} {k = k} o c {u = u} {v = v} {w = w} i es ss ms) =
-    record { kind = k; around = suc d; depth = suc n; words = w; members = ms; among = λ ps s. skip
-        (skip (behind u (behind v (skip (before _ s))))) }
+    record {
+      kind = k;
+      around = suc d;
+      depth = suc n;
+      words = w;
+      members = ms;
+      among = λ ps s. skip
+          (skip (behind u (behind v (skip (before _ s)))));
+    }
 
 top_in : (w : List Part) (t : Decl) → IsTop w t → BodyIn w t
 top_in _ _ (IsTop.top {k = k} o c {u = u} {v = v} {w = w} i es ss ms) =
-    record { kind = k; around = 1; depth = 2; words = w; members = ms; among = λ ps s. skip
-        (skip (behind u (behind v (skip (before _ s))))) }
+    record {
+      kind = k;
+      around = 1;
+      depth = 2;
+      words = w;
+      members = ms;
+      among = λ ps s. skip
+          (skip (behind u (behind v (skip (before _ s)))));
+    }
 
 wider : (w whole : List Part) (d : Decl) → BodyIn w d → ((ps : List Place) → Sub ps w → Sub ps whole) → BodyIn whole d
-wider w whole d b f = record { kind = b.kind; around = b.around; depth = b.depth; words = b.words; members =
-    b.members; among = λ ps s. f ps (b.among ps s) }
+wider w whole d b f = record {
+  kind = b.kind;
+  around = b.around;
+  depth = b.depth;
+  words = b.words;
+  members =
+      b.members;
+  among = λ ps s. f ps (b.among ps s);
+}
 
 nested_in : {k : Kind} {a l : ℕ} (w : List Part) (ms : List Member) → IsMembers k a l w ms → (d : Decl)
     → Contains (nested ms) d → BodyIn w d

@@ -20,21 +20,29 @@ pub record Lexed (at : ℕ) (cs : List ℕ) : Type 0 where
   pub lexes : Lexes at cs tokens found
 
 -- by what stands in front, where all shorter rests are lexed
-by_front : (n at : ℕ) {cs : List ℕ} {p : Piece} → Stands cs p → length cs ≤ suc n → ((to : ℕ) (rest : List ℕ)
-    → length rest ≤ n → Lexed to rest) → Lexed at cs
+by_front : (n at : ℕ) {cs : List ℕ} {p : Piece} → Stands cs p → length cs ≤ suc n
+    → ((to : ℕ) (rest : List ℕ) → length rest ≤ n → Lexed to rest) → Lexed at cs
 by_front n at (Stands.blank {c = c} {cs = cs} b) h more =
     let r = more (at + width (c ∷ [])) cs
-        (omega (arith, h)) in record { tokens = r.tokens; found = r.found; lexes = blank b r.lexes }
+    (omega (arith, h)) in record { tokens = r.tokens; found = r.found; lexes = blank b r.lexes }
 by_front n at (Stands.comment {w = w} {rest = rest} d e) h more =
     let some : 0 < length w = comment_some d in
     let r = more (at + width w) rest
-        (omega (arith, h, some, length-append w rest)) in record { tokens = r.tokens; found = r.found; lexes =
-        comment d r.lexes }
+    (omega (arith, h, some, length-append w rest)) in record {
+      tokens = r.tokens;
+      found = r.found;
+      lexes =
+          comment d r.lexes;
+    }
 by_front n at (Stands.token {w = w} {rest = rest} d e) h more =
     let some : 0 < length w = token_some d in
     let r = more (at + width w) rest
-        (omega (arith, h, some, length-append w rest)) in record { tokens = _; found = r.found; lexes =
-        token d r.lexes }
+    (omega (arith, h, some, length-append w rest)) in record {
+      tokens = _;
+      found = r.found;
+      lexes =
+          token d r.lexes;
+    }
 by_front n at (Stands.fault d k) h more = record { tokens = []; found = _; lexes = fault (d at) }
 
 lexed_up_to : (n at : ℕ) (cs : List ℕ) → length cs ≤ n → Lexed at cs
@@ -44,9 +52,17 @@ lexed_up_to (suc n) at (c ∷ cs) h = by_front n at (front_stands c cs) h (lexed
 
 pub tokens_there : (bytes : List ℕ) → IsUtf8 bytes → (ts : List Token) × (f : Option LexFault) × TokensOf bytes ts f
 tokens_there bytes u =
-    let l = lexed_up_to (length (chars bytes)) 0 (chars bytes) (omega arith) in
-    (l.tokens, l.found, record { characters = chars bytes; scalars = scalars-chars bytes u; spelled =
-    encodes-chars bytes u; lexed = l.lexes })
+    let l = lexed_up_to (length (chars bytes)) 0 (chars bytes) (omega arith) in (
+      l.tokens,
+      l.found,
+      record {
+        characters = chars bytes;
+        scalars = scalars-chars bytes u;
+        spelled =
+            encodes-chars bytes u;
+        lexed = l.lexes;
+      },
+    )
 
 -- ---- bytes that are no UTF-8
 

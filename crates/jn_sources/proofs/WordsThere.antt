@@ -17,8 +17,8 @@ use Rattle.jn_parser.proofs.TokenTexts.{have_texts}
 use Rattle.jn_sources.proofs.TokensThere.{tokens_there}
 
 -- the bytes have a number in the table, or none
-find : (old : List (List ℕ)) (w : List ℕ) → ((n : ℕ) × (slice_get old n ≡ Some w)) ⊎ ((n : ℕ)
-    → slice_get old n ≡ Some w → ⊥)
+find : (old : List (List ℕ)) (w : List ℕ)
+    → ((n : ℕ) × (slice_get old n ≡ Some w)) ⊎ ((n : ℕ) → slice_get old n ≡ Some w → ⊥)
 find [] w = inr (λ n e. cc e)
 find (v ∷ old) w = by (bytes_eq v w) refl (find old w) where
   with_others : (v ≡ w → ⊥) → ((n : ℕ) × (slice_get old n ≡ Some w)) ⊎ ((n : ℕ) → slice_get old n ≡ Some w → ⊥)
@@ -29,8 +29,8 @@ find (v ∷ old) w = by (bytes_eq v w) refl (find old w) where
     go zero e = differs (cc e)
     go (suc n) e = none n e
 
-  by : (b : Bool) → bytes_eq v w ≡ b → ((n : ℕ) × (slice_get old n ≡ Some w)) ⊎ ((n : ℕ) → slice_get old n ≡ Some w
-      → ⊥)
+  by : (b : Bool) → bytes_eq v w ≡ b
+      → ((n : ℕ) × (slice_get old n ≡ Some w)) ⊎ ((n : ℕ) → slice_get old n ≡ Some w → ⊥)
       → ((n : ℕ) × (slice_get (v ∷ old) n ≡ Some w)) ⊎ ((n : ℕ) → slice_get (v ∷ old) n ≡ Some w → ⊥)
   by true e others = inl (0, ap (λ (u : List ℕ). Some u) ((bytes_eq-Decides v w).0 e))
   by false e others = with_others (λ same. cc (e, (bytes_eq-Decides v w).1 same)) others
@@ -51,16 +51,26 @@ record Mentioned (names texts : List (List ℕ)) (k : TokenKind) (w : List ℕ) 
 
 mentioned : (names texts : List (List ℕ)) (k : TokenKind) (w : List ℕ) → IsTextFor k w → Mentioned names texts k w
 mentioned names texts sort.Name w is =
-    let n = number_there names w in record { word_there = _; names_then = n.0; texts_then = texts; mentions =
-        wording.a_name n.2 }
+    let n = number_there names w in record {
+      word_there = _;
+      names_then = n.0;
+      texts_then = texts;
+      mentions =
+          wording.a_name n.2;
+    }
 mentioned names texts sort.Keyword w is =
     record { word_there = _; names_then = names; texts_then = texts; mentions = mention_keyword is.0 refl is.1 }
 mentioned names texts sort.Number w is =
     record { word_there = _; names_then = names; texts_then = texts; mentions = wording.a_number }
 mentioned names texts sort.Text w is =
     let n = number_there texts (unescaped false is.inner) in
-    record { word_there = _; names_then = names; texts_then = n.0; mentions =
-        mention_text is.inner refl is.quoted refl n.2 }
+    record {
+      word_there = _;
+      names_then = names;
+      texts_then = n.0;
+      mentions =
+          mention_text is.inner refl is.quoted refl n.2;
+    }
 mentioned names texts sort.Mark w is =
     record { word_there = _; names_then = names; texts_then = texts; mentions = mention_mark is.0 refl is.1 }
 
@@ -93,7 +103,7 @@ pub words_there : (bytes : List ℕ) → IsUtf8 bytes → HasWords bytes
 words_there bytes u =
     let t = tokens_there bytes u in
     let w = worded_behind bytes [] t.0 (have_texts bytes t.0 t.1 t.2)
-        (record { words = []; names = []; texts = []; so_far = so_far_starts bytes }) in
+    (record { words = []; names = []; texts = []; so_far = so_far_starts bytes }) in
     record {
       names = table w.names;
       texts = table w.texts;

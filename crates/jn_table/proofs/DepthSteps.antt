@@ -109,7 +109,7 @@ stage_root es order nodes level no_paths no_rows shaped root = record {
     long = ap length no_rows ∙ sym (ap length no_paths);
     within = subst (λ (g : Graph). InRange g (length nodes.paths.items)) (sym no_rows) (All-nil _);
     ascending = subst (λ (g : Graph). All (λ (row : Vec ℕ Global). IsStrictlyIncreasing row.items) g) (sym no_rows)
-    (All-nil _);
+        (All-nil _);
   };
   room_is = let l = ap length no_paths in omega (arith, l);
   some = omega arith;
@@ -184,7 +184,7 @@ stage_next es order nodes after level below room children s f l shaped cp next a
         here = here;
         ordered_by = ys.ordered_by;
         front = subst (FrontPaths p (r.depth + 1)) (sym adds.paths)
-        (front_joined p r.depth nodes.paths.items below.paths.items r.front ys);
+            (front_joined p r.depth nodes.paths.items below.paths.items r.front ys);
         direct = subst (λ (ps : List Path). Numbers (Direct p) ps (HasEdge after.direct.items)) (sym adds.paths)
             (numbers_joined (Direct p) nodes.paths.items below.paths.items nodes.direct.items below.direct.items after.direct.items
             (s.fits).long r.direct here.direct adds.direct);
@@ -211,7 +211,7 @@ stage_last es order nodes level room children s f l none p of = record {
   universe = record {
     exact = λ S. (
       λ c. ((r.front).sound c.0 S (slice_get_read nodes.paths.items (length nodes.paths.items) c.0 S refl c.1
-      (sym c.2))).0,
+          (sym c.2))).0,
       λ u. in_list (has S u),
     );
     in_order = sorted (class_cmp p) nodes.paths.items (r.front).ordered_by;
@@ -278,7 +278,7 @@ stage_over es order nodes level room children c P s f at up_at p of =
         let up : e.2.up ≡ P = same_some (slice_get level.paths.items c.up) e.2.up P e.2.up_at up_at in
         let is : e.0 ≡ c.name ∷ P = e.2.is ∙ ap (λ (Q : Path). c.name ∷ Q) up in
         let n : length nodes.paths.items + (room - 1) ≡ 4096 = let q = s.room_is in let o = s.some in omega
-            (arith, q, o) in
+        (arith, q, o) in
         subst (λ (k : ℕ). slice_get (nodes.paths.items ++ ys) k ≡ Some (c.name ∷ P)) n
         (right nodes.paths.items ys (room - 1) (c.name ∷ P)
         (subst (λ (R : Path). slice_get ys (room - 1) ≡ Some R) is e.1))

@@ -41,12 +41,12 @@ module _ (p : Program) (es : List Entry) (n : ℕ) (level : Level) (children : L
   test_sound heir super direct sups P Q d s at_P at_Q m (writes same any) =
       let w = any.4 in
       let edge : HasEdge level.sups.items heir.up any.1 =
-          record { row = sups; at = s; in_row = (any.0, any.2, any.3) } in
+      record { row = sups; at = s; in_row = (any.0, any.2, any.3) } in
       let y = is.sups.sound heir.up any.1 P at_P edge in
       let T = same_some (slice_get level.paths.items any.1) y.0 w.0 y.1 w.1 in
       let up = subst (Sup p P) T y.2 in
       let same_path : Q ≡ P = same_some (slice_get level.paths.items super.up) Q P at_Q
-          (subst (λ k. slice_get level.paths.items k ≡ Some P) same at_P) in
+      (subst (λ k. slice_get level.paths.items k ≡ Some P) same at_P) in
       let m' = subst (λ (R : Path). Member p R super.name) same_path m in
       subst (λ (R : Path). Direct p (heir.name ∷ P) (super.name ∷ R)) (sym same_path)
       (direct_by_text up ((flat.extends w.0 heir.name super.name).0 w.2) m')
@@ -70,8 +70,12 @@ module _ (p : Program) (es : List Entry) (n : ℕ) (level : Level) (children : L
         ch.1,
         ch.2,
         inherits (sym ch.4) (subst (Contains direct.items) (sym ch.3) has),
-        (Q, subst (λ k. slice_get level.paths.items k ≡ Some Q) (sym ch.3) c.1, e ∙ ap (λ (C : Name). C ∷ Q)
-        (sym ch.4)),
+        (
+          Q,
+          subst (λ k. slice_get level.paths.items k ≡ Some Q) (sym ch.3) c.1,
+          e ∙ ap (λ (C : Name). C ∷ Q)
+              (sym ch.4),
+        ),
       )
   complete_child heir direct sups P y d s at_P (by_text D T up x m e) =
       let c = is.sups.complete heir.up P T at_P up in
@@ -79,13 +83,17 @@ module _ (p : Program) (es : List Entry) (n : ℕ) (level : Level) (children : L
       let row = same_some (slice_get level.sups.items heir.up) c.2.row sups c.2.at s in
       let has : Contains sups.items c.0 = subst (λ (r : Vec ℕ Global). Contains r.items c.0) row c.2.in_row in
       let text : IsPart es T heir.name part.Extends (ch.1).name = subst (IsPart es T heir.name part.Extends)
-          (sym ch.4) ((flat.extends T heir.name D).1 x) in (
+      (sym ch.4) ((flat.extends T heir.name D).1 x) in (
         ch.0,
         ch.1,
         ch.2,
         writes (sym ch.3) (has.0, c.0, has.1, has.2, (T, c.1, text)),
-        (P, subst (λ k. slice_get level.paths.items k ≡ Some P) (sym ch.3) at_P, e ∙ ap (λ (C : Name). C ∷ P)
-        (sym ch.4)),
+        (
+          P,
+          subst (λ k. slice_get level.paths.items k ≡ Some P) (sym ch.3) at_P,
+          e ∙ ap (λ (C : Name). C ∷ P)
+              (sym ch.4),
+        ),
       )
 
   module _ (paths : List Path) (rows : Graph) (cp : ChildPaths level.paths.items children paths)
@@ -95,7 +103,7 @@ module _ (p : Program) (es : List Entry) (n : ℕ) (level : Level) (children : L
     next_sound i j x at_x edge =
         let h = Each-back (ChildPath level.paths.items) cp i x at_x in
         let r = Each-at (λ (heir : Child)
-            (row : Vec ℕ Global). DirectRow es level children heir row.items) dr i h.0 h.1 in
+        (row : Vec ℕ Global). DirectRow es level children heir row.items) dr i h.0 h.1 in
         let row = same_some (slice_get rows i) edge.row r.0 edge.at r.1 in
         let has : Contains (r.0).items j = subst (λ (v : Vec ℕ Global). Contains v.items j) row edge.in_row in
         let s = ((r.2.lists).exact j).0 has in
@@ -103,25 +111,32 @@ module _ (p : Program) (es : List Entry) (n : ℕ) (level : Level) (children : L
         let m = are.sound j s.super s.at in
         let same = same_some (slice_get level.paths.items (s.super).up) m.0 y.2.up m.1 y.2.up_at in
         let m' = subst (λ (R : Path). Member p R (s.super).name) same m.2 in
-        let up = test_sound h.0 s.super r.2.direct r.2.sups h.2.up y.2.up r.2.direct_at r.2.sups_at h.2.up_at y.2.up_at m' s.by in
-        (y.0, y.1, subst (λ (R : Path). Direct p R y.0) (sym h.2.is)
-        (subst (Direct p ((h.0).name ∷ h.2.up)) (sym y.2.is) up))
+        let up = test_sound h.0 s.super r.2.direct r.2.sups h.2.up y.2.up r.2.direct_at r.2.sups_at h.2.up_at y.2.up_at m' s.by in (
+          y.0,
+          y.1,
+          subst (λ (R : Path). Direct p R y.0) (sym h.2.is)
+              (subst (Direct p ((h.0).name ∷ h.2.up)) (sym y.2.is) up),
+        )
 
     next_complete : (i : ℕ) (x y : Path) → slice_get paths i ≡ Some x → Direct p x y
         → (j : ℕ) × (slice_get paths j ≡ Some y) × HasEdge rows i j
     next_complete i x y at_x d =
         let h = Each-back (ChildPath level.paths.items) cp i x at_x in
         let r = Each-at (λ (heir : Child)
-            (row : Vec ℕ Global). DirectRow es level children heir row.items) dr i h.0 h.1 in
+        (row : Vec ℕ Global). DirectRow es level children heir row.items) dr i h.0 h.1 in
         let c = complete_child h.0 r.2.direct r.2.sups h.2.up y r.2.direct_at r.2.sups_at h.2.up_at
-            (direct_cases (subst (λ (R : Path). Direct p R y) h.2.is d)) in
+        (direct_cases (subst (λ (R : Path). Direct p R y) h.2.is d)) in
         let z = Each-at (ChildPath level.paths.items) cp c.0 c.1 c.2 in
         let same = same_some (slice_get level.paths.items (c.1).up) z.2.up c.4.0 z.2.up_at c.4.1 in
         let e : z.0 ≡ y = z.2.is ∙ (ap (λ (R : Path). (c.1).name ∷ R) same ∙ sym c.4.2) in (
           c.0,
           subst (λ (R : Path). slice_get paths c.0 ≡ Some R) e z.1,
-          record { row = r.0; at = r.1; in_row = ((r.2.lists).exact c.0).1
-              (record { super = c.1; at = c.2; by = c.3 }) },
+          record {
+            row = r.0;
+            at = r.1;
+            in_row = ((r.2.lists).exact c.0).1
+                (record { super = c.1; at = c.2; by = c.3 });
+          },
         )
 
     pub next_direct : Numbers (Direct p) paths (HasEdge rows)

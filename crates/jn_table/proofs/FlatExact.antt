@@ -111,9 +111,18 @@ module _ (p : Program) (es : List Entry) (f : IsFlattened p es) where
     extends_from : (P : Path) (C D : Name) → Extends p (C ∷ P) D → IsPart es P C part.Extends D
     extends_from P C D d =
         let e = f.complete P d.decl (stands_under p P d.decl d.stands.0) in
-        let c = in_map named_name (d.decl).extends d.named D d.extends d.name in
-        (e.1.0, e.0, e.1.1, e.1.2, (e.2.name ∙ d.stands.1, e.2.namespace, subst (λ (ns : List Name). Contains ns D)
-        (sym e.2.extends) c))
+        let c = in_map named_name (d.decl).extends d.named D d.extends d.name in (
+          e.1.0,
+          e.0,
+          e.1.1,
+          e.1.2,
+          (
+            e.2.name ∙ d.stands.1,
+            e.2.namespace,
+            subst (λ (ns : List Name). Contains ns D)
+                (sym e.2.extends) c,
+          ),
+        )
 
     kinds_to : (R : Path) (k : Kind) → KindIn es R k → KindAt p R k
     kinds_to R k a =
@@ -129,7 +138,7 @@ module _ (p : Program) (es : List Entry) (f : IsFlattened p es) where
     methods_to R m a =
         let h = at_path a.1 R (a.0, a.2, a.3) a.4.0 in
         let n = map_in method_name (methods (h.decl).members) m
-            (subst (λ (ns : List Name). Contains ns m) h.is.methods_are a.4.1) in
+        (subst (λ (ns : List Name). Contains ns m) h.is.methods_are a.4.1) in
         (n.0, record { decl = h.decl; stands = h.stands; has = n.1; name = n.2 })
 
     methods_from : (R : Path) (m : Name) → MethodNamed p R m → OwnIn es R part.Methods m
@@ -143,7 +152,7 @@ module _ (p : Program) (es : List Entry) (f : IsFlattened p es) where
     fields_to R m a =
         let h = at_path a.1 R (a.0, a.2, a.3) a.4.0 in
         let n = map_in field_name (fields (h.decl).members) m
-            (subst (λ (ns : List Name). Contains ns m) h.is.fields_are a.4.1) in
+        (subst (λ (ns : List Name). Contains ns m) h.is.fields_are a.4.1) in
         (n.0, record { decl = h.decl; stands = h.stands; has = n.1; name = n.2 })
 
     fields_from : (R : Path) (n : Name) → FieldNamed p R n → OwnIn es R part.Fields n

@@ -54,11 +54,11 @@ pub joined_order : {A : Type 0} (c : A → A → Ordering) (xs ys : List A) → 
     → ((i j : ℕ) (x y : A) → slice_get xs i ≡ Some x → slice_get ys j ≡ Some y → c x y ≡ Less) → InOrder c (xs ++ ys)
 joined_order {A} c xs ys ox oy cross =
     record { by = λ i j x y l a b. by_sides i j x y l (side xs ys i x a) (side xs ys j y b) } where
-  by_sides : (i j : ℕ) (x y : A) → i < j → Side xs ys i x → Side xs ys j y → c x y ≡ Less
-  by_sides i j x y l (front a) (front b) = ox.by i j x y l a b
-  by_sides i j x y l (front a) (back k e b) = cross i k x y a b
-  by_sides i j x y l (back k e a) (front b) = absurd (let w = slice_get_within xs j y b in omega (arith, l, e, w))
-  by_sides i j x y l (back k e a) (back m f b) = oy.by k m x y (omega (arith, l, e, f)) a b
+      by_sides : (i j : ℕ) (x y : A) → i < j → Side xs ys i x → Side xs ys j y → c x y ≡ Less
+      by_sides i j x y l (front a) (front b) = ox.by i j x y l a b
+      by_sides i j x y l (front a) (back k e b) = cross i k x y a b
+      by_sides i j x y l (back k e a) (front b) = absurd (let w = slice_get_within xs j y b in omega (arith, l, e, w))
+      by_sides i j x y l (back k e a) (back m f b) = oy.by k m x y (omega (arith, l, e, f)) a b
 
 -- with the next depth behind them they are those up to it
 pub front_joined : (p : Program) (n : ℕ) (xs ys : List Path) → FrontPaths p n xs → LevelPaths p (n + 1) ys
@@ -130,8 +130,8 @@ path_after p m n all f R at e = record {
 abbrev pub child_path : List Path → Child → Path
 child_path paths c = c.name ∷ get_or paths c.up []
 
-pub paths_of : (paths : List Path) (cs : List Child) → ((k : ℕ) (c : Child) → slice_get cs k ≡ Some c
-    → c.up < length paths)
+pub paths_of : (paths : List Path) (cs : List Child)
+    → ((k : ℕ) (c : Child) → slice_get cs k ≡ Some c → c.up < length paths)
     → ChildPaths paths cs (map (child_path paths) cs)
 paths_of paths [] w = none
 paths_of paths (c ∷ cs) w =
@@ -154,9 +154,9 @@ module _ (p : Program) (es : List Entry) (order : List Name) (n : ℕ) (level : 
       → Before p (a.name ∷ P) (b.name ∷ Q)
   names_before k l a b at_k at_l P Q up_a up_b e i =
       let less = (in_order (order_cmp p.names) order
-          (of.order_is).in_order).by i.first i.second a.name b.name i.below i.first_at i.second_at in
+      (of.order_is).in_order).by i.first i.second a.name b.name i.below i.first_at i.second_at in
       let same : P ≡ Q = same_some (slice_get level.paths.items b.up) P Q
-          (subst (λ (u : ℕ). slice_get level.paths.items u ≡ Some P) e up_a) up_b in
+      (subst (λ (u : ℕ). slice_get level.paths.items u ≡ Some P) e up_a) up_b in
       subst (λ (R : Path). Before p (a.name ∷ P) (b.name ∷ R)) same
       (before_sibling p P a.name b.name
       (name_less p (of.named).distinct a.name b.name (child_named k a at_k) (child_named l b at_l) less))
@@ -178,7 +178,7 @@ module _ (p : Program) (es : List Entry) (order : List Name) (n : ℕ) (level : 
         let a = Each-back (ChildPath level.paths.items) cp k P at_k in
         let b = Each-back (ChildPath level.paths.items) cp l Q at_l in
         let r = paths_before k l a.0 b.0 h a.1 b.1 a.2.up b.2.up a.2.up_at b.2.up_at
-            (all_order all k l a.0 b.0 h a.1 b.1) in
+        (all_order all k l a.0 b.0 h a.1 b.1) in
         subst (λ (R : Path). Before p P R) (sym b.2.is)
         (subst (λ (R : Path). Before p R ((b.0).name ∷ b.2.up)) (sym a.2.is) r);
   }

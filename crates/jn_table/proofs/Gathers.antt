@@ -32,8 +32,7 @@ pub none_of : {X : Type 0} (P : X → Type 0) → Any P [] → ⊥
 none_of P a = omega (arith, a.2)
 
 -- one more thing, which has the names of which `now` holds
-pub gains_more : {X : Type 0} (W : X → Name → Type 0) (xs : List X) (i : ℕ) (x : X) (now : Name
-    → Type 0) (before mid after : List Name)
+pub gains_more : {X : Type 0} (W : X → Name → Type 0) (xs : List X) (i : ℕ) (x : X) (now : Name → Type 0) (before mid after : List Name)
     → i < length xs → x ≡ get_or xs i x → ((D : Name) → W x D → now D) → ((D : Name) → now D → W x D)
     → Gains (λ D. Any (λ y. W y D) (take i xs)) before mid → Gains now mid after
     → Gains (λ D. Any (λ y. W y D) (take (i + 1) xs)) before after
@@ -70,16 +69,22 @@ gains_all W xs i before after past g =
 pub gains_push : (names : List Name) (C : Name) → Gains (λ D. C ≡ D) names (names ++ C ∷ [])
 gains_push names C D = (
   λ c. Contains-push_cases names C D c,
-  λ s. elim s [ inl c ↦ Contains-append_left names (C ∷ []) D c | inr e ↦ subst (Contains (names ++ C ∷ [])) e
-      (Contains-push names C) ],
+  λ s. elim s [
+    | inl c ↦ Contains-append_left names (C ∷ []) D c
+    | inr e ↦ subst (Contains (names ++ C ∷ [])) e
+        (Contains-push names C)
+  ],
 )
 
 -- what all hold of which the gathering began with none
 pub gains_exact : (S : Name → Type 0) (before after : List Name) → before ≡ [] → Gains S before after → (D : Name)
     → Contains after D ↔ S D
 gains_exact S before after none g D = (
-  λ c. elim ((g D).0 c) [ inl b ↦ absurd
-      (let n : Contains [] D = subst (λ ns. Contains ns D) none b in omega (arith, n.1)) | inr s ↦ s ],
+  λ c. elim ((g D).0 c) [
+    | inl b ↦ absurd
+        (let n : Contains [] D = subst (λ ns. Contains ns D) none b in omega (arith, n.1))
+    | inr s ↦ s
+  ],
   λ s. (g D).1 (inr s),
 )
 

@@ -35,7 +35,7 @@ module _ (es : List Entry) (paths : List Path) (rows : Graph) (are : AreInside e
   insides_within k row l i d m =
       let v = get_or rows k row in
       let r = Each-back (λ (P : Path) (row : Vec ℕ Global). Lists (StandsInside es P) row.items) are k v
-          (slice_get-get_or rows k row l) in
+      (slice_get-get_or rows k row l) in
       inside_within es r.0 (get_or v.items i d) ((r.2.exact (get_or v.items i d)).0 (Contains-get_or v.items i d m))
 
   -- a row has the entries of its path
@@ -52,14 +52,22 @@ module _ (es : List Entry) (paths : List Path) (rows : Graph) (are : AreInside e
     to a =
         let w = a.4 in
         let r = Each-back (λ (P : Path) (row : Vec ℕ Global). Lists
-            (StandsInside es P) row.items) are a.1 w.row w.at in
+        (StandsInside es P) row.items) are a.1 w.row w.at in
         let b = w.has in
         let s = (r.2.exact b.1).0 (b.0, b.2, b.3) in
         let e = b.4 in
         let same : s.0 ≡ e.0 = same_some (slice_get es b.1) s.0 e.0 s.1 e.1 in
-        let at : (e.0).namespace ≡ r.0 = subst (λ (x : Entry). x.namespace ≡ r.0) same s.2 in
-        (a.0, a.1, a.2, a.3, (r.0, r.1,
-        (b.1, e.0, slice_get_within es b.1 e.0 e.1, get_or_from_slice_get es b.1 e.0 e.0 e.1, (e.2, at))))
+        let at : (e.0).namespace ≡ r.0 = subst (λ (x : Entry). x.namespace ≡ r.0) same s.2 in (
+          a.0,
+          a.1,
+          a.2,
+          a.3,
+          (
+            r.0,
+            r.1,
+            (b.1, e.0, slice_get_within es b.1 e.0 e.1, get_or_from_slice_get es b.1 e.0 e.0 e.1, (e.2, at)),
+          ),
+        )
 
     from : MembersAt es paths numbers D → Any (NamedIn es rows D) numbers
     from a =
@@ -77,14 +85,22 @@ module _ (es : List Entry) (paths : List Path) (rows : Graph) (are : AreInside e
     to a =
         let w = a.4 in
         let r = Each-back (λ (P : Path) (row : Vec ℕ Global). Lists
-            (StandsInside es P) row.items) are a.1 w.row w.at in
+        (StandsInside es P) row.items) are a.1 w.row w.at in
         let b = w.has in
         let s = (r.2.exact b.1).0 (b.0, b.2, b.3) in
         let e = b.4 in
         let same : s.0 ≡ e.0 = same_some (slice_get es b.1) s.0 e.0 s.1 e.1 in
-        let at : (e.0).namespace ≡ r.0 = subst (λ (x : Entry). x.namespace ≡ r.0) same s.2 in
-        (a.0, a.1, a.2, a.3, (r.0, r.1,
-        (b.1, e.0, slice_get_within es b.1 e.0 e.1, get_or_from_slice_get es b.1 e.0 e.0 e.1, (e.2, at, e.3))))
+        let at : (e.0).namespace ≡ r.0 = subst (λ (x : Entry). x.namespace ≡ r.0) same s.2 in (
+          a.0,
+          a.1,
+          a.2,
+          a.3,
+          (
+            r.0,
+            r.1,
+            (b.1, e.0, slice_get_within es b.1 e.0 e.1, get_or_from_slice_get es b.1 e.0 e.0 e.1, (e.2, at, e.3)),
+          ),
+        )
 
     from : PartsAt es paths C part numbers D → Any (PartIn es C part rows D) numbers
     from a =
@@ -96,14 +112,14 @@ module _ (es : List Entry) (paths : List Path) (rows : Graph) (are : AreInside e
         (a.0, a.1, a.2, a.3, record { row = r.0; at = r.1; has = (c.0, b.0, c.1, c.2, (b.1, at, b.4.0, b.4.2)) })
 
   -- what was gathered by the rows was gathered by the paths
-  pub by_members : (numbers : List ℕ) (all : List Name) → ((D : Name)
-      → Contains all D ↔ Any (NamedIn es rows D) numbers)
+  pub by_members : (numbers : List ℕ) (all : List Name)
+      → ((D : Name) → Contains all D ↔ Any (NamedIn es rows D) numbers)
       → (D : Name) → Contains all D ↔ MembersAt es paths numbers D
   by_members numbers all g D =
       (λ c. (named_members numbers D).0 ((g D).0 c), λ m. (g D).1 ((named_members numbers D).1 m))
 
-  pub by_parts : (C : Name) (part : Part) (numbers : List ℕ) (all : List Name) → ((D : Name)
-      → Contains all D ↔ Any (PartIn es C part rows D) numbers)
+  pub by_parts : (C : Name) (part : Part) (numbers : List ℕ) (all : List Name)
+      → ((D : Name) → Contains all D ↔ Any (PartIn es C part rows D) numbers)
       → (D : Name) → Contains all D ↔ PartsAt es paths C part numbers D
   by_parts C part numbers all g D =
       (λ c. (named_parts C part numbers D).0 ((g D).0 c), λ m. (g D).1 ((named_parts C part numbers D).1 m))

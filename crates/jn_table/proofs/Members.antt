@@ -76,7 +76,7 @@ picks_distinct {S} {up} (takes {C = C} {ns = ns} s ps) u zero (suc l) a b at_k a
 picks_distinct {S} {up} (takes {C = C} {ns = ns} s ps) u (suc k) zero a b at_k at_l e =
     let p = picks_sound ps k a at_k in
     let same : C ≡ a.name = ap (λ (c : Child). c.name) (let h : record { up = up; name = C } ≡ b = cc at_l in h) ∙
-        sym e in
+    sym e in
     let z = u 0 (suc p.place) a.name (ap Some same) p.place_at in
     absurd (omega (arith, z))
 picks_distinct (takes {C = C} {ns = ns} s ps) u (suc k) (suc l) a b at_k at_l e =
@@ -93,8 +93,13 @@ pub record InNames (ns : List Name) (C D : Name) : Type 0 where
   pub second_at : slice_get ns second ≡ Some D
 
 names_later : (ns : List Name) (B C D : Name) → InNames ns C D → InNames (B ∷ ns) C D
-names_later ns B C D r = record { first = suc r.first; second = suc r.second; below = omega (arith, r.below);
-    first_at = r.first_at; second_at = r.second_at }
+names_later ns B C D r = record {
+  first = suc r.first;
+  second = suc r.second;
+  below = omega (arith, r.below);
+  first_at = r.first_at;
+  second_at = r.second_at;
+}
 
 picks_order : {S : Name → Type 0} {up : ℕ} {ns : List Name} {cs : List Child} → Picks S up ns cs
     → (k l : ℕ) (a b : Child) → k < l → slice_get cs k ≡ Some a → slice_get cs l ≡ Some b → InNames ns a.name b.name
@@ -103,8 +108,13 @@ picks_order (takes s ps) k zero a b h at_k at_l = absurd (omega (arith, h))
 picks_order {S} {up} (takes {C = C} {ns = ns} s ps) zero (suc l) a b h at_k at_l =
     let p = picks_sound ps l b at_l in
     let e : record { up = up; name = C } ≡ a = cc at_k in
-    record { first = 0; second = suc p.place; below = omega arith; first_at = ap (λ (c : Child). Some c.name) e;
-        second_at = p.place_at }
+    record {
+      first = 0;
+      second = suc p.place;
+      below = omega arith;
+      first_at = ap (λ (c : Child). Some c.name) e;
+      second_at = p.place_at;
+    }
 picks_order (takes {C = C} {ns = ns} s ps) (suc k) (suc l) a b h at_k at_l =
     names_later ns C a.name b.name (picks_order ps k l a b (omega (arith, h)) at_k at_l)
 picks_order (skips {C = C} {ns = ns} n ps) k l a b h at_k at_l =
@@ -120,12 +130,15 @@ pub all_sound : {es : List Entry} {order : List Name} {level : Level} {n : ℕ} 
 all_sound no_path k c at = absurd (cc at)
 all_sound {es} {order} {level} (one_path {n = n} {cs = cs} {ds = ds} ps q) k c at =
     by_side (λ a. all_sound ps k c a) (side cs ds k c at) where
-  by_side : (slice_get cs k ≡ Some c → IsMember es level n c) → Side cs ds k c → IsMember es level (n + 1) c
-  by_side below (front a) = let m = below a in record { within = omega (arith, m.within); member = m.member }
-  by_side below (back j e a) =
-      let m = picks_sound q j c a in
-      record { within = omega (arith, m.up_is); member = subst (λ i. MemberOf es level i c.name)
-          (sym m.up_is) m.member }
+      by_side : (slice_get cs k ≡ Some c → IsMember es level n c) → Side cs ds k c → IsMember es level (n + 1) c
+      by_side below (front a) = let m = below a in record { within = omega (arith, m.within); member = m.member }
+      by_side below (back j e a) =
+          let m = picks_sound q j c a in
+          record {
+            within = omega (arith, m.up_is);
+            member = subst (λ i. MemberOf es level i c.name)
+                (sym m.up_is) m.member;
+          }
 
 all_complete : {es : List Entry} {order : List Name} {level : Level} {n : ℕ} {cs : List Child}
     → AllPicks es order level n cs
@@ -134,13 +147,25 @@ all_complete no_path i C j l at m = absurd (omega (arith, l))
 all_complete {es} {order} {level} (one_path {n = n} {cs = cs} {ds = ds} ps q) i C j l at m = elim (cases_lt i n) [
   | inl small ↦
       let r = all_complete ps i C j small at m in
-      record { place = r.place; child = r.child; at = left cs ds r.place r.child r.at; up_is = r.up_is; name_is =
-          r.name_is }
+      record {
+        place = r.place;
+        child = r.child;
+        at = left cs ds r.place r.child r.at;
+        up_is = r.up_is;
+        name_is =
+            r.name_is;
+      }
   | inr large ↦
       let same : i ≡ n = omega (arith, l, large) in
       let r = picks_complete q j C at (subst (λ k. MemberOf es level k C) same m) in
-      record { place = length cs + r.place; child = r.child; at = right cs ds r.place r.child r.at; up_is = r.up_is ∙
-          sym same; name_is = r.name_is }
+      record {
+        place = length cs + r.place;
+        child = r.child;
+        at = right cs ds r.place r.child r.at;
+        up_is = r.up_is ∙
+            sym same;
+        name_is = r.name_is;
+      }
 ]
 
 all_distinct : {es : List Entry} {order : List Name} {level : Level} {n : ℕ} {cs : List Child}
@@ -151,8 +176,8 @@ all_distinct no_path u k l a b at_k at_l e f = absurd (cc at_k)
 all_distinct {es} {order} {level} (one_path {n = n} {cs = cs} {ds = ds} ps q) u k l a b at_k at_l e f =
     sides (λ x y. all_distinct ps u k l a b x y e f) (λ j c x. (all_sound ps j c x).within) (side cs ds k a at_k)
     (side cs ds l b at_l) where
-      sides : (slice_get cs k ≡ Some a → slice_get cs l ≡ Some b → k ≡ l) → ((j : ℕ) (c : Child)
-          → slice_get cs j ≡ Some c → c.up < n)
+      sides : (slice_get cs k ≡ Some a → slice_get cs l ≡ Some b → k ≡ l)
+          → ((j : ℕ) (c : Child) → slice_get cs j ≡ Some c → c.up < n)
           → Side cs ds k a → Side cs ds l b → k ≡ l
       sides below within (front x) (front y) = below x y
       sides below within (front x) (back j h y) = absurd (omega (arith, within k a x, (picks_sound q j b y).up_is, e))
@@ -167,16 +192,18 @@ pub all_order : {es : List Entry} {order : List Name} {level : Level} {n : ℕ} 
 all_order no_path k l a b h at_k at_l = absurd (cc at_k)
 all_order {es} {order} {level} (one_path {n = n} {cs = cs} {ds = ds} ps q) k l a b h at_k at_l =
     sides (λ x y. all_order ps k l a b h x y) (side cs ds k a at_k) (side cs ds l b at_l) where
-      sides : (slice_get cs k ≡ Some a → slice_get cs l ≡ Some b
-          → (a.up < b.up) ⊎ ((a.up ≡ b.up) × InNames order a.name b.name))
+      sides : (slice_get cs k ≡ Some a → slice_get cs l ≡ Some b → (a.up < b.up) ⊎ ((a.up ≡ b.up) × InNames order a.name b.name))
           → Side cs ds k a → Side cs ds l b → (a.up < b.up) ⊎ ((a.up ≡ b.up) × InNames order a.name b.name)
       sides below (front x) (front y) = below x y
       sides below (front x) (back j g y) =
           inl (let w = (all_sound ps k a x).within in let u = (picks_sound q j b y).up_is in omega (arith, w, u))
       sides below (back i g x) (front y) = absurd (let w = slice_get_within cs l b y in omega (arith, g, w, h))
       sides below (back i g x) (back j f y) =
-          inr ((picks_sound q i a x).up_is ∙ sym (picks_sound q j b y).up_is, picks_order q i j a b
-          (omega (arith, g, f, h)) x y)
+          inr (
+            (picks_sound q i a x).up_is ∙ sym (picks_sound q j b y).up_is,
+            picks_order q i j a b
+                (omega (arith, g, f, h)) x y,
+          )
 
 -- the order has each declared name
 abbrev pub HasDeclared : List Entry → List Name → Type 0
@@ -192,7 +219,7 @@ module _ (p : Program) (es : List Entry) (order : List Name) (n : ℕ) (level : 
       let q = (m.member).1 in
       let w = (m.member).4 in
       let edge : HasEdge level.sups.items c.up q =
-          record { row = m.sups; at = m.sups_at; in_row = ((m.member).0, (m.member).2, (m.member).3) } in
+      record { row = m.sups; at = m.sups_at; in_row = ((m.member).0, (m.member).2, (m.member).3) } in
       let s = is.sups.sound c.up q P at edge in
       let same = same_some (slice_get level.paths.items q) s.0 w.0 s.1 w.1 in
       record { at = w.0; super = subst (Sup p P) same s.2; declared = (flat.declared w.0 c.name).0 w.2 }

@@ -58,7 +58,7 @@ module _ (p : Program) (n : ℕ) (level : Level) (children : List Child) (is : I
       let ch = are.complete i.0 Q C i.1 s.1 in
       let at = Each-at (ChildPath level.paths.items) cp ch.0 ch.1 ch.2 in
       let up : at.2.up ≡ Q = same_some (slice_get level.paths.items (ch.1).up) at.2.up Q at.2.up_at
-          (subst (λ j. slice_get level.paths.items j ≡ Some Q) (sym ch.3) i.1) in
+      (subst (λ j. slice_get level.paths.items j ≡ Some Q) (sym ch.3) i.1) in
       let path : at.0 ≡ C ∷ Q = at.2.is ∙ (ap (λ (R : Path). (ch.1).name ∷ R) up ∙ ap (λ (D : Name). D ∷ Q) ch.4) in
       (ch.0, subst (λ (R : Path). slice_get paths ch.0 ≡ Some R) path at.1)
 
@@ -70,7 +70,7 @@ module _ (p : Program) (n : ℕ) (level : Level) (children : List Child) (is : I
       let up = cons_tail (a.0).name (b.0).name a.2.up b.2.up e in
       let name = cons_head (a.0).name (b.0).name a.2.up b.2.up e in
       let same = is.distinct (a.0).up (b.0).up b.2.up
-          (subst (λ (R : Path). slice_get level.paths.items (a.0).up ≡ Some R) up a.2.up_at) b.2.up_at in
+      (subst (λ (R : Path). slice_get level.paths.items (a.0).up ≡ Some R) up a.2.up_at) b.2.up_at in
       are.distinct k l a.0 b.0 a.1 b.1 same name
 
 rows_long : (es : List Entry) (level : Level) (children : List Child) (below : Level)
@@ -93,7 +93,7 @@ next_exact es level children below cp dr closed p n flat is are =
       distinct = next_distinct p n level children is are below.paths.items cp;
       direct = direct;
       sups = Numbers-same (Chain (Direct p)) (Sup p) below.paths.items (HasEdge below.sups.items) (sup_chain p)
-      (chain_sup p)
+          (chain_sup p)
           (Numbers-closure (Direct p) below.paths.items below.direct.items below.sups.items
           (rows_long es level children below cp dr) closed direct);
     }
@@ -102,17 +102,17 @@ pub rows_in_range : (es : List Entry) (level : Level) (children : List Child) (r
     → DirectRows es level children children rows → InRange rows (length rows)
 rows_in_range es level children rows dr i row l k d m =
     let r = Each-back (λ (heir : Child) (row : Vec ℕ Global). DirectRow es level children heir row.items) dr i
-        (get_or rows i row) (slice_get-get_or rows i row l) in
+    (get_or rows i row) (slice_get-get_or rows i row l) in
     let long = Each-length (λ (heir : Child) (row : Vec ℕ Global). DirectRow es level children heir row.items) dr in
     let s = ((r.2.lists).exact (get_or (get_or rows i row).items k d)).0
-        (Contains-get_or (get_or rows i row).items k d m) in
+    (Contains-get_or (get_or rows i row).items k d m) in
     omega (arith, long, slice_get_within children (get_or (get_or rows i row).items k d) s.super s.at)
 
 rows_ascending : (es : List Entry) (level : Level) (children : List Child) (rows : Graph)
     → DirectRows es level children children rows → All (λ (row : Vec ℕ Global). IsStrictlyIncreasing row.items) rows
 rows_ascending es level children rows dr i row l =
     let r = Each-back (λ (heir : Child) (row : Vec ℕ Global). DirectRow es level children heir row.items) dr i
-        (get_or rows i row) (slice_get-get_or rows i row l) in
+    (get_or rows i row) (slice_get-get_or rows i row l) in
     (r.2.lists).ascending
 
 pub next_shaped : (es : List Entry) (level : Level) (children : List Child) (below : Level)

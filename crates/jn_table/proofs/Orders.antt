@@ -41,9 +41,9 @@ then_first Greater s e = cc
 spelled_exact : (x y : Spelled) → spelled_cmp x y ≡ Equal → x ≡ y
 spelled_exact x y e =
     let b = exact_bytes x.bytes y.bytes
-        (then_first (slice_cmp nat_cmp x.bytes y.bytes) (nat_cmp x.number y.number) e) in
+    (then_first (slice_cmp nat_cmp x.bytes y.bytes) (nat_cmp x.number y.number) e) in
     let n = exact_unsigned x.number y.number
-        (then_second (slice_cmp nat_cmp x.bytes y.bytes) (nat_cmp x.number y.number) e) in
+    (then_second (slice_cmp nat_cmp x.bytes y.bytes) (nat_cmp x.number y.number) e) in
     ap (λ (bs : List ℕ). record { bytes = bs; number = x.number }) b
     ∙ ap (λ (k : ℕ). record { bytes = y.bytes; number = k }) n
 
@@ -53,7 +53,7 @@ deduped_same : (xs ys zs : List Spelled) → IsPermutation xs ys
 deduped_same xs ys zs p f n =
     let e = dedup_is (eq_by_cmp spelled_cmp) ys zs f in (
       λ h. Contains-permutation ys xs n (IsPermutation-sym xs ys p)
-      (Contains-from_dedup (eq_by_cmp spelled_cmp) ys n (subst (λ (l : List Spelled). Contains l n) e h)),
+          (Contains-from_dedup (eq_by_cmp spelled_cmp) ys n (subst (λ (l : List Spelled). Contains l n) e h)),
       λ h. subst (λ (l : List Spelled). Contains l n) (sym e)
           (Contains-dedup (eq_by_cmp_equiv spelled_total) (tells_apart spelled_exact) ys n
           (Contains-permutation xs ys n p h)),

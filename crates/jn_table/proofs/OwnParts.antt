@@ -26,7 +26,7 @@ pub says_methods : (t : Table) (id : ClassId) (q : ShownPath) (S : Path) (names 
 says_methods t id q S names at e own = λ p R is n m.
     let s : S ≡ R = at_number t.known.items id q S R at e n in
     let o : Contains names m ↔ OwnIn t.entries.items R part.Methods m = subst
-        (λ (P : Path). Contains names m ↔ OwnIn t.entries.items P part.Methods m) s (own m) in
+    (λ (P : Path). Contains names m ↔ OwnIn t.entries.items P part.Methods m) s (own m) in
     let k = (flat_exact p t.entries.items is.entries).methods R m in
     (λ c. k.0 (o.0 c), λ x. o.1 (k.1 x))
 
@@ -36,6 +36,6 @@ pub says_fields : (t : Table) (id : ClassId) (q : ShownPath) (S : Path) (names :
 says_fields t id q S names at e own = λ p R is n m.
     let s : S ≡ R = at_number t.known.items id q S R at e n in
     let o : Contains names m ↔ OwnIn t.entries.items R part.Fields m = subst
-        (λ (P : Path). Contains names m ↔ OwnIn t.entries.items P part.Fields m) s (own m) in
+    (λ (P : Path). Contains names m ↔ OwnIn t.entries.items P part.Fields m) s (own m) in
     let k = (flat_exact p t.entries.items is.entries).fields R m in
     (λ c. k.0 (o.0 c), λ x. o.1 (k.1 x))

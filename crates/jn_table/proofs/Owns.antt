@@ -60,8 +60,12 @@ gathered_more rows numbers i d row mid after l within is g h =
     (λ D w. subst (λ (v : Vec Name Global). Contains v.items D)
     (same_some (slice_get rows (get_or numbers i d)) w.row row w.at
     (slice_get_read rows (length rows) (get_or numbers i d) row refl within is)) w.has)
-    (λ D c. record { row = row; at = slice_get_read rows (length rows) (get_or numbers i d) row refl within is; has =
-    c }) g h
+    (λ D c. record {
+      row = row;
+      at = slice_get_read rows (length rows) (get_or numbers i d) row refl within is;
+      has =
+          c;
+    }) g h
 
 pub gathered_all : (rows : List (Vec Name Global)) (numbers : List ℕ) (i : ℕ) (all : List Name) → length numbers ≤ i
     → Gains (λ D. Any (HasAt rows D) (take i numbers)) [] all → (D : Name)

@@ -69,7 +69,7 @@ module _ (S : Name → Type 0) (up room : ℕ) (order : List Name) (i : ℕ) (C 
   adds_here before all small s a = record {
     picked = a.picked ++ record { up = up; name = C } ∷ [];
     picks = subst (λ (ns : List Name). Picks S up ns (a.picked ++ record { up = up; name = C } ∷ []))
-    (sym (taken order i C l at)) (picks_push C a.picks s);
+        (sym (taken order i C l at)) (picks_push C a.picks s);
     is = ap (λ (xs : List Child). xs ++ record { up = up; name = C } ∷ []) a.is
         ∙ (sym (take_push room (before ++ a.picked) (record { up = up; name = C })
         (subst (λ (xs : List Child). length xs < room) a.is small))
@@ -83,7 +83,7 @@ module _ (S : Name → Type 0) (up room : ℕ) (order : List Name) (i : ℕ) (C 
   adds_beyond before all large s a = record {
     picked = a.picked ++ record { up = up; name = C } ∷ [];
     picks = subst (λ (ns : List Name). Picks S up ns (a.picked ++ record { up = up; name = C } ∷ []))
-    (sym (taken order i C l at)) (picks_push C a.picks s);
+        (sym (taken order i C l at)) (picks_push C a.picks s);
     is = a.is
         ∙ (sym (take_full room (before ++ a.picked) (record { up = up; name = C } ∷ [])
         (subst (λ (xs : List Child). room ≤ length xs) a.is large))

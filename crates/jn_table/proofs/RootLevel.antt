@@ -52,7 +52,7 @@ module _ (p : Program) (d s : Vec ℕ Global) (none : d.items ≡ []) (own : s.i
         let c : Contains s.items j = subst (λ (v : Vec ℕ Global). Contains v.items j) r e.in_row in
         let z : j ≡ 0 = Contains-one 0 j (subst (λ (l : List ℕ). Contains l j) own c) in
         let here : slice_get ([] ∷ []) j ≡ Some [] = subst
-            (λ k. ◌≡◌ {A = _} (slice_get {X = Path} ([] ∷ []) k) (Some [])) (sym z) refl in
+        (λ k. ◌≡◌ {A = _} (slice_get {X = Path} ([] ∷ []) k) (Some [])) (sym z) refl in
         ([], here, subst (λ (R : Path). Sup p R []) (sym (only_zero [] x i at).1) itself);
     complete = λ i x y at up.
         let root = only_zero [] x i at in
@@ -76,9 +76,11 @@ root_level p level d s none own ep ed es = record {
   paths_sound = λ i P at.
       let e = (only_zero [] P i (subst (λ (l : List Path). slice_get l i ≡ Some P) ep at)).1 in
       subst (λ (Q : Path). IsNamespace p Q × (length Q ≡ 0)) (sym e) (tt, refl);
-  paths_complete = λ P n e.
-      (0, subst (λ (l : List Path). slice_get l 0 ≡ Some P) (sym ep)
-      (subst (λ (Q : Path). ◌≡◌ {A = _} (slice_get {X = Path} ([] ∷ []) 0) (Some Q)) (sym (empty_length e)) refl));
+  paths_complete = λ P n e. (
+    0,
+    subst (λ (l : List Path). slice_get l 0 ≡ Some P) (sym ep)
+        (subst (λ (Q : Path). ◌≡◌ {A = _} (slice_get {X = Path} ([] ∷ []) 0) (Some Q)) (sym (empty_length e)) refl),
+  );
   distinct = λ i j x a b.
       let u = (only_zero [] x i (subst (λ (l : List Path). slice_get l i ≡ Some x) ep a)).0 in
       let v = (only_zero [] x j (subst (λ (l : List Path). slice_get l j ≡ Some x) ep b)).0 in

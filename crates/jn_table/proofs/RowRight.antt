@@ -81,9 +81,12 @@ module _ (p : Program) (es : List Entry) (u : Universe) (f : FitUniverse u) (is 
 
     led : (S : Path) → E R S → (j : ℕ) × (slice_get u.nodes.paths.items j ≡ Some S) × Contains row.items j
     led S e =
-        let h = n.complete k R S at e in
-        (h.0, h.1, subst (λ (v : Vec ℕ Global). Contains v.items h.0)
-        (same_some (slice_get g k) (h.2).row row (h.2).at row_at) (h.2).in_row)
+        let h = n.complete k R S at e in (
+          h.0,
+          h.1,
+          subst (λ (v : Vec ℕ Global). Contains v.items h.0)
+              (same_some (slice_get g k) (h.2).row row (h.2).at row_at) (h.2).in_row,
+        )
 
     path_at : ℕ → Path
     path_at j = get_or u.nodes.paths.items j []
@@ -101,7 +104,7 @@ module _ (p : Program) (es : List Entry) (u : Universe) (f : FitUniverse u) (is 
       paths = map (λ j. get_or u.nodes.paths.items j []) row.items;
       are = record { exact = λ S. (to S, from S); in_order = sorted (class_cmp p) _ (record { by = by }) };
       numbered = subst (λ (xs : List ClassId). Each (λ (S : Path) (id : ClassId). IsNumber known id S)
-      (map (λ j. get_or u.nodes.paths.items j []) row.items) xs) (sym ids_are)
+          (map (λ j. get_or u.nodes.paths.items j []) row.items) xs) (sym ids_are)
           (each_maps (λ (S : Path) (id : ClassId). IsNumber known id S)
           (λ j. get_or u.nodes.paths.items j []) class_id row.items
           (λ i j h. shown_at u.nodes.paths.items j (get_or u.nodes.paths.items j []) (at_path i j h)));
@@ -126,7 +129,7 @@ module _ (p : Program) (es : List Entry) (u : Universe) (f : FitUniverse u) (is 
           let m = at_map (λ j. get_or u.nodes.paths.items j []) row.items i A a in
           let n = at_map (λ j. get_or u.nodes.paths.items j []) row.items j B b in
           let less = (in_order nat_cmp row.items
-              (sorted_from_strictly_increasing row.items up)).by i j m.0 n.0 l m.1 n.1 in
+          (sorted_from_strictly_increasing row.items up)).by i j m.0 n.0 l m.1 n.1 in
           subst (λ (P : Path). class_cmp p P B ≡ Less) m.2
           (subst (λ (Q : Path). class_cmp p (get_or u.nodes.paths.items m.0 []) Q ≡ Less) n.2
           (places.by m.0 n.0 _ _ (less_is_below m.0 n.0 less) (at_path i m.0 m.1) (at_path j n.0 n.1)))
@@ -156,7 +159,7 @@ module _ (p : Program) (es : List Entry) (u : Universe) (f : FitUniverse u) (is 
         let x = m.complete k.0 C (slice_get_within u.nodes.paths.items k.0 (C ∷ R) k.1) k.1 in
         let s = (m.sound x.0 x.1 x.2).1 in
         let t : slice_get u.nodes.paths.items (x.1).id.0 ≡ Some (C ∷ R) = subst
-            (λ (j : ℕ). slice_get u.nodes.paths.items j ≡ Some (C ∷ R)) (sym x.3) k.1 in
+        (λ (j : ℕ). slice_get u.nodes.paths.items j ≡ Some (C ∷ R)) (sym x.3) k.1 in
         in_mapped (λ (x : RowMember). x.name) ms x.0 x.1 C x.2
         (cons_head (x.1).name C R R (same_some (slice_get u.nodes.paths.items (x.1).id.0) ((x.1).name ∷ R)
         (C ∷ R) s t))
@@ -168,7 +171,7 @@ module _ (p : Program) (es : List Entry) (u : Universe) (f : FitUniverse u) (is 
         let y = at_map (λ (x : RowMember). x.name) ms j D b in
         let less = m.ascending i j x.0 y.0 l x.1 y.1 in
         let before = places.by (x.0).id.0 (y.0).id.0 ((x.0).name ∷ R) ((y.0).name ∷ R) less (m.sound i x.0 x.1).1
-            (m.sound j y.0 y.1).1 in
+        (m.sound j y.0 y.1).1 in
         subst (λ (A : Name). name_cmp p A D ≡ Less) x.2
         (subst (λ (B : Name). name_cmp p (x.0).name B ≡ Less) y.2 (sibling_before p R (x.0).name (y.0).name before))
 
@@ -222,16 +225,25 @@ module _ (p : Program) (es : List Entry) (u : Universe) (f : FitUniverse u) (is 
               let e = Each-at (OwnNames es part.Methods) (is.own).methods a.1 s.0 s.1 in
               let h = a.4 in
               let has = subst (λ (v : Vec Name Global). Contains v.items m)
-                  (same_some (slice_get u.own.methods.items a.1) h.row e.0 h.at e.1) h.has in
+              (same_some (slice_get u.own.methods.items a.1) h.row e.0 h.at e.1) h.has in
               let x = ((is.flat).methods s.0 m).0 ((e.2 m).0 has) in
               (s.0, record { super = s.2; method = x.0; at = x.1 })
 
           from : (m : Name) → HasMethod p R m → Any (HasAt u.own.methods.items m) above.items
           from m h =
               let s = at_super h.0 h.1.super in
-              let e = Each-at (OwnNames es part.Methods) (is.own).methods s.0 h.0 s.1 in
-              (s.2.0, s.0, s.2.1, s.2.2, record { row = e.0; at = e.1; has = (e.2 m).1
-              (((is.flat).methods h.0 m).1 (h.1.method, h.1.at)) })
+              let e = Each-at (OwnNames es part.Methods) (is.own).methods s.0 h.0 s.1 in (
+                s.2.0,
+                s.0,
+                s.2.1,
+                s.2.2,
+                record {
+                  row = e.0;
+                  at = e.1;
+                  has = (e.2 m).1
+                      (((is.flat).methods h.0 m).1 (h.1.method, h.1.at));
+                },
+              )
 
     pub row_fields : (order : List Name)
         → OrderedBy p.names (λ m. Any (HasAt u.own.fields.items m) above.items) order
@@ -245,13 +257,22 @@ module _ (p : Program) (es : List Entry) (u : Universe) (f : FitUniverse u) (is 
               let e = Each-at (OwnNames es part.Fields) (is.own).fields a.1 s.0 s.1 in
               let h = a.4 in
               let has = subst (λ (v : Vec Name Global). Contains v.items m)
-                  (same_some (slice_get u.own.fields.items a.1) h.row e.0 h.at e.1) h.has in
+              (same_some (slice_get u.own.fields.items a.1) h.row e.0 h.at e.1) h.has in
               let x = ((is.flat).fields s.0 m).0 ((e.2 m).0 has) in
               (s.0, record { super = s.2; field = x.0; at = x.1 })
 
           from : (m : Name) → HasField p R m → Any (HasAt u.own.fields.items m) above.items
           from m h =
               let s = at_super h.0 h.1.super in
-              let e = Each-at (OwnNames es part.Fields) (is.own).fields s.0 h.0 s.1 in
-              (s.2.0, s.0, s.2.1, s.2.2, record { row = e.0; at = e.1; has = (e.2 m).1
-              (((is.flat).fields h.0 m).1 (h.1.field, h.1.at)) })
+              let e = Each-at (OwnNames es part.Fields) (is.own).fields s.0 h.0 s.1 in (
+                s.2.0,
+                s.0,
+                s.2.1,
+                s.2.2,
+                record {
+                  row = e.0;
+                  at = e.1;
+                  has = (e.2 m).1
+                      (((is.flat).fields h.0 m).1 (h.1.field, h.1.at));
+                },
+              )

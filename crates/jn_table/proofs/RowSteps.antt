@@ -85,8 +85,8 @@ pub members_all : (paths : List Path) (R : Path) (n : ℕ) (all : List RowMember
 members_all paths R n all e u = subst (λ (k : ℕ). MembersUpTo paths R k all) e u
 
 -- what was gathered, in order
-pub gathered_order : (texts : List Text) (T : Name → Type 0) (names order : List Name) → ((D : Name)
-    → Contains names D ↔ T D)
+pub gathered_order : (texts : List Text) (T : Name → Type 0) (names order : List Name)
+    → ((D : Name) → Contains names D ↔ T D)
     → IsOrderOf texts names order → OrderedBy texts T order
 gathered_order texts T names order g o = record {
   exact = λ C. (λ c. (g C).0 ((o.exact C).0 c), λ t. (o.exact C).1 ((g C).1 t));
@@ -119,8 +119,7 @@ pub shown_is : (path : ShownPath) (R : Path) → path.names ≡ reverse R → pa
 shown_is path R e = ap (λ (ns : List Name). record { names = ns }) e
 
 -- the same of what is answered
-pub ordered_answer : {E : Type 0} (texts : List Text) (T : Name
-    → Type 0) (names : List Name) (r : Result (Vec Name Global) E) → ((D : Name) → Contains names D ↔ T D)
+pub ordered_answer : {E : Type 0} (texts : List Text) (T : Name → Type 0) (names : List Name) (r : Result (Vec Name Global) E) → ((D : Name) → Contains names D ↔ T D)
     → IfOk r (λ order. IsOrderOf texts names order.items) → IfOk r (λ order. OrderedBy texts T order.items)
 ordered_answer texts T names (Ok order) g o = gathered_order texts T names order.items g o
 ordered_answer texts T names (Err e) g o = tt

@@ -61,10 +61,10 @@ module _ {A : Type 0} (E : A → A → Type 0) (xs ys : List A) (g h after : Gra
   in_new : (j : ℕ) (row : Vec ℕ Global) → slice_get after (length xs + j) ≡ Some row → slice_get a.added j ≡ Some row
   in_new j row at = by_side (side g a.added (length xs + j) row
       (subst (λ (r : Graph). slice_get r (length xs + j) ≡ Some row) a.is at)) where
-    by_side : Side g a.added (length xs + j) row → slice_get a.added j ≡ Some row
-    by_side (front x) = absurd (let w = slice_get_within g (length xs + j) row x in omega (arith, w, long))
-    by_side (back k e x) =
-        subst (λ (i : ℕ). slice_get a.added i ≡ Some row) (let f : k ≡ j = omega (arith, e, long) in f) x
+        by_side : Side g a.added (length xs + j) row → slice_get a.added j ≡ Some row
+        by_side (front x) = absurd (let w = slice_get_within g (length xs + j) row x in omega (arith, w, long))
+        by_side (back k e x) =
+            subst (λ (i : ℕ). slice_get a.added i ≡ Some row) (let f : k ≡ j = omega (arith, e, long) in f) x
 
   sound_by : (i j : ℕ) (x : A) → HasEdge after i j → Side xs ys i x
       → (y : A) × (slice_get (xs ++ ys) j ≡ Some y) × E x y
@@ -76,9 +76,12 @@ module _ {A : Type 0} (E : A → A → Type 0) (xs ys : List A) (g h after : Gra
       let at = in_new k e.row (subst (λ (q : ℕ). slice_get after q ≡ Some e.row) p e.at) in
       let r = Each-back (IsShifted (length xs)) a.each k e.row at in
       let c = moved_in (length xs) (r.0).items j (subst (λ (ns : List ℕ). Contains ns j) r.2 e.in_row) in
-      let s = m.sound k c.0 x f (record { row = r.0; at = r.1; in_row = c.1 }) in
-      (s.0, subst (λ (q : ℕ). slice_get (xs ++ ys) q ≡ Some s.0)
-      (let q : length xs + c.0 ≡ j = omega (arith, c.2) in q) (right xs ys c.0 s.0 s.1), s.2)
+      let s = m.sound k c.0 x f (record { row = r.0; at = r.1; in_row = c.1 }) in (
+        s.0,
+        subst (λ (q : ℕ). slice_get (xs ++ ys) q ≡ Some s.0)
+            (let q : length xs + c.0 ≡ j = omega (arith, c.2) in q) (right xs ys c.0 s.0 s.1),
+        s.2,
+      )
 
   complete_by : (i : ℕ) (x y : A) → E x y → Side xs ys i x
       → (j : ℕ) × (slice_get (xs ++ ys) j ≡ Some y) × HasEdge after i j
@@ -106,7 +109,7 @@ module _ {A : Type 0} (E : A → A → Type 0) (xs ys : List A) (g h after : Gra
           at = subst (λ (q : ℕ). slice_get after q ≡ Some r.0) off
               (subst (λ (s : Graph). slice_get s (length g + k) ≡ Some r.0) (sym a.is) (right g a.added k r.0 r.1));
           in_row = subst (λ (ns : List ℕ). Contains ns (c.0 + length xs)) (sym r.2)
-          (in_moved (length xs) (e.row).items c.0 e.in_row);
+              (in_moved (length xs) (e.row).items c.0 e.in_row);
         },
       )
 
@@ -137,7 +140,7 @@ module _ (level : Level) (before after : Nodes) (s : IsShaped level) (f : FitNod
   row_within k row at i d l =
       let r = Each-back (IsShifted (length before.paths.items)) (a.direct).each k row at in
       let c = moved_in (length before.paths.items) (r.0).items (get_or row.items i d)
-          (subst (λ (ns : List ℕ). Contains ns (get_or row.items i d)) r.2 (Contains-get_or row.items i d l)) in
+      (subst (λ (ns : List ℕ). Contains ns (get_or row.items i d)) r.2 (Contains-get_or row.items i d l)) in
       let in_level = s.direct_in k r.0 (slice_get_within level.direct.items k r.0 r.1) in
       let same : get_or level.direct.items k r.0 ≡ r.0 = get_or_from_slice_get level.direct.items k r.0 r.0 r.1 in
       let w = All-contains (λ (j : ℕ). j < length level.paths.items) (r.0).items c.0

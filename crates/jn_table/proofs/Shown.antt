@@ -59,7 +59,7 @@ module _ (p : Program) (paths : List Path) (known : List ShownPath) (is : known 
   numbers_before a b A B x y = (
     λ l. o.by a.0 b.0 A B l (place_of_number a A x) (place_of_number b B y),
     λ l. place_below (class_cmp p) (before_irreflexive p) (before_chain p) paths o a.0 b.0 A B
-    (place_of_number a A x) (place_of_number b B y) l,
+        (place_of_number a A x) (place_of_number b B y) l,
   )
 
   -- a number is in the list where its path is one of those
@@ -70,7 +70,7 @@ module _ (p : Program) (paths : List Path) (known : List ShownPath) (is : known 
     to : Contains ids b → T B
     to h =
         let e = Each-back (λ (S : Path) (id : ClassId). IsNumber known id S) c.numbered h.0 b
-            (slice_get_read ids (length ids) h.0 b refl h.1 (sym h.2)) in
+        (slice_get_read ids (length ids) h.0 b refl h.1 (sym h.2)) in
         let s = number_path known b e.0 B e.2 y in
         subst T s ((c.are.exact e.0).0 (in_list c.paths h.0 e.0 e.1)) where
           in_list : (ps : List Path) (k : ℕ) (P : Path) → slice_get ps k ≡ Some P → Contains ps P
@@ -82,7 +82,7 @@ module _ (p : Program) (paths : List Path) (known : List ShownPath) (is : known 
     from t =
         let h = (c.are.exact B).1 t in
         let e = Each-at (λ (S : Path) (id : ClassId). IsNumber known id S) c.numbered h.0 B
-            (slice_get_read c.paths (length c.paths) h.0 B refl h.1 (sym h.2)) in
+        (slice_get_read c.paths (length c.paths) h.0 B refl h.1 (sym h.2)) in
         ids_has ids h.0 e.0 b e.1 (path_number e.0 b B e.2 y) where
           ids_has : (xs : List ClassId) (k : ℕ) (x y : ClassId) → slice_get xs k ≡ Some x → x ≡ y → Contains xs y
           ids_has [] k x y a e = absurd (cc a)

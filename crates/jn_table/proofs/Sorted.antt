@@ -44,8 +44,8 @@ one_place c irr xs o i j x a b = elim (cases_lt i j) [
 ]
 
 -- and the places are ordered as the things are
-pub place_below : {A : Type 0} (c : A → A → Ordering) → ((x : A) → c x x ≡ Less → ⊥) → ((x y z : A) → c x y ≡ Less
-    → c y z ≡ Less → c x z ≡ Less)
+pub place_below : {A : Type 0} (c : A → A → Ordering) → ((x : A) → c x x ≡ Less → ⊥)
+    → ((x y z : A) → c x y ≡ Less → c y z ≡ Less → c x z ≡ Less)
     → (xs : List A) → InOrder c xs → (i j : ℕ) (x y : A) → slice_get xs i ≡ Some x → slice_get xs j ≡ Some y
     → c x y ≡ Less → i < j
 place_below {A} c irr trans xs o i j x y a b l = elim (cases_lt i j) [
@@ -54,7 +54,7 @@ place_below {A} c irr trans xs o i j x y a b l = elim (cases_lt i j) [
     | inl above ↦ absurd (irr x (trans x y x l (o.by j i y x above b a)))
     | inr same ↦
         let e : x ≡ y = same_some (slice_get xs i) x y a
-            (subst (λ (k : ℕ). slice_get xs k ≡ Some y) (let h : j ≡ i = omega (arith, past, same) in h) b) in
+        (subst (λ (k : ℕ). slice_get xs k ≡ Some y) (let h : j ≡ i = omega (arith, past, same) in h) b) in
         absurd (irr y (subst (λ (z : A). c z y ≡ Less) e l))
   ]
 ]

@@ -57,12 +57,12 @@ some_kind p (C ∷ P) h =
     )
 
 -- no more than a universe may have
-pub not_over : (p : Program) (paths : List Path) → InOrder (class_cmp p) paths → ((R : Path) → InUniverse p R
-    → Contains paths R) → length paths ≤ 4096
+pub not_over : (p : Program) (paths : List Path) → InOrder (class_cmp p) paths
+    → ((R : Path) → InUniverse p R → Contains paths R) → length paths ≤ 4096
     → NoneIs (IsOver p)
 not_over p paths o has few R over =
     let l = no_longer p paths (over.earlier ++ R ∷ []) (sorted (class_cmp p) (over.earlier ++ R ∷ []) longer)
-        (sorted (class_cmp p) paths o) within in
+    (sorted (class_cmp p) paths o) within in
     let n = length-append over.earlier (R ∷ []) in
     omega (arith, l, n, over.count, few)
   where
@@ -97,17 +97,23 @@ module _ (p : Program) (es : List Entry) (u : Universe) (f : FitUniverse u) (is 
   cycle_to k R at c =
       let s = numbers.sound k k R at c in
       let same : s.0 ≡ R = same_some (slice_get u.nodes.paths.items k) s.0 R s.1 at in
-      let t = s.2 in
-      (placed p es u f is k R at, record { next = t.between; direct = t.first; back = subst (Sup p t.between) same
-      (sup_chain p t.between s.0 t.rest) })
+      let t = s.2 in (
+        placed p es u f is k R at,
+        record {
+          next = t.between;
+          direct = t.first;
+          back = subst (Sup p t.between) same
+              (sup_chain p t.between s.0 t.rest);
+        },
+      )
 
   cycle_from : (k : ℕ) (R : Path) → slice_get u.nodes.paths.items k ≡ Some R → IsCycle p R → CycleAt u k
   cycle_from k R at c =
       let o = c.1 in
       let s = numbers.complete k R R at
-          (record { between = o.next; first = o.direct; rest = chain_sup p o.next R o.back }) in
+      (record { between = o.next; first = o.direct; rest = chain_sup p o.next R o.back }) in
       let same = one_place (class_cmp p) (before_irreflexive p) u.nodes.paths.items
-          (places p es u f is) s.0 k R s.1 at in
+      (places p es u f is) s.0 k R s.1 at in
       subst (λ (j : ℕ). Steps (HasEdge u.nodes.direct.items) k j) same s.2
 
   mixed_to : (k : ℕ) (R : Path) → slice_get u.nodes.paths.items k ≡ Some R → TwoKindsAt u k → IsMixed p R
@@ -142,7 +148,7 @@ module _ (p : Program) (es : List Entry) (u : Universe) (f : FitUniverse u) (is 
     first = λ Q s b.
         let k = place p es u f is Q (inside Q s) in
         let l = place_below (class_cmp p) (before_irreflexive p) (before_chain p) u.nodes.paths.items
-            (places p es u f is) k.0 t.number Q R k.1 t.at b in
+        (places p es u f is) k.0 t.number Q R k.1 t.at b in
         t.first k.0 l (from k.0 Q k.1 s);
   }
 

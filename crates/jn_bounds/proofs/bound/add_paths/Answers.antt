@@ -17,7 +17,7 @@ loop-id-preserved c = λ paths each.
           let path = w.in-Some.path.now in
           let found = w.in-Some.ensures.lookup in
           let at : slice_get known id.0 ≡ Some path = slice_get_read known
-              (length known) id.0 path refl found.3.0 found.1 in
+          (length known) id.0 path refl found.3.0 found.1 in
           let put : c.match-get.all.items ≡ c.loop-id.all.items ++ reverse path.names ∷ [] =
           cc (w.all-is, w.in_ok-push-in-Some.ensures.items, w.in_ok-bound-in-Some.ensures, w.as_slice.ensures) in
           add_one known ids paths c.args.all.now.items c.loop-id.all.items c.match-get.all.items i id path here each at (c.loop-id.invariant paths each) put

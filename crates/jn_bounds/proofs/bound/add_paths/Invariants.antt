@@ -7,4 +7,4 @@ use Rattle.jn_bounds.proofs.bound.add_paths.Given as goal
 abbrev pub invariant-loop-id : goal.invariant-loop-id
 invariant-loop-id l =
     (paths : List Path) → Each (λ S id. IsNumber l.known id S) paths l.ids
-        → l.all.items ≡ l.fn.all.items ++ take l.id-index paths
+    → l.all.items ≡ l.fn.all.items ++ take l.id-index paths

@@ -10,7 +10,7 @@ index-requires c =
     let l : c.args.room - 1 < length c.in_ok-members.members.items =
     omega (arith, c.if-len-room.true, c.len.ensures, c.in_ok-members.members.ok.0, c.requires.some) in
     let w = All_here (λ (m : Child). m.up < length c.args.level.now.paths.items) _ _ _ l c.index-last.ensures
-        (front_within _ _ _ _ _ _ c.in_ok-members.ensures) in
+    (front_within _ _ _ _ _ _ c.in_ok-members.ensures) in
     omega (arith, w, c.args.level.now.paths.ok.0)
 
 pub returns-then-len-room : goal.returns-then-len-room
@@ -18,7 +18,7 @@ returns-then-len-room c =
     let l : c.args.room - 1 < length c.in_ok-members.members.items =
     omega (arith, c.if-len-room.true, c.len.ensures, c.in_ok-members.members.ok.0, c.requires.some) in
     let w = All_here (λ (m : Child). m.up < length c.args.level.now.paths.items) _ _ _ l c.index-last.ensures
-        (front_within _ _ _ _ _ _ c.in_ok-members.ensures) in
+    (front_within _ _ _ _ _ _ c.in_ok-members.ensures) in
     record {
       children = c.in_ok-members.members.items;
       front = c.in_ok-members.ensures;

@@ -11,7 +11,7 @@ returns-in_err-judged-clause-err c =
 pub returns-in_err-rows-clause-err : goal.returns-in_err-rows-clause-err
 returns-in_err-rows-clause-err c =
     let p = err_from_is_err_and c.from_residual-in_err-rows.result c.from_residual-in_err-rows.ensures.1 in rw
-        (p.1, p.2) (λ q of. memory)
+    (p.1, p.2) (λ q of. memory)
 
 pub returns-clause-ok : goal.returns-clause-ok
 returns-clause-ok c =

@@ -23,7 +23,7 @@ returns-in-Some-clause-err c =
 pub returns-in_err-path-2-clause-err : goal.returns-in_err-path-2-clause-err
 returns-in_err-path-2-clause-err c =
     let p = err_from_is_err_and c.from_residual-in_err-path-2.result c.from_residual-in_err-path-2.ensures.1 in rw
-        (p.1, p.2) memory_at
+    (p.1, p.2) memory_at
 
 pub returns-in-Some-first_mixed-clause-err : goal.returns-in-Some-first_mixed-clause-err
 returns-in-Some-first_mixed-clause-err c =

@@ -14,7 +14,7 @@ parts-requires-clause-inside c =
 pub parts-requires-clause-numbers : goal.parts-requires-clause-numbers
 parts-requires-clause-numbers c =
     let ls : c.args.heir.now.up < length c.args.level.now.sups.items = omega
-        (arith, c.requires.heir, c.requires.shaped.sups) in
+    (arith, c.requires.heir, c.requires.shaped.sups) in
     rw c.deref.ensures.value
     (subst (λ (k : ℕ). All (λ (j : ℕ). j < k) c.index-sups.result.now.items)
     (sym (insides_long c.args.entries.now c.args.level.now.paths.items c.args.inside.now c.requires.inside))
@@ -26,9 +26,9 @@ pub returns : goal.returns
 returns c = record {
   row =
       let ld : c.args.heir.now.up < length c.args.level.now.direct.items = omega
-          (arith, c.requires.heir, c.requires.shaped.direct) in
+      (arith, c.requires.heir, c.requires.shaped.direct) in
       let ls : c.args.heir.now.up < length c.args.level.now.sups.items = omega
-          (arith, c.requires.heir, c.requires.shaped.sups) in
+      (arith, c.requires.heir, c.requires.shaped.sups) in
       row_from_tests _ _ _ _ c.index.result.now c.index-sups.result.now c.in_ok-written.written.items _
       (slice_get_read _ _ _ c.index.result.now refl ld c.index.ensures)
       (slice_get_read _ _ _ c.index-sups.result.now refl ls c.index-sups.ensures)

@@ -3,8 +3,12 @@ use Rattle.jn_table.proofs.level.root.Goals as goal
 
 pub returns-clause-exact : goal.returns-clause-exact
 returns-clause-exact c p =
-    root_level p (record { paths = c.push.new.self; direct = c.push-2.new.self; sups =
-    c.push-4.new.self }) c.new.result c.push-3.new.self
+    root_level p (record {
+      paths = c.push.new.self;
+      direct = c.push-2.new.self;
+      sups =
+          c.push-4.new.self;
+    }) c.new.result c.push-3.new.self
     c.new.ensures.items
     (rw c.new-own.ensures.items at c.in_ok-push-3.ensures.items)
     (rw (c.new-paths.ensures.items, c.root.ensures) at c.in_ok-push.ensures.items)
@@ -13,8 +17,12 @@ returns-clause-exact c p =
 
 pub returns-clause-shaped : goal.returns-clause-shaped
 returns-clause-shaped c =
-    root_shaped (record { paths = c.push.new.self; direct = c.push-2.new.self; sups =
-    c.push-4.new.self }) c.new.result c.push-3.new.self
+    root_shaped (record {
+      paths = c.push.new.self;
+      direct = c.push-2.new.self;
+      sups =
+          c.push-4.new.self;
+    }) c.new.result c.push-3.new.self
     c.new.ensures.items
     (rw c.new-own.ensures.items at c.in_ok-push-3.ensures.items)
     (rw (c.new-paths.ensures.items, c.root.ensures) at c.in_ok-push.ensures.items)

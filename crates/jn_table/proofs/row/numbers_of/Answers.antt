@@ -12,7 +12,7 @@ returns c =
     let n : c.args.number < length paths = c.requires.number in
     let s : c.args.number < length c.args.universe.now.sups.items = omega (arith, n, c.requires.fits.sups_long) in
     let d : c.args.number < length c.args.universe.now.nodes.direct.items = omega
-        (arith, n, c.requires.fits.nodes.long) in
+    (arith, n, c.requires.fits.nodes.long) in
     record {
       direct = λ below at. subst (λ (v : Vec ℕ Global). c.in_ok-direct.direct.items ≡ map class_id v.items)
           (same_Some _ _ (sym (slice_get_read _ _ _ c.index.result.now refl d c.index.ensures) ∙ at))

@@ -8,7 +8,7 @@ returns c =
     let n : c.args.number < length c.args.universe.now.nodes.paths.items = c.requires.number in
     let s : c.args.number < length c.args.universe.now.sups.items = omega (arith, n, c.requires.fits.sups_long) in
     let d : c.args.number < length c.args.universe.now.nodes.direct.items = omega
-        (arith, n, c.requires.fits.nodes.long) in
+    (arith, n, c.requires.fits.nodes.long) in
     let at_path = slice_get_read _ _ _ _ refl n c.index-path.ensures in
     let at_above = slice_get_read _ _ _ c.index-above.result.now refl s c.index-above.ensures in
     let below = slice_there _ _ d in

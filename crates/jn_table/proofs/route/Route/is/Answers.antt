@@ -7,5 +7,5 @@ returns c =
     rw (← c.self.view_is, ← c.other.view_is, ← c.as_slice.ensures, ← c.as_slice-2.ensures) (
       λ h. ap reverse (c.same_names.ensures.0 h),
       λ e. c.same_names.ensures.1 (sym (reverse-reverse c.as_slice.result.now) ∙ ap reverse e ∙
-      reverse-reverse c.as_slice-2.result.now),
+          reverse-reverse c.as_slice-2.result.now),
     )

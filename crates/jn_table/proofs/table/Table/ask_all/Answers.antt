@@ -12,18 +12,32 @@ returns-in_err-all-clause-err c =
 pub returns-clause-stays : goal.returns-clause-stays
 returns-clause-stays c p is =
     let f = filled_rows c.args.self.now _ _
-        (rw (c.as_slice.ensures, c.deref.ensures.value, c.deref-2.ensures.value) at c.in_ok-all.ensures.ok) p is in
-    record { named = is.named; texts = is.texts; entries = is.entries; order = is.order; rows = f.rows_are; asked =
-        inr (f.whole, f.passes) }
+    (rw (c.as_slice.ensures, c.deref.ensures.value, c.deref-2.ensures.value) at c.in_ok-all.ensures.ok) p is in
+    record {
+      named = is.named;
+      texts = is.texts;
+      entries = is.entries;
+      order = is.order;
+      rows = f.rows_are;
+      asked =
+          inr (f.whole, f.passes);
+    }
 
 pub returns-clause-ok : goal.returns-clause-ok
 returns-clause-ok c p is =
     let f = filled_rows c.args.self.now _ _
-        (rw (c.as_slice.ensures, c.deref.ensures.value, c.deref-2.ensures.value) at c.in_ok-all.ensures.ok) p is in
+    (rw (c.as_slice.ensures, c.deref.ensures.value, c.deref-2.ensures.value) at c.in_ok-all.ensures.ok) p is in
     record {
       filled = record {
-        table = record { named = is.named; texts = is.texts; entries = is.entries; order = is.order; rows =
-        f.rows_are; asked = inr (f.whole, f.passes) };
+        table = record {
+          named = is.named;
+          texts = is.texts;
+          entries = is.entries;
+          order = is.order;
+          rows =
+              f.rows_are;
+          asked = inr (f.whole, f.passes);
+        };
         whole = f.whole;
       };
       passes = f.passes;

@@ -11,8 +11,8 @@ pub returns : goal.returns
 returns c =
     let t = c.args.self.now in
     let at : slice_get t.known.items c.args.id.0 ≡ Some c.index.result.now = slice_get_read t.known.items
-        (length t.known.items) c.args.id.0 c.index.result.now refl
-        (omega (arith, c.requires, t.paired)) c.index.ensures in
+    (length t.known.items) c.args.id.0 c.index.result.now refl
+    (omega (arith, c.requires, t.paired)) c.index.ensures in
     IfOk-weaker c.names_at.result _ _
     (λ names h. says_fields t c.args.id c.index.result.now c.in_ok-path.path names.items at c.in_ok-path.ensures
     (λ D. subst (λ (es : List Entry). Contains names.items D ↔ OwnIn es c.in_ok-path.path part.Fields D) c.deref.ensures.value (h D)))
