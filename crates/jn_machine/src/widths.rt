@@ -2,10 +2,16 @@
 
 ghost use Rattle.std.specs.Prelude.{◌≡◌, ◌≤◌, ◌+◌, All, length};
 ghost use Rattle.jn_code.specs.Form.{InForm};
-ghost use Rattle.jn_code.specs.declared.image.Code.{Code};
 ghost use Rattle.jn_machine.specs.Calls.{IsWide, IsHigh};
 
-use jn_code::Image;
+use jn_code::{Code, Image};
+
+/// How many variables a code has.
+fn width_of(code: &Code) -> usize
+    ensures { result ≡ length code.now.params + length code.now.locals }
+{
+    code.params.as_slice().len() + code.locals.as_slice().len()
+}
 
 /// As many variables as the code with the most of them has.
 pub fn widest(image: &Image) -> usize
@@ -16,7 +22,7 @@ pub fn widest(image: &Image) -> usize
     let codes = image.codes.as_slice();
     let mut wide: usize = 0;
     for code in codes {
-        wide = wide.max(code.params.len() + code.locals.len());
+        wide = wide.max(width_of(code));
     }
     wide
 }

@@ -18,8 +18,7 @@ loop-code-preserved c =
     let count = (all_at CodeInForm i.codes k x is c.requires.codes).locals_count in
     let m = c.max-wide.ensures in
     let most = c.loop-code.invariant.most in
-    let a = c.len.ensures in
-    let b = c.len-in-loop-code.ensures in
+    let a = c.width_of.ensures in
     record {
       all = all_more (IsWide c.loop-code.wide) (IsWide c.max-wide.result) c.as_slice-codes.result.now k x (λ y p. omega arith) (omega arith) c.code-item.is (omega arith) c.loop-code.invariant.all;
       most = omega arith;
