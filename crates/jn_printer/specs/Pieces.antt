@@ -1,5 +1,6 @@
 -- Names, terms, views and types as they are written. A name or a text that the program has not prints nothing.
-use Rattle.std.specs.Prelude.{ℕ, Bool, true, false, List, [], ◌∷◌, ◌++◌, Option, Some, None, slice_get, codes}
+use Rattle.std.specs.Prelude.{ℕ, Bool, true, false, List, [], ◌∷◌, ◌++◌, codes}
+pub use Rattle.jn_base.specs.NameTexts.{bytes_of, name_text, text_if, joined, dotted}
 use Rattle.jn_base.specs.declared.tree.Text.{Text}
 use Rattle.jn_base.specs.declared.tree.Name.{Name}
 use Rattle.jn_base.specs.declared.tree.Named.{Named}
@@ -12,28 +13,8 @@ use Rattle.jn_base.specs.declared.tree.ViewTerm.{ViewTerm}
 use Rattle.jn_base.specs.declared.tree.TypeTerm.{TypeTerm}
 use Rattle.jn_base.specs.declared.tree.TypeTerm.TheVariants as type
 
-abbrev pub text_if : Bool → List ℕ → List ℕ
-text_if true text = text
-text_if false text = []
-
--- One behind the other with a separator between two, and where `later` says so also in front of the first.
-abbrev pub joined : {A : Type 0} → (A → List ℕ) → List ℕ → Bool → List A → List ℕ
-joined text separator later [] = []
-joined text separator later (x ∷ xs) = text_if later separator ++ (text x ++ joined text separator true xs)
-
-abbrev pub bytes_of : Option Text → List ℕ
-bytes_of None = []
-bytes_of (Some t) = t.bytes
-
-abbrev pub name_text : List Text → Name → List ℕ
-name_text ns x = bytes_of (slice_get ns x.0)
-
 abbrev pub named_text : List Text → Named → List ℕ
 named_text ns x = name_text ns x.name
-
--- A.B.C, behind something `.A.B.C`
-abbrev pub dotted : List Text → Bool → List Name → List ℕ
-dotted ns later path = joined (name_text ns) (codes ".") later path
 
 -- \f\g
 abbrev pub masks_text : List Text → List Named → List ℕ

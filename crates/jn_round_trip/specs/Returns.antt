@@ -3,7 +3,7 @@ use Rattle.std.specs.Prelude.{◌<◌, length}
 use Rattle.jn_base.specs.declared.tree.Program.{Program}
 use Rattle.jn_base.specs.Spelling.{greatest_source}
 use Rattle.jn_printer.specs.DeclText.{program_text}
-use Rattle.jn_printer.specs.Unplaced.{IsSameButForPlaces}
+use Rattle.jn_base.specs.Unplaced.{IsSameButForPlaces}
 use Rattle.jn_round_trip.specs.declared.Returned.{Returned}
 use Rattle.jn_round_trip.specs.declared.Returned.TheVariants.{Parsed, Refused, TooLong, Memory}
 

@@ -1,11 +1,7 @@
 //! The round trip: the canonical text of a program, parsed, is that program but for its places.
 #![tactic(auto)]
 
-ghost use Rattle.std.specs.Prelude.{◌≡◌, ◌≤◌, ◌<◌, length, IfOk};
-ghost use Rattle.jn_base.specs.Spelling.{greatest_source};
-ghost use Rattle.jn_printer.specs.DeclText.{program_text};
-ghost use Rattle.jn_printer.specs.Unplaced.{IsSameButForPlaces};
-ghost use Rattle.jn_printer.specs.WayBack.{IsWithinLimits};
+ghost use Rattle.jn_base.specs.WithinLimits.{IsWithinLimits};
 ghost use Rattle.jn_round_trip.specs.Returns.{ComesBack};
 
 use jn_base::refusal::Refusal;

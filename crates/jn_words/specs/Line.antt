@@ -1,5 +1,5 @@
 -- The line that tells a refusal.
-use Rattle.std.specs.Prelude.{ℕ, Bool, true, false, List, [], ◌∷◌, ◌++◌, Option, Some, None, codes, decimal}
+use Rattle.std.specs.Prelude.{ℕ, false, List, [], ◌++◌, Option, Some, None, codes, decimal}
 use Rattle.jn_base.specs.declared.tree.Text.{Text}
 use Rattle.jn_base.specs.declared.tree.Name.{Name}
 use Rattle.jn_base.specs.declared.tree.Place.{Place}
@@ -10,7 +10,7 @@ use Rattle.jn_base.specs.declared.refusal.Rule.{Rule}
 use Rattle.jn_base.specs.declared.refusal.Rule.TheVariants as rule
 use Rattle.jn_base.specs.declared.refusal.Limit.{Limit}
 use Rattle.jn_base.specs.Limits.{limit_word}
-use Rattle.jn_base.specs.NameTexts.{name_text}
+use Rattle.jn_base.specs.NameTexts.{name_text, dotted}
 
 -- The rule's number and its name.
 abbrev pub rule_text : Rule → List ℕ
@@ -50,15 +50,6 @@ place_text at = decimal at.line ++ (codes ":" ++ decimal at.column)
 abbrev pub names_of : Option Program → List Text
 names_of None = []
 names_of (Some p) = p.names
-
-abbrev pub dot_if : Bool → List ℕ
-dot_if true = codes "."
-dot_if false = []
-
--- A.B.C, behind something `.A.B.C`
-abbrev pub dotted : List Text → Bool → List Name → List ℕ
-dotted ns later [] = []
-dotted ns later (x ∷ xs) = dot_if later ++ (name_text ns x ++ dotted ns true xs)
 
 -- The class behind a space, where there is one.
 abbrev pub class_text : List Text → Option Path → List ℕ

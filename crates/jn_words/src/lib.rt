@@ -5,10 +5,10 @@
 //! place, and a line feed.
 #![tactic(auto)]
 
-ghost use Rattle.std.specs.Prelude.{◌≡◌, ◌++◌, decimal, false, option_copied, IfOk, OnOk};
+ghost use Rattle.std.specs.Prelude.{◌≡◌, ◌++◌, codes, decimal, false, option_copied, IfOk, OnOk};
 ghost use Rattle.jn_base.specs.Limits.{limit_word};
-ghost use Rattle.jn_base.specs.NameTexts.{name_text};
-ghost use Rattle.jn_words.specs.Line.{rule_text, place_text, names_of, dot_if, dotted, class_text, member_text, shown_text, line_of};
+ghost use Rattle.jn_base.specs.NameTexts.{name_text, text_if, dotted};
+ghost use Rattle.jn_words.specs.Line.{rule_text, place_text, names_of, class_text, member_text, shown_text, line_of};
 
 pub mod examples;
 
@@ -126,7 +126,7 @@ fn print_name(out: &mut Vec<u8>, names: &[Text], x: Name) -> Result<(), AllocErr
 }
 
 fn dot_if(out: &mut Vec<u8>, later: bool) -> Result<(), AllocError>
-    ensures { OnOk result (out.new.items ≡ out.old.items ++ dot_if later) }
+    ensures { OnOk result (out.new.items ≡ out.old.items ++ text_if later (codes ".")) }
 {
     if later {
         return put(out, b".");

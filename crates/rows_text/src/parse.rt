@@ -3,6 +3,7 @@ use jn_base::tree::{Member, Program, Stmt};
 use jn_cases::{Case, CasesFault, Tally, bytes_of};
 use jn_parser::{ParseFault, parse};
 use jn_printer::print_program;
+use jn_round_trip::{Returned, text_parsed};
 use jn_words::refusal_line;
 use std::alloc::Global;
 
@@ -86,11 +87,13 @@ fn text_row(
 ) -> Result<(), CasesFault> {
     let text = print_program(alloc, program)?;
     tally.bytes("text", wanted, text.as_slice())?;
-    match parsed(alloc, text.as_slice()) {
-        Err(_) => Ok(tally.fault("text", "the text is refused")?),
-        Ok(again) => {
+    match text_parsed(alloc, program) {
+        Returned::Parsed(again) => {
             let text = print_program(alloc, &again)?;
             Ok(tally.bytes("text of the text", wanted, text.as_slice())?)
         }
+        Returned::Memory => Err(CasesFault::Memory),
+        Returned::Refused(_) => Ok(tally.fault("text", "it is refused")?),
+        Returned::TooLong => Ok(tally.fault("text", "it is too long")?),
     }
 }

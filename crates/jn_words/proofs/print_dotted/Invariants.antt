@@ -1,5 +1,5 @@
 use Rattle.std.proofs.Common.{◌≡◌, ◌++◌, drop, false}
-use Rattle.jn_words.specs.Line.{dotted}
+use Rattle.jn_base.specs.NameTexts.{dotted}
 use Rattle.jn_words.proofs.print_dotted.Given as goal
 
 abbrev pub invariant-loop-x : goal.invariant-loop-x
