@@ -14,19 +14,19 @@ use Rattle.jn_base.specs.declared.tree.Program.{Program}
 use Rattle.jn_base.specs.Paths.{Path}
 use Rattle.jn_base.specs.ResolveTypes.{IsMask, MasksAre, IsFieldOfAny, MaskFits, FirstUnfit}
 use Rattle.jn_table.specs.Rows.{HasField}
-use Rattle.jn_names.specs.Masking.{name_of, seen_of, IsNamed}
+use Rattle.jn_names.specs.Masking.{name_of, seen_of, IsMaskNamed}
 use Rattle.jn_bounds.proofs.Turned.{at_place}
 use Rattle.jn_names.proofs.ScopedProof.{take_one, map_both}
 
 -- ---- names
 
-pub named_here : (ms : List Named) (i : ℕ) (m : Named) (n : Name) → i < length ms → m ≡ get_or ms i m → m.name ≡ n → IsNamed ms n
+pub named_here : (ms : List Named) (i : ℕ) (m : Named) (n : Name) → i < length ms → m ≡ get_or ms i m → m.name ≡ n → IsMaskNamed ms n
 named_here ms i m n l e h = (m, (i, l, sym e), h)
 
-pub named_none : (ms : List Named) (i : ℕ) (n : Name) → length ms ≤ i → NoneBefore (λ (m : Named). m.name ≡ n) ms i → IsNamed ms n → ⊥
+pub named_none : (ms : List Named) (i : ℕ) (n : Name) → length ms ≤ i → NoneBefore (λ (m : Named). m.name ≡ n) ms i → IsMaskNamed ms n → ⊥
 named_none ms i n past none h = none_all (λ (m : Named). m.name ≡ n) ms i past none (h.1.0, h.0, h.1.1, h.1.2, h.2)
 
-pub mask_named : (names : List Name) (ms : List Named) (i : ℕ) (n : Name) → slice_get names i ≡ Some n → IsNamed ms n ↔ IsMask names ms i
+pub mask_named : (names : List Name) (ms : List Named) (i : ℕ) (n : Name) → slice_get names i ≡ Some n → IsMaskNamed ms n ↔ IsMask names ms i
 mask_named names ms i n at = (
   λ h. record { mask = h.0; among = h.1; is = at ∙ ap Some (sym h.2) },
   λ k. (k.mask, k.among, let e : ◌≡◌ {A = Option Name} (Some n) (Some k.mask.name) = sym at ∙ k.is in cc),

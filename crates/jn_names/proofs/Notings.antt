@@ -10,6 +10,7 @@ use Rattle.jn_base.specs.Duplicates.{only_if, has_name}
 use Rattle.jn_base.specs.Forms.{Mentions, Shared, Adapted, Constrained, Viewed, Termed, Masked, all_of}
 use Rattle.jn_base.specs.ResolveTypes.{mentioned_masks, firsts}
 use Rattle.jn_names.specs.Noting.{added, adding, noted}
+use Rattle.jn_base.proofs.FormEquations.{at_expr, at_number, at_truth, at_null, at_this, at_variable, at_new, at_super, at_post, at_inverse, at_negative, at_view, at_chain, at_link, at_suffix, at_block, at_local, at_assign, at_set, at_do, at_if, at_while, at_return, at_print, at_text, at_inner, at_slot, at_body, at_decl}
 use Rattle.jn_base.proofs.NameTests.{same_name}
 use Rattle.jn_bounds.proofs.Turned.{at_index, at_place}
 
@@ -127,3 +128,21 @@ adding_firsts (n ∷ ns) xs seen h =
 pub noted_firsts : (ms : Mentions) → noted [] ms ≡ firsts [] (mentioned_masks ms)
 unfolding noted
 noted_firsts ms = adding_firsts (mentioned_masks ms) [] [] (λ n. refl)
+
+-- ---- the lemmas that the functions of the numbering share
+
+pub ruleset noting = (noted_none, noted_both, noted_term, noted_view, noted_constraint, noted_terms)
+
+pub ruleset expr_noted = (noting, at_expr)
+
+pub ruleset node_noted = (noting, at_number, at_truth, at_null, at_this, at_variable, at_new, at_super, at_post, at_inverse, at_negative, at_view, at_chain)
+
+pub ruleset link_noted = (noting, at_link)
+
+pub ruleset suffix_noted = (noting, at_suffix)
+
+pub ruleset stmt_noted = (noting, at_block, at_local, at_assign, at_set, at_do, at_if, at_while, at_return, at_print, at_text)
+
+pub ruleset member_noted = (noting, at_inner, at_slot, at_body)
+
+pub ruleset decl_noted = (noting, at_decl, noted_shared, noted_adapted)

@@ -11,5 +11,5 @@ abbrev pub seen_of : List Named → List Name
 seen_of ms = reverse (map name_of ms)
 
 -- one of the masks has the name
-abbrev pub IsNamed : List Named → Name → Type 0
-IsNamed ms n = (m : Named) × Contains ms m × (m.name ≡ n)
+abbrev pub IsMaskNamed : List Named → Name → Type 0
+IsMaskNamed ms n = (m : Named) × Contains ms m × (m.name ≡ n)

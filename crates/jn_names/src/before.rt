@@ -7,7 +7,7 @@ use jn_base::tree::{Name, Ref};
 use jn_base::types::Ty;
 
 /// What stands before `.class`: the path of this number; a name that is not in scope; or what is no path.
-#[derive(Clone, Copy, Debug, PartialEq, Eq)]
+#[derive(Clone, Copy)]
 pub enum Before {
     Path(u32),
     NotInScope(Name),

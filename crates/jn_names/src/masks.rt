@@ -5,7 +5,7 @@ ghost use Rattle.jn_base.specs.Duplicates.{has_name};
 ghost use Rattle.jn_base.specs.ResolveTypes.{IsMask, MasksAre, IsFieldOfAny, MaskFits, FirstUnfit};
 ghost use Rattle.jn_table.specs.Rows.{HasField};
 ghost use Rattle.jn_table.specs.Tables.{IsFilled};
-ghost use Rattle.jn_names.specs.Masking.{seen_of, IsNamed};
+ghost use Rattle.jn_names.specs.Masking.{seen_of, IsMaskNamed};
 
 use jn_base::compare::is_name;
 use jn_base::tree::{Name, Named};
@@ -15,7 +15,7 @@ use jn_table::Table;
 
 /// Whether one of the masks has the name.
 fn is_named(masks: &[Named], name: Name) -> bool
-    ensures { IsTrue result ↔ IsNamed masks.now name }
+    ensures { IsTrue result ↔ IsMaskNamed masks.now name }
 {
     for m in masks {
         if is_name(m.name, name) {

@@ -1,21 +1,17 @@
+//! The names of masks, by their first mention.
+#![tactic(auto, using(crate::proofs::Notings::noting))]
+
 ghost use Rattle.std.specs.Prelude.{◌≡◌, map, IfOk, OnOk};
 ghost use Rattle.jn_base.specs.Forms.{all_of, given, Masked, of_type, of_view, of_node, of_expr, of_link, of_suffix, of_stmt, of_param, of_constraint, of_method, of_member, of_decl};
-ghost use Rattle.jn_base.specs.Duplicates.{has_name};
 ghost use Rattle.jn_base.specs.ResolveTypes.{mask_names};
 ghost use Rattle.jn_names.specs.Noting.{added, noted};
 
+use jn_base::compare::has_name;
 use jn_base::tree::{
     Constraint, Decl, Expr, Link, Member, Method, Name, Named, Node, Param, Program, Stmt, Suffix,
     TypeTerm, ViewTerm,
 };
 use std::alloc::{AllocError, Global};
-
-/// Whether the name is in the list.
-fn has_name(names: &[Name], name: Name) -> bool
-    ensures { result ≡ has_name names.now name }
-{
-    names.iter().any(|other| other.0 == name.0)
-}
 
 /// The name behind the others, where it isn't there.
 fn note(out: &mut Vec<Name>, name: Name) -> Result<(), AllocError>
@@ -37,7 +33,6 @@ fn note_masks(out: &mut Vec<Name>, masks: &[Named]) -> Result<(), AllocError>
     Ok(())
 }
 
-#[tactic(auto, using(crate::proofs::Notings::noted_none, crate::proofs::Notings::noted_both, crate::proofs::Notings::noted_term, crate::proofs::Notings::noted_view, crate::proofs::Notings::noted_constraint, crate::proofs::Notings::noted_terms))]
 fn note_type(out: &mut Vec<Name>, ty: &TypeTerm) -> Result<(), AllocError>
     ensures { OnOk result (out.new.items ≡ noted out.old.items (of_type ty.now)) }
 {
@@ -48,7 +43,6 @@ fn note_type(out: &mut Vec<Name>, ty: &TypeTerm) -> Result<(), AllocError>
     }
 }
 
-#[tactic(auto, using(crate::proofs::Notings::noted_none, crate::proofs::Notings::noted_both, crate::proofs::Notings::noted_term, crate::proofs::Notings::noted_view, crate::proofs::Notings::noted_constraint, crate::proofs::Notings::noted_terms))]
 fn note_view(out: &mut Vec<Name>, view: &ViewTerm) -> Result<(), AllocError>
     ensures { OnOk result (out.new.items ≡ noted out.old.items (of_view view.now)) }
 {
@@ -56,7 +50,7 @@ fn note_view(out: &mut Vec<Name>, view: &ViewTerm) -> Result<(), AllocError>
 }
 
 #[cycle(expr_masks)]
-#[tactic(auto, using(crate::proofs::Notings::noted_none, crate::proofs::Notings::noted_both, crate::proofs::Notings::noted_term, crate::proofs::Notings::noted_view, crate::proofs::Notings::noted_constraint, crate::proofs::Notings::noted_terms, jn_base::proofs::FormEquations::at_expr))]
+#[tactic(auto, using(crate::proofs::Notings::expr_noted))]
 fn note_expr(out: &mut Vec<Name>, e: &Expr) -> Result<(), AllocError>
     ensures { OnOk result (out.new.items ≡ noted out.old.items (of_expr e.now)) }
 {
@@ -64,7 +58,7 @@ fn note_expr(out: &mut Vec<Name>, e: &Expr) -> Result<(), AllocError>
 }
 
 #[cycle(expr_masks)]
-#[tactic(auto, using(crate::proofs::Notings::noted_none, crate::proofs::Notings::noted_both, crate::proofs::Notings::noted_term, crate::proofs::Notings::noted_view, crate::proofs::Notings::noted_constraint, crate::proofs::Notings::noted_terms, jn_base::proofs::FormEquations::at_number, jn_base::proofs::FormEquations::at_truth, jn_base::proofs::FormEquations::at_null, jn_base::proofs::FormEquations::at_this, jn_base::proofs::FormEquations::at_variable, jn_base::proofs::FormEquations::at_new, jn_base::proofs::FormEquations::at_super, jn_base::proofs::FormEquations::at_post, jn_base::proofs::FormEquations::at_inverse, jn_base::proofs::FormEquations::at_negative, jn_base::proofs::FormEquations::at_view, jn_base::proofs::FormEquations::at_chain))]
+#[tactic(auto, using(crate::proofs::Notings::node_noted))]
 fn note_node(out: &mut Vec<Name>, node: &Node) -> Result<(), AllocError>
     ensures { OnOk result (out.new.items ≡ noted out.old.items (of_node node.now)) }
 {
@@ -94,7 +88,6 @@ fn note_node(out: &mut Vec<Name>, node: &Node) -> Result<(), AllocError>
 }
 
 #[cycle(expr_masks)]
-#[tactic(auto, using(crate::proofs::Notings::noted_none, crate::proofs::Notings::noted_both, crate::proofs::Notings::noted_term, crate::proofs::Notings::noted_view, crate::proofs::Notings::noted_constraint, crate::proofs::Notings::noted_terms))]
 fn note_exprs(out: &mut Vec<Name>, es: &[Expr]) -> Result<(), AllocError>
     ensures { OnOk result (out.new.items ≡ noted out.old.items (all_of (map of_expr es.now))) }
 {
@@ -105,7 +98,7 @@ fn note_exprs(out: &mut Vec<Name>, es: &[Expr]) -> Result<(), AllocError>
 }
 
 #[cycle(expr_masks)]
-#[tactic(auto, using(crate::proofs::Notings::noted_none, crate::proofs::Notings::noted_both, crate::proofs::Notings::noted_term, crate::proofs::Notings::noted_view, crate::proofs::Notings::noted_constraint, crate::proofs::Notings::noted_terms, jn_base::proofs::FormEquations::at_link))]
+#[tactic(auto, using(crate::proofs::Notings::link_noted))]
 fn note_links(out: &mut Vec<Name>, links: &[Link]) -> Result<(), AllocError>
     ensures { OnOk result (out.new.items ≡ noted out.old.items (all_of (map of_link links.now))) }
 {
@@ -116,7 +109,7 @@ fn note_links(out: &mut Vec<Name>, links: &[Link]) -> Result<(), AllocError>
 }
 
 #[cycle(expr_masks)]
-#[tactic(auto, using(crate::proofs::Notings::noted_none, crate::proofs::Notings::noted_both, crate::proofs::Notings::noted_term, crate::proofs::Notings::noted_view, crate::proofs::Notings::noted_constraint, crate::proofs::Notings::noted_terms, jn_base::proofs::FormEquations::at_suffix))]
+#[tactic(auto, using(crate::proofs::Notings::suffix_noted))]
 fn note_suffix(out: &mut Vec<Name>, s: &Suffix) -> Result<(), AllocError>
     ensures { OnOk result (out.new.items ≡ noted out.old.items (of_suffix s.now)) }
 {
@@ -127,7 +120,6 @@ fn note_suffix(out: &mut Vec<Name>, s: &Suffix) -> Result<(), AllocError>
 }
 
 #[cycle(expr_masks)]
-#[tactic(auto, using(crate::proofs::Notings::noted_none, crate::proofs::Notings::noted_both, crate::proofs::Notings::noted_term, crate::proofs::Notings::noted_view, crate::proofs::Notings::noted_constraint, crate::proofs::Notings::noted_terms))]
 fn note_suffixes(out: &mut Vec<Name>, suffixes: &[Suffix]) -> Result<(), AllocError>
     ensures { OnOk result (out.new.items ≡ noted out.old.items (all_of (map of_suffix suffixes.now))) }
 {
@@ -137,7 +129,6 @@ fn note_suffixes(out: &mut Vec<Name>, suffixes: &[Suffix]) -> Result<(), AllocEr
     Ok(())
 }
 
-#[tactic(auto, using(crate::proofs::Notings::noted_none, crate::proofs::Notings::noted_both, crate::proofs::Notings::noted_term, crate::proofs::Notings::noted_view, crate::proofs::Notings::noted_constraint, crate::proofs::Notings::noted_terms))]
 fn note_given(out: &mut Vec<Name>, e: &Option<Expr>) -> Result<(), AllocError>
     ensures { OnOk result (out.new.items ≡ noted out.old.items (given of_expr e.now)) }
 {
@@ -148,7 +139,7 @@ fn note_given(out: &mut Vec<Name>, e: &Option<Expr>) -> Result<(), AllocError>
 }
 
 #[cycle(stmt_masks)]
-#[tactic(auto, using(crate::proofs::Notings::noted_none, crate::proofs::Notings::noted_both, crate::proofs::Notings::noted_term, crate::proofs::Notings::noted_view, crate::proofs::Notings::noted_constraint, crate::proofs::Notings::noted_terms, jn_base::proofs::FormEquations::at_block, jn_base::proofs::FormEquations::at_local, jn_base::proofs::FormEquations::at_assign, jn_base::proofs::FormEquations::at_set, jn_base::proofs::FormEquations::at_do, jn_base::proofs::FormEquations::at_if, jn_base::proofs::FormEquations::at_while, jn_base::proofs::FormEquations::at_return, jn_base::proofs::FormEquations::at_print, jn_base::proofs::FormEquations::at_text))]
+#[tactic(auto, using(crate::proofs::Notings::stmt_noted))]
 fn note_stmt(out: &mut Vec<Name>, s: &Stmt) -> Result<(), AllocError>
     ensures { OnOk result (out.new.items ≡ noted out.old.items (of_stmt s.now)) }
 {
@@ -180,7 +171,6 @@ fn note_stmt(out: &mut Vec<Name>, s: &Stmt) -> Result<(), AllocError>
 }
 
 #[cycle(stmt_masks)]
-#[tactic(auto, using(crate::proofs::Notings::noted_none, crate::proofs::Notings::noted_both, crate::proofs::Notings::noted_term, crate::proofs::Notings::noted_view, crate::proofs::Notings::noted_constraint, crate::proofs::Notings::noted_terms))]
 fn note_body(out: &mut Vec<Name>, body: &[Stmt]) -> Result<(), AllocError>
     ensures { OnOk result (out.new.items ≡ noted out.old.items (all_of (map of_stmt body.now))) }
 {
@@ -190,7 +180,6 @@ fn note_body(out: &mut Vec<Name>, body: &[Stmt]) -> Result<(), AllocError>
     Ok(())
 }
 
-#[tactic(auto, using(crate::proofs::Notings::noted_none, crate::proofs::Notings::noted_both, crate::proofs::Notings::noted_term, crate::proofs::Notings::noted_view, crate::proofs::Notings::noted_constraint, crate::proofs::Notings::noted_terms))]
 fn note_params(out: &mut Vec<Name>, params: &[Param]) -> Result<(), AllocError>
     ensures { OnOk result (out.new.items ≡ noted out.old.items (all_of (map of_param params.now))) }
 {
@@ -200,7 +189,6 @@ fn note_params(out: &mut Vec<Name>, params: &[Param]) -> Result<(), AllocError>
     Ok(())
 }
 
-#[tactic(auto, using(crate::proofs::Notings::noted_none, crate::proofs::Notings::noted_both, crate::proofs::Notings::noted_term, crate::proofs::Notings::noted_view, crate::proofs::Notings::noted_constraint, crate::proofs::Notings::noted_terms))]
 fn note_constraint(out: &mut Vec<Name>, c: &Constraint) -> Result<(), AllocError>
     ensures { OnOk result (out.new.items ≡ noted out.old.items (of_constraint c.now)) }
 {
@@ -208,7 +196,6 @@ fn note_constraint(out: &mut Vec<Name>, c: &Constraint) -> Result<(), AllocError
     note_view(out, &c.to)
 }
 
-#[tactic(auto, using(crate::proofs::Notings::noted_none, crate::proofs::Notings::noted_both, crate::proofs::Notings::noted_term, crate::proofs::Notings::noted_view, crate::proofs::Notings::noted_constraint, crate::proofs::Notings::noted_terms))]
 fn note_constraints(out: &mut Vec<Name>, constraints: &[Constraint]) -> Result<(), AllocError>
     ensures { OnOk result (out.new.items ≡ noted out.old.items (all_of (map of_constraint constraints.now))) }
 {
@@ -218,7 +205,6 @@ fn note_constraints(out: &mut Vec<Name>, constraints: &[Constraint]) -> Result<(
     Ok(())
 }
 
-#[tactic(auto, using(crate::proofs::Notings::noted_none, crate::proofs::Notings::noted_both, crate::proofs::Notings::noted_term, crate::proofs::Notings::noted_view, crate::proofs::Notings::noted_constraint, crate::proofs::Notings::noted_terms))]
 fn note_result(out: &mut Vec<Name>, ty: &Option<TypeTerm>) -> Result<(), AllocError>
     ensures { OnOk result (out.new.items ≡ noted out.old.items (given of_type ty.now)) }
 {
@@ -228,7 +214,6 @@ fn note_result(out: &mut Vec<Name>, ty: &Option<TypeTerm>) -> Result<(), AllocEr
     }
 }
 
-#[tactic(auto, using(crate::proofs::Notings::noted_none, crate::proofs::Notings::noted_both, crate::proofs::Notings::noted_term, crate::proofs::Notings::noted_view, crate::proofs::Notings::noted_constraint, crate::proofs::Notings::noted_terms))]
 fn note_method(out: &mut Vec<Name>, m: &Method) -> Result<(), AllocError>
     ensures { OnOk result (out.new.items ≡ noted out.old.items (of_method m.now)) }
 {
@@ -239,7 +224,7 @@ fn note_method(out: &mut Vec<Name>, m: &Method) -> Result<(), AllocError>
 }
 
 #[cycle(decl_masks)]
-#[tactic(auto, using(crate::proofs::Notings::noted_none, crate::proofs::Notings::noted_both, crate::proofs::Notings::noted_term, crate::proofs::Notings::noted_view, crate::proofs::Notings::noted_constraint, crate::proofs::Notings::noted_terms, jn_base::proofs::FormEquations::at_inner, jn_base::proofs::FormEquations::at_slot, jn_base::proofs::FormEquations::at_body))]
+#[tactic(auto, using(crate::proofs::Notings::member_noted))]
 fn note_member(out: &mut Vec<Name>, m: &Member) -> Result<(), AllocError>
     ensures { OnOk result (out.new.items ≡ noted out.old.items (of_member m.now)) }
 {
@@ -251,7 +236,7 @@ fn note_member(out: &mut Vec<Name>, m: &Member) -> Result<(), AllocError>
 }
 
 #[cycle(decl_masks)]
-#[tactic(auto, using(crate::proofs::Notings::noted_none, crate::proofs::Notings::noted_both, crate::proofs::Notings::noted_term, crate::proofs::Notings::noted_view, crate::proofs::Notings::noted_constraint, crate::proofs::Notings::noted_terms, jn_base::proofs::FormEquations::at_decl, crate::proofs::Notings::noted_shared, crate::proofs::Notings::noted_adapted))]
+#[tactic(auto, using(crate::proofs::Notings::decl_noted))]
 fn note_decl(out: &mut Vec<Name>, d: &Decl) -> Result<(), AllocError>
     ensures { OnOk result (out.new.items ≡ noted out.old.items (of_decl d.now)) }
 {
@@ -259,7 +244,6 @@ fn note_decl(out: &mut Vec<Name>, d: &Decl) -> Result<(), AllocError>
 }
 
 #[cycle(decl_masks)]
-#[tactic(auto, using(crate::proofs::Notings::noted_none, crate::proofs::Notings::noted_both, crate::proofs::Notings::noted_term, crate::proofs::Notings::noted_view, crate::proofs::Notings::noted_constraint, crate::proofs::Notings::noted_terms))]
 fn note_members(out: &mut Vec<Name>, members: &[Member]) -> Result<(), AllocError>
     ensures { OnOk result (out.new.items ≡ noted out.old.items (all_of (map of_member members.now))) }
 {
@@ -269,7 +253,6 @@ fn note_members(out: &mut Vec<Name>, members: &[Member]) -> Result<(), AllocErro
     Ok(())
 }
 
-#[tactic(auto, using(crate::proofs::Notings::noted_none, crate::proofs::Notings::noted_both, crate::proofs::Notings::noted_term, crate::proofs::Notings::noted_view, crate::proofs::Notings::noted_constraint, crate::proofs::Notings::noted_terms))]
 fn note_decls(out: &mut Vec<Name>, decls: &[Decl]) -> Result<(), AllocError>
     ensures { OnOk result (out.new.items ≡ noted out.old.items (all_of (map of_decl decls.now))) }
 {

@@ -10,7 +10,7 @@ use jn_table::Table;
 use std::alloc::{AllocError, Global};
 
 /// Where names are found: with so many last names of the class taken off, or the first one that is unknown.
-#[derive(Clone, Copy, Debug, PartialEq, Eq)]
+#[derive(Clone, Copy)]
 pub enum Found {
     Without(usize),
     Unknown(Name),

@@ -3,8 +3,9 @@
 use crate::reading::{Question, read_name, read_number, split};
 use crate::shown::{path_text, put_path, said, some, word_of};
 use crate::world::World;
+use jn_base::compare::{has_name, is_name, same_names};
 use jn_base::tree::Text;
-use jn_bounds::{Bound, has, is_name, same};
+use jn_bounds::Bound;
 use std::alloc::{AllocError, Global};
 
 /// The answer to a question on paths, known or not:
@@ -12,7 +13,7 @@ use std::alloc::{AllocError, Global};
 /// - `is_known P`, `is_class P`, `has_number P`, `has_field P f`: `yes` or `no`; `is_below P Q R ..`: one for each of Q, R ..
 /// - `supers P`: the supers, in their order.
 /// - `depth P`, `without P k`: how many names it has, and the path without so many last ones.
-/// - `is P Q`, `same_names P Q`, `has P n`, `is_name m n`: of paths, of lists of names, of a name in a list, of names.
+/// - `is P Q`, `same_names P Q`, `has_name P n`, `is_name m n`: of paths, of lists of names, of a name in a list, of names.
 pub fn answer(
     alloc: Global,
     world: &World,
@@ -39,8 +40,8 @@ fn of_names(
         "depth" => some(depth_text(alloc, names, asked.rest)),
         "without" => some(without_text(alloc, names, asked.rest)),
         "is" => some(is_text(alloc, names, asked.rest)),
-        "same_names" => some(same_text(alloc, names, asked.rest)),
-        "has" => some(has_text(alloc, names, asked.rest)),
+        "same_names" => some(same_names_text(alloc, names, asked.rest)),
+        "has_name" => some(has_name_text(alloc, names, asked.rest)),
         "is_name" => some(is_name_text(alloc, names, asked.rest)),
         _ => Ok(None),
     }
@@ -134,17 +135,17 @@ fn is_text(alloc: Global, names: &[Text], text: &str) -> Result<String, AllocErr
     said(alloc, path.is(&other))
 }
 
-fn same_text(alloc: Global, names: &[Text], text: &str) -> Result<String, AllocError> {
+fn same_names_text(alloc: Global, names: &[Text], text: &str) -> Result<String, AllocError> {
     let (first, second) = split(text);
     let path = bound_of(alloc, names, first)?;
     let other = bound_of(alloc, names, second)?;
-    said(alloc, same(path.names(), other.names()))
+    said(alloc, same_names(path.names(), other.names()))
 }
 
-fn has_text(alloc: Global, names: &[Text], text: &str) -> Result<String, AllocError> {
+fn has_name_text(alloc: Global, names: &[Text], text: &str) -> Result<String, AllocError> {
     let (first, second) = split(text);
     let path = bound_of(alloc, names, first)?;
-    said(alloc, has(path.names(), read_name(names, second)))
+    said(alloc, has_name(path.names(), read_name(names, second)))
 }
 
 fn is_name_text(alloc: Global, names: &[Text], text: &str) -> Result<String, AllocError> {

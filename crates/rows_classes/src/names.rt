@@ -1,5 +1,7 @@
 //! Questions on what names stand for.
 
+ghost use Rattle.std.specs.Prelude.{◌<◌, vec_len};
+
 use crate::reading::{Question, read_name, split};
 use crate::setting::{Setting, newest, spot_of};
 use crate::shown::{atom_text, name_of, names_text, refusal_text, some, type_text};
@@ -119,12 +121,24 @@ fn of_variable(
     let variables = setting.variables.as_slice();
     match newest(variables, name) {
         None => String::from_str(alloc, "there is no such variable"),
-        Some(at) => {
-            let typing = typing_of(alloc, setting, table, &variables[..at])?;
-            let ty = variables[at].ty;
-            of_written(alloc, setting, table, role, &typing.vars, ty, term_alone)
-        }
+        Some(at) => of_place(alloc, setting, table, role, at, term_alone),
     }
+}
+
+fn of_place(
+    alloc: Global,
+    setting: &Setting<'_>,
+    table: &mut Table,
+    role: Role,
+    at: usize,
+    term_alone: bool,
+) -> Result<String, AllocError>
+    requires { at < vec_len setting.now.variables }
+{
+    let variables = setting.variables.as_slice();
+    let typing = typing_of(alloc, setting, table, &variables[..at])?;
+    let ty = variables[at].ty;
+    of_written(alloc, setting, table, role, &typing.vars, ty, term_alone)
 }
 
 fn of_written(

@@ -10,5 +10,5 @@ pub returns : goal.returns
 returns c =
     IfOk-weaker c.atoms_fit.result _ _
     (λ r h t. subst (λ (l : List Atom). AtomsFit (binds_in c.args.pool.now c.args.binds.now) l)
-    (ap (λ (l : List ShownAtom). map atom_of l) c.as_slice-moved.ensures.value ∙ c.in_ok-moved_atoms.ensures) (h t))
+    (ap (λ (l : List ShownAtom). map atom_of l) c.as_slice.ensures ∙ c.in_ok-moved.ensures) (h t))
     c.atoms_fit.ensures
