@@ -1,5 +1,5 @@
 -- The headers of a program, and a program, have one verdict.
-use Rattle.std.proofs.Common.{◌⊎◌, inl, inr, ◌≡◌, ℕ, List, [], ◌∷◌, refl, sym, ap, ◌∙◌, subst}
+use Rattle.std.proofs.Common.{◌≡◌, List, [], ◌∷◌, refl, sym, ap, ◌∙◌, subst}
 use Rattle.std.specs.Prelude.{Result, Ok, Err}
 use Rattle.jn_base.specs.declared.tree.Name.{Name}
 use Rattle.jn_base.specs.declared.tree.Place.{Place}
@@ -15,8 +15,6 @@ use Rattle.jn_base.specs.Members.{IsHome}
 use Rattle.jn_base.specs.Duplicates.{duplicates, IsFirstDuplicate}
 use Rattle.jn_base.specs.TableRules.{NoneIs, IsOver, IsCycle, IsMixed, HasUnknown, TableRefuses, too_many, cycle, two_kinds, unknown, TablePasses, DeclarationsPass, DeclarationsRefuse, twice as declared_twice, table as declared}
 use Rattle.jn_base.proofs.TableLaws.{one_home, universe_named, refused_or_passed, one_declarations_refusal}
-use Rattle.jn_base.specs.Spelling.{IsTextRefused, IsTextOf}
-use Rattle.jn_base.proofs.SpelledNames.{spelled_is_named}
 use Rattle.jn_base.proofs.Homes.{home_of}
 use Rattle.jn_base.proofs.Reaching.{declared_in_universe}
 use Rattle.jn_sem.specs.Holds.{IsFirstName}
@@ -26,13 +24,13 @@ use Rattle.jn_rules.specs.Questions.{Gives, HasMethod}
 use Rattle.jn_rules.specs.Headers.{header_plan}
 use Rattle.jn_rules.specs.Stmts.{body_plan}
 use Rattle.jn_rules.specs.Members.{of_member, BadMethod, no_least, other_signature, MethodRefused, conflict, override, BadField, ConstructorPasses, ConstructorRefused, at_body, at_home, NoName, HasBad, bad_method, bad_field, bad_constructor, BadClass, ClassRefused, method, field, constructor, TooManyEntries, TooManySlots, over_limit, SharingFails, FailsFor, FailsAt}
-use Rattle.jn_rules.specs.Verdict.{TypesPass, MembersPass, LimitsPass, HeadersPass, HeadersRefuse, table, headers, members, entries, slots, constraints, HeadersVerdict, HasMain, BodiesPass, TreePasses, TreeRefuses, twice, headers as of_headers, bodies, main, TreeVerdict, Verdict, of_text, of_tree}
+use Rattle.jn_rules.specs.Verdict.{TypesPass, MembersPass, LimitsPass, HeadersPass, HeadersRefuse, table, headers, members, entries, slots, constraints, HeadersVerdict, HasMain, BodiesPass, TreePasses, TreeRefuses, twice, headers as of_headers, bodies, main, TreeVerdict}
 use Rattle.jn_rules.proofs.PlanLaws.{plan_one, plan_there}
 use Rattle.jn_laws.specs.Surely.{Surely}
 use Rattle.jn_laws.proofs.Declarations.{field_names, method_names, method_named, field_named}
 use Rattle.jn_laws.proofs.Universes.{first_path, first_name}
 use Rattle.jn_base.specs.ProgramNames.{IsNamed}
-use Rattle.jn_rule_laws.specs.LawsOfRules.{OneVerdict, OneText}
+use Rattle.jn_rule_laws.specs.LawsOfRules.{OneVerdict}
 use Rattle.jn_rule_laws.proofs.Firsts.{IsKnown, first_name_once, first_path_once}
 use Rattle.jn_rule_laws.proofs.RepliesOne.{body_once, constructor_once, replies_one}
 use Rattle.jn_rule_laws.proofs.ResolveThere.{by_cases}
@@ -383,23 +381,3 @@ module _ (p : Program) (its : IsNamed p) where
 
   pub one_tree : OneVerdict (TreeVerdict p)
   one_tree = record { one = tree_once; there = by_duplicates (duplicates p) refl }
-
--- ---- a source
-
-module _ (bytes : List ℕ) (text : OneText bytes) where
-  named : (p : Program) → IsTextOf p bytes → IsNamed p
-  named p t = spelled_is_named p bytes t.spelled
-
-  source_once : (a b : Answer) → Verdict bytes a → Verdict bytes b → a ≡ b
-  source_once a b (of_text r h e) (of_text s k f) = e ∙ ap refusing (text.refusal r s h k) ∙ sym f
-  source_once a b (of_text r h e) (of_tree p t v) = absurd (t.not_refused r h)
-  source_once a b (of_tree p t v) (of_text r h e) = absurd (t.not_refused r h)
-  source_once a b (of_tree p t v) (of_tree q u w) =
-      (one_tree q (named q u)).one a b (subst (λ (x : Program). TreeVerdict x a) (text.program p q t u) v) w
-
-  by_text : ((r : Refusal) × IsTextRefused bytes r) ⊎ ((p : Program) × IsTextOf p bytes) → Surely ((a : Answer) × Verdict bytes a)
-  by_text (inl r) deny = deny (Err r.0, of_text r.0 r.1 refl)
-  by_text (inr p) deny = (one_tree p.0 (named p.0 p.1)).there (λ a. deny (a.0, of_tree p.0 p.1 a.1))
-
-  pub one_source : OneVerdict (Verdict bytes)
-  one_source = record { one = source_once; there = λ deny. text.there (λ t. by_text t deny) }

@@ -1,13 +1,12 @@
 -- That each question has one reply, each plan one answer, and each program one verdict.
-use Rattle.std.specs.Prelude.{◌≡◌, ◌⊎◌, ℕ, List, [], Result}
+use Rattle.std.specs.Prelude.{◌≡◌, List, [], Result}
 use Rattle.jn_base.specs.declared.tree.Program.{Program}
 use Rattle.jn_base.specs.declared.refusal.Refusal.{Refusal}
-use Rattle.jn_base.specs.Spelling.{IsTextRefused, IsTextOf}
 use Rattle.jn_base.specs.Duplicates.{duplicates}
 use Rattle.jn_base.specs.TableRules.{DeclarationsPass}
 use Rattle.jn_rules.specs.Plans.{Query, Reply, Mark, Plan, Nothing}
 use Rattle.jn_rules.specs.Questions.{Means, Gives, Notes}
-use Rattle.jn_rules.specs.Verdict.{HeadersVerdict, TreeVerdict, Verdict}
+use Rattle.jn_rules.specs.Verdict.{HeadersVerdict, TreeVerdict}
 use Rattle.jn_laws.specs.Surely.{Surely}
 use Rattle.jn_base.specs.ProgramNames.{IsNamed}
 
@@ -44,14 +43,3 @@ HeadersHaveOneVerdict = (p : Program) → duplicates p ≡ [] → IsNamed p → 
 -- of a program
 abbrev pub TreesHaveOneVerdict : Type 0
 TreesHaveOneVerdict = (p : Program) → IsNamed p → OneVerdict (TreeVerdict p)
-
--- What is asked of a source's text: it is refused in one way at most, it is the text of one program at most, and
--- surely one of these is so.
-pub record OneText (bytes : List ℕ) : Type 0 where
-  pub refusal : (r s : Refusal) → IsTextRefused bytes r → IsTextRefused bytes s → r ≡ s
-  pub program : (p q : Program) → IsTextOf p bytes → IsTextOf q bytes → p ≡ q
-  pub there : Surely (((r : Refusal) × IsTextRefused bytes r) ⊎ ((p : Program) × IsTextOf p bytes))
-
--- of a source
-abbrev pub SourcesHaveOneVerdict : Type 0
-SourcesHaveOneVerdict = (bytes : List ℕ) → OneText bytes → OneVerdict (Verdict bytes)

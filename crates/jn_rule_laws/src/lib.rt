@@ -2,7 +2,7 @@
 #![tactic(auto)]
 
 ghost use Rattle.jn_rule_laws.specs.LawsOfHeaders.{HeadersAreTheMeanings, HeadersGrant, HeadersThatPass};
-ghost use Rattle.jn_rule_laws.specs.LawsOfRules.{QuestionsHaveReplies, QuestionsHaveOneReply, PlansGive, PlansHaveOneOutcome, HeadersHaveOneVerdict, TreesHaveOneVerdict, SourcesHaveOneVerdict};
+ghost use Rattle.jn_rule_laws.specs.LawsOfRules.{QuestionsHaveReplies, QuestionsHaveOneReply, PlansGive, PlansHaveOneOutcome, HeadersHaveOneVerdict, TreesHaveOneVerdict};
 
 /// Each question surely has a reply.
 pub fn questions_have_replies()
@@ -47,9 +47,4 @@ pub fn headers_grant()
 /// Where the headers of a program pass, each method has a header, each constraint resolves, and each field has a type.
 pub fn headers_that_pass()
     ensures { HeadersThatPass }
-{}
-
-/// A source is accepted or has one refusal, never both, and surely one of these is so, where its text has one outcome.
-pub fn sources_have_one_verdict()
-    ensures { SourcesHaveOneVerdict }
 {}

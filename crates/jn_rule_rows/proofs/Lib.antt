@@ -3,3 +3,5 @@ pub mod OneVerdict
 pub mod MainRows
 pub mod OtherRows
 pub mod NameRows
+pub mod SharingProof
+pub mod MoreProof

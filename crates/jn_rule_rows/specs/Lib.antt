@@ -1,2 +1,4 @@
 pub mod OneMain
 pub mod Rows
+pub mod SharingRows
+pub mod MoreRows

@@ -1,7 +1,11 @@
 //! Worked rows of the rules of refusal: small programs with their verdicts, and single forms with what is refused of them.
 #![tactic(auto)]
 
+ghost use Rattle.jn_rule_rows.specs.SharingRows.{SharingRows};
+ghost use Rattle.jn_rule_rows.specs.MoreRows.{MoreMemberRows, SourceRows};
 ghost use Rattle.jn_rule_rows.specs.Rows.{FormsRefused, MainRows, MemberRows, NameRows, TableRows, TypesRefused};
+
+use jn_sem_rows::sharing_examples::at_an_heir;
 
 /// Programs of one class with one method: two that are accepted, and one for each of E06, E16, E17, E18 and E24.
 pub fn main_rows()
@@ -31,4 +35,21 @@ pub fn type_rows()
 /// What is refused of forms in any program: E12, E19, E20, E23, E25.
 pub fn form_rows()
     ensures { FormsRefused }
+{}
+
+/// A view change that is refused as E20, with the class that has no counterpart.
+pub fn sharing_rows()
+    ensures { SharingRows }
+{
+    at_an_heir();
+}
+
+/// What is refused of members: E10 and E11.
+pub fn more_member_rows()
+    ensures { MoreMemberRows }
+{}
+
+/// What is refused of a source's bytes: E02 and E03.
+pub fn source_rows()
+    ensures { SourceRows }
 {}
