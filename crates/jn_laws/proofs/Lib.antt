@@ -17,3 +17,4 @@ pub mod SpelledForms
 pub mod CleanTexts
 pub mod SpelledBodies
 pub mod FewLocals
+pub mod PlacesAside

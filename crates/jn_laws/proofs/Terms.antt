@@ -170,13 +170,14 @@ module _ (p : Program) (sp : Spot) (vs : Vars) (t : Term) where
   pub record TermCase (y : ShownAtom) : Type 0 where
     pub anchor : AnchorCase sp vs t.head y.anchor
     pub class : IsOfClass p sp.role (bound_at sp vs y)
+    pub suits : suits sp.role y ≡ true
 
   class_given : (x y : ShownAtom) → ClassGives p sp t (bound_at sp vs x) x (Ok y) → (y ≡ x) × IsOfClass p sp.role (bound_at sp vs x)
   class_given x y (no_class n e) = absurd (not_both y _ e)
   class_given x y (in_class n e) = (same_ok y x e, n)
 
-  suit_given : (b : Bool) (x y : ShownAtom) → SuitGives p sp vs t x b (Ok y) → (y ≡ x) × IsOfClass p sp.role (bound_at sp vs x)
-  suit_given true x y g = class_given x y g
+  suit_given : (b : Bool) (x y : ShownAtom) → SuitGives p sp vs t x b (Ok y) → (y ≡ x) × IsOfClass p sp.role (bound_at sp vs x) × (b ≡ true)
+  suit_given true x y g = let c = class_given x y g in (c.0, c.1, refl)
   suit_given false x y g = absurd (not_both y _ g)
 
   atom_given : (r : Result Anchor Refusal) (y : ShownAtom) → AnchorGiven p sp vs t t.head r → AtomGives p sp vs t r (Ok y) → TermCase y
@@ -184,6 +185,7 @@ module _ (p : Program) (sp : Spot) (vs : Vars) (t : Term) where
       let h = suit_given (suits sp.role (atom_with a t)) (atom_with a t) y e in record {
         anchor = subst (AnchorCase sp vs t.head) (sym (ap (λ (x : ShownAtom). x.anchor) h.0)) (anchor_case t.head a g);
         class = subst (λ (x : ShownAtom). IsOfClass p sp.role (bound_at sp vs x)) (sym h.0) h.1;
+        suits = ap (suits sp.role) h.0 ∙ h.2;
       }
   atom_given (Err r) y g e = absurd (not_both y r e)
 

@@ -1,7 +1,7 @@
 -- What is known of a type that resolves, and of its normal form.
 use Rattle.std.proofs.Common.{◌≡◌, ◌<◌, ◌≤◌, ◌+◌, ◌-◌, ℕ, List, [], ◌∷◌, ◌++◌, length, map, Option, Some, None, Bool, true, false, refl, sym, ap, ◌∙◌, subst, ◌⊎◌, inl, inr, arith}
 use Rattle.std.specs.Prelude.{Result, Ok, Err, reverse, Contains}
-use Rattle.std.proofs.lemmas.List.{append-nil, reverse-reverse, reverse-append, map-append}
+use Rattle.std.proofs.lemmas.List.{length-append, length-reverse, append-nil, reverse-reverse, reverse-append, map-append}
 use Rattle.jn_base.specs.declared.tree.Name.{Name}
 use Rattle.jn_base.specs.declared.tree.Named.{Named}
 use Rattle.jn_base.specs.declared.tree.Term.{Term}
@@ -25,10 +25,14 @@ use Rattle.jn_base.specs.declared.refusal.Refusal.{Refusal}
 use Rattle.jn_base.specs.Paths.{Path}
 use Rattle.jn_base.specs.Universe.{InUniverse}
 use Rattle.jn_base.specs.Members.{HasKind}
-use Rattle.jn_base.specs.Atoms.{Atom, atoms_in, atom_of, shown_atom, lifted, Among, first, later}
+use Rattle.jn_base.specs.Atoms.{Atom, atom_at, anchor_at, atoms_in, atom_of, shown_atom, lifted, Among, first, later}
 use Rattle.jn_base.specs.Scopes.{Bind, Scope, bound, Binds, this_atom, this_bind}
 use Rattle.jn_base.specs.Fits.{Anchored, AtomsFit, TypeFits, BindsFit}
-use Rattle.jn_base.specs.Resolve.{var_bind, class_of, IsOfClass, bound_at, this_alone}
+use Rattle.std.proofs.lemmas.Bool.{ltb-true}
+use Rattle.jn_sem.specs.Sets.{view_at, no_views}
+use Rattle.jn_sem.specs.Sharing.{family_of}
+use Rattle.jn_sem.specs.Holds.{target_family}
+use Rattle.jn_base.specs.Resolve.{has_exact, is_fixed, var_bind, class_of, IsOfClass, bound_at, this_alone}
 use Rattle.jn_base.specs.ResolveTypes.{mask_names, ResolveAll, none, refused, first as first_term, bounds_at, OneDepth, UnfitGives, MasksGive, may_mask, DepthsGive, many, one, AtomsGive, ResolveType, ResolveView, UnmaskedGives}
 use Rattle.jn_base.proofs.Reaching.{declared_in_universe}
 use Rattle.jn_sem.specs.Normal.{normal, rewritten, moved, same_path, NormalType}
@@ -40,7 +44,7 @@ use Rattle.jn_sem.proofs.NormalTypes.{map_among, moved_same, normal_fits}
 use Rattle.jn_sem.proofs.Levels.{normal_depth}
 use Rattle.jn_sem.proofs.Under.{bound_later, type_anchored, fits_whole}
 use Rattle.jn_laws.specs.LawsOfViews.{OfThis}
-use Rattle.jn_laws.specs.LawsOfWritten.{TypeWellFormed, Shallow, HeaderPath, of_this, of_param, HeaderPaths, IsWritten, site_with, scope_of, SiteFits, TypeThere, IsTypeRole, IsSide, WrittenTypes, ThisAlone}
+use Rattle.jn_laws.specs.LawsOfWritten.{TypeWellFormed, Shallow, HeaderPath, of_this, of_param, HeaderPaths, IsWritten, site_with, scope_of, SiteFits, TypeThere, IsTypeRole, IsSide, WrittenTypes, WrittenKinds, ThisAlone, TargetsHaveFamilies}
 use Rattle.jn_laws.proofs.Bounded.{heir_there}
 use Rattle.jn_laws.proofs.Lists.{among_left, among_map}
 use Rattle.jn_laws.proofs.Terms.{not_both, same_ok, reverse_among, Mentioned, this, variable, header_path, TermCase, term_case, case_path, anchored_case, var_among}
@@ -208,9 +212,9 @@ normal_path T (b ∷ s) h x own q k e = normal_path T s (λ c m. h c (later m)) 
 no_root : (q k : ℕ) → Root ≡ Up q k → ⊥
 no_root q k e = cc
 
-scope_paths : (p : Program) (at : Site) → SiteFits p at → (b : Bind) → Among (scope_of at) b → (z : Atom) → Among (atoms_in b.ty) z
+scope_paths : (at : Site) → ((v : Var) → Among at.vars v → HeaderPaths at.vars v.ty) → (b : Bind) → Among (scope_of at) b → (z : Atom) → Among (atoms_in b.ty) z
     → (q k : ℕ) → z.anchor ≡ Up q k → HeaderPath at.vars q
-scope_paths p at ok b m z n q k e = in_it (reverse_among (this_bind (class_of (spot_at at role.Value)) ∷ map var_bind at.vars) b m) n where
+scope_paths at own b m z n q k e = in_it (reverse_among (this_bind (class_of (spot_at at role.Value)) ∷ map var_bind at.vars) b m) n where
   in_this : (c : Bind) → c ≡ this_bind (class_of (spot_at at role.Value)) → Among (atoms_in c.ty) z → HeaderPath at.vars q
   in_this c i n = alone (subst (λ (d : Bind). Among (atoms_in d.ty) z) i n) where
     alone : Among (atoms_in (this_bind (class_of (spot_at at role.Value))).ty) z → HeaderPath at.vars q
@@ -225,16 +229,38 @@ scope_paths p at ok b m z n q k e = in_it (reverse_among (this_bind (class_of (s
     at_bind (inl i) = in_this b i n
     at_bind (inr o) =
         let v = map_among var_bind at.vars b o in
-        ok.paths v.0 v.1 z q k (subst (λ (c : Bind). Among (atoms_in c.ty) z) (sym v.2) n) e
+        own v.0 v.1 z q k (subst (λ (c : Bind). Among (atoms_in c.ty) z) (sym v.2) n) e
+
+written_kept : (s : Scope) (t u : Ty) → IsWritten t → NormalType s t u → IsWritten u
+written_kept s (ty.Class xs m) (ty.Class ys n) w i = tt
+written_kept s (ty.Class xs m) ty.Int w i = tt
+written_kept s (ty.Class xs m) ty.Bool w i = tt
+written_kept s (ty.Class xs m) ty.Null w i = i
+written_kept s (ty.Class xs m) ty.Void w i = i
+written_kept s ty.Int u w i = subst IsWritten (sym i) tt
+written_kept s ty.Bool u w i = subst IsWritten (sym i) tt
+written_kept s ty.Null u w i = absurd w
+written_kept s ty.Void u w i = absurd w
+
+normal_from : (s : Scope) (t u : Ty) → NormalType s t u → (x : Atom) → Among (atoms_in u) x → (y : Atom) × Among (atoms_in t) y × (x ≡ normal s (moved same_path y))
+normal_from s (ty.Class xs m) (ty.Class ys n) i x a = i.0.only x a
+normal_from s (ty.Class xs m) ty.Int i x a = absurd i
+normal_from s (ty.Class xs m) ty.Bool i x a = absurd i
+normal_from s (ty.Class xs m) ty.Null i x a = absurd i
+normal_from s (ty.Class xs m) ty.Void i x a = absurd i
+normal_from s ty.Int u i x a = elim (subst (λ (z : Ty). Among (atoms_in z) x) i a) [ ]
+normal_from s ty.Bool u i x a = elim (subst (λ (z : Ty). Among (atoms_in z) x) i a) [ ]
+normal_from s ty.Null u i x a = elim (subst (λ (z : Ty). Among (atoms_in z) x) i a) [ ]
+normal_from s ty.Void u i x a = elim (subst (λ (z : Ty). Among (atoms_in z) x) i a) [ ]
 
 -- a type that is there stays so in normal form
 module _ (p : Program) (at : Site) (ok : SiteFits p at) where
   normal_there : (t u : Ty) → TypeThere at t → NormalType (scope_of at) t u → TypeThere at u
   normal_there t u h n = record {
-    written = written t u h.written n;
+    written = written_kept (scope_of at) t u h.written n;
     fits = normal_fits (scope_of at) t u ok.binds h.fits n;
-    named = λ x m. let o = from t u n x m in long x o.0 o.2 (type_anchored h.fits o.0 o.1) (h.named o.0 o.1);
-    paths = λ x q k m e. let o = from t u n x m in path x o.0 o.2 (λ r j i. h.paths o.0 r j o.1 i) q k e;
+    named = λ x m. let o = normal_from (scope_of at) t u n x m in long x o.0 o.2 (type_anchored h.fits o.0 o.1) (h.named o.0 o.1);
+    paths = λ x q k m e. let o = normal_from (scope_of at) t u n x m in path x o.0 o.2 (λ r j i. h.paths o.0 r j o.1 i) q k e;
   } where
     long : (x y : Atom) → x ≡ normal (scope_of at) (moved same_path y) → Anchored (scope_of at) y.anchor → 0 < length (bound (scope_of at) y)
         → 0 < length (bound (scope_of at) x)
@@ -248,33 +274,7 @@ module _ (p : Program) (at : Site) (ok : SiteFits p at) where
         → (q k : ℕ) → x.anchor ≡ Up q k → HeaderPath at.vars q
     path x y e own q k i =
         let e' : x.anchor ≡ (normal (scope_of at) y).anchor = ap (λ (z : Atom). z.anchor) (e ∙ ap (normal (scope_of at)) (moved_same y)) in
-        normal_path (HeaderPath at.vars) (scope_of at) (scope_paths p at ok) y own q k (sym e' ∙ i)
-
-    written : (t u : Ty) → IsWritten t → NormalType (scope_of at) t u → IsWritten u
-    written (ty.Class xs m) (ty.Class ys n) w i = tt
-    written (ty.Class xs m) ty.Int w i = tt
-    written (ty.Class xs m) ty.Bool w i = tt
-    written (ty.Class xs m) ty.Null w i = i
-    written (ty.Class xs m) ty.Void w i = i
-    written ty.Int u w i = subst IsWritten (sym i) tt
-    written ty.Bool u w i = subst IsWritten (sym i) tt
-    written ty.Null u w i = absurd w
-    written ty.Void u w i = absurd w
-
-    nothing : (u t : Ty) (x : Atom) → u ≡ t → Among (atoms_in u) x → Among (atoms_in t) x
-    nothing u t x e m = subst (λ (z : Ty). Among (atoms_in z) x) e m
-
-    from : (t u : Ty) → NormalType (scope_of at) t u → (x : Atom) → Among (atoms_in u) x
-        → (y : Atom) × Among (atoms_in t) y × (x ≡ normal (scope_of at) (moved same_path y))
-    from (ty.Class xs m) (ty.Class ys n) i x a = i.0.only x a
-    from (ty.Class xs m) ty.Int i x a = absurd i
-    from (ty.Class xs m) ty.Bool i x a = absurd i
-    from (ty.Class xs m) ty.Null i x a = absurd i
-    from (ty.Class xs m) ty.Void i x a = absurd i
-    from ty.Int u i x a = elim (nothing u ty.Int x i a) [ ]
-    from ty.Bool u i x a = elim (nothing u ty.Bool x i a) [ ]
-    from ty.Null u i x a = elim (nothing u ty.Null x i a) [ ]
-    from ty.Void u i x a = elim (nothing u ty.Void x i a) [ ]
+        normal_path (HeaderPath at.vars) (scope_of at) (scope_paths at ok.paths) y own q k (sym e' ∙ i)
 
 int_there : (at : Site) → TypeThere at ty.Int
 int_there at = record { written = tt; fits = record { atoms = λ i. absurd i }; named = λ x m. elim m [ ]; paths = λ x q k m e. elim m [ ] }
@@ -438,4 +438,54 @@ this_is_alone p = record {
       of_this_alone x.anchor (λ q k e. alone_path role.Field [] q refl (case_path _ _ y.0.head y.1.anchor q k y.2.anchor (sym (ap (λ (z : Atom). z.anchor) y.3) ∙ e)));
   in_constraint = λ r at t u x i g m. let y = view_cases p (spot_at at r) (vars_at at) (mask_names p) t u x g m in
       of_this_alone x.anchor (λ q k e. alone_path r at.vars q (side_alone r i) (case_path _ _ y.0.head y.1.anchor q k y.2.anchor (sym (ap (λ (z : Atom). z.anchor) y.3) ∙ e)));
+}
+
+-- ---- targets
+
+long_family : (P : Path) → 0 < length P → (Y : Name) × (family_of P ≡ Some Y)
+long_family [] l = absurd (omega (arith, l))
+long_family (X ∷ []) l = (X, refl)
+long_family (C ∷ (D ∷ P)) l = long_family (D ∷ P) (omega arith)
+
+-- what suits such a role has a name where its anchor is Root
+fixed_long : (y : ShownAtom) (a : Anchor) → y.anchor ≡ a → is_fixed a (has_exact y) ≡ true → a ≡ Root → 0 < length y.exact
+fixed_long y Root e s i = ltb-true 0 (length y.exact) s
+fixed_long y (Up q k) e s i = absurd (no q k i) where
+  no : (q k : ℕ) → Up q k ≡ Root → ⊥
+  no q k i = cc
+
+target_there : (x : Atom) (y : ShownAtom) → x ≡ atom_of y → x.anchor ≡ Root → is_fixed y.anchor (has_exact y) ≡ true → (Y : Name) × (target_family x ≡ Some Y)
+target_there x y e r s =
+    let i : y.anchor ≡ Root = sym (ap (λ (z : Atom). z.anchor) e) ∙ r in
+    let l = fixed_long y y.anchor refl s i in
+    let n : length x.exact ≡ length y.exact = ap (λ (z : Atom). length z.exact) e ∙ length-reverse y.exact in
+    long_family (atom_at (view_at no_views) x)
+    (omega (arith, l, n, length-append x.names (x.exact ++ anchor_at (view_at no_views) x.anchor), length-append x.exact (anchor_at (view_at no_views) x.anchor)))
+
+pub targets_have_families : TargetsHaveFamilies
+targets_have_families p at t u x = record {
+  of_view = λ g m r. let y = view_cases p (spot_at at role.View) (vars_at at) (mask_names p) t u x g m in target_there x y.1 y.3 r y.2.suits;
+  of_side = λ g m r. let y = view_cases p (spot_at at role.To) (vars_at at) (mask_names p) t u x g m in target_there x y.1 y.3 r y.2.suits;
+}
+
+-- ---- whatever the program
+
+given_written : (p : Program) (sp : Spot) (vs : Vars) (names : List Name) (t : TypeTerm) (u : Ty) → ResolveType p names sp vs t (Ok u) → IsWritten u
+given_written p sp vs names type.Int u g = subst IsWritten (sym (same_ok u ty.Int g)) tt
+given_written p sp vs names type.Bool u g = subst IsWritten (sym (same_ok u ty.Bool g)) tt
+given_written p sp vs names (type.Class ts ms) u g = subst IsWritten (sym (class_case p sp vs names ts ms g.atoms u g.all g.gives).given.is) tt
+
+value_paths : (p : Program) (at : Site) (t : TypeTerm) (u : Ty) → ((v : Var) → Among at.vars v → HeaderPaths at.vars v.ty) → TypeIs p at t u → HeaderPaths at.vars u
+value_paths p at t u own g x q k m e =
+    let o = normal_from (scope_of at) g.given u g.normal x m in
+    let c = type_cases p (spot_at at role.Value) (vars_at at) (mask_names p) t g.given o.0 g.resolved o.1 in
+    let i : x.anchor ≡ (normal (scope_of at) o.0).anchor = ap (λ (z : Atom). z.anchor) (o.2 ∙ ap (normal (scope_of at)) (moved_same o.0)) in
+    normal_path (HeaderPath at.vars) (scope_of at) (scope_paths at own) o.0
+    (λ r j h. header_path role.Value at.vars r (case_path _ _ c.0.head c.1.anchor r j c.2.anchor (sym (ap (λ (z : Atom). z.anchor) c.3) ∙ h))) q k (sym i ∙ e)
+
+pub written_kinds : WrittenKinds
+written_kinds p = record {
+  of_value = λ at t u g. written_kept (scope_of at) g.given u (given_written p (spot_at at role.Value) (vars_at at) (mask_names p) t g.given g.resolved) g.normal;
+  of_field = λ Q f t u g. given_written p (spot_at (site_with Q f []) role.Field) (vars_at (site_with Q f [])) (mask_names p) t u g;
+  paths = value_paths p;
 }

@@ -1,5 +1,5 @@
 -- What is known of a type that is written in a program, and of the variables that are in scope where it stands.
-use Rattle.std.specs.Prelude.{◌≡◌, ◌<◌, ◌≤◌, ℕ, suc, List, [], ◌∷◌, ◌++◌, length, true, Ok}
+use Rattle.std.specs.Prelude.{◌≡◌, ◌<◌, ◌≤◌, ℕ, suc, List, [], ◌∷◌, ◌++◌, length, true, Some, Ok}
 use Rattle.jn_base.specs.declared.tree.Name.{Name}
 use Rattle.jn_base.specs.declared.tree.Param.{Param}
 use Rattle.jn_base.specs.declared.tree.Term.{Term}
@@ -7,7 +7,7 @@ use Rattle.jn_base.specs.declared.tree.TypeTerm.{TypeTerm}
 use Rattle.jn_base.specs.declared.tree.TypeTerm.TheVariants as type
 use Rattle.jn_base.specs.declared.tree.ViewTerm.{ViewTerm}
 use Rattle.jn_base.specs.declared.tree.Program.{Program}
-use Rattle.jn_base.specs.declared.types.Anchor.TheVariants.{Up}
+use Rattle.jn_base.specs.declared.types.Anchor.TheVariants.{Root, Up}
 use Rattle.jn_base.specs.declared.types.Ty.{Ty}
 use Rattle.jn_base.specs.declared.types.Ty.TheVariants as ty
 use Rattle.jn_base.specs.declared.names.Role.{Role}
@@ -20,6 +20,7 @@ use Rattle.jn_base.specs.Scopes.{Scope, bound, Binds}
 use Rattle.jn_base.specs.Fits.{Anchored, TypeFits, BindsFit}
 use Rattle.jn_base.specs.Resolve.{is_class, scope_at}
 use Rattle.jn_base.specs.ResolveTypes.{mask_names, ResolveView}
+use Rattle.jn_sem.specs.Holds.{target_family}
 use Rattle.jn_sem.specs.LawsOfSlots.{HeadNamed}
 use Rattle.jn_sem.specs.Terms.{Site, spot_at, vars_at, TypeIs, FieldTypeIs, TermIs}
 use Rattle.jn_sem.specs.Does.{Body, AreParams}
@@ -114,6 +115,16 @@ pub record WrittenOf (p : Program) : Type 0 where
 abbrev pub WrittenTypes : Type 0
 WrittenTypes = (p : Program) → Shallow p → WrittenOf p
 
+-- Whatever the program, no type that is written is void or that of null; and its paths are `this` and final variables of class
+-- type, where this is so of the variables in scope.
+pub record KindsOf (p : Program) : Type 0 where
+  pub of_value : (at : Site) (t : TypeTerm) (u : Ty) → TypeIs p at t u → IsWritten u
+  pub of_field : (Q : Path) (f : Name) (t : TypeTerm) (u : Ty) → FieldTypeIs p Q f t u → IsWritten u
+  pub paths : (at : Site) (t : TypeTerm) (u : Ty) → ((v : Var) → Among at.vars v → HeaderPaths at.vars v.ty) → TypeIs p at t u → HeaderPaths at.vars u
+
+abbrev pub WrittenKinds : Type 0
+WrittenKinds = (p : Program) → KindsOf p
+
 -- the two sides of a constraint
 abbrev pub IsSide : Role → Type 0
 IsSide role.From = Unit {0}
@@ -132,6 +143,18 @@ pub record ThisAloneOf (p : Program) : Type 0 where
 
 abbrev pub ThisAlone : Type 0
 ThisAlone = (p : Program) → ThisAloneOf p
+
+-- ---- targets
+
+-- The target of a view, and the right side of a constraint, has a family where its anchor is Root.
+pub record TargetsOf (p : Program) (at : Site) (t : ViewTerm) (u : Ty) (x : Atom) : Type 0 where
+  pub of_view : ResolveView p (mask_names p) (spot_at at role.View) (vars_at at) t (Ok u) → Among (atoms_in u) x → x.anchor ≡ Root
+      → (Y : Name) × (target_family x ≡ Some Y)
+  pub of_side : ResolveView p (mask_names p) (spot_at at role.To) (vars_at at) t (Ok u) → Among (atoms_in u) x → x.anchor ≡ Root
+      → (Y : Name) × (target_family x ≡ Some Y)
+
+abbrev pub TargetsHaveFamilies : Type 0
+TargetsHaveFamilies = (p : Program) (at : Site) (t : ViewTerm) (u : Ty) (x : Atom) → TargetsOf p at t u x
 
 -- ---- parameters
 

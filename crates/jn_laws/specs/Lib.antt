@@ -9,3 +9,4 @@ pub mod Reading
 pub mod LawsOfStores
 pub mod LawsOfSources
 pub mod LawsOfBodies
+pub mod LawsOfPlaces

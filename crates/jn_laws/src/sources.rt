@@ -1,4 +1,5 @@
 ghost use Rattle.jn_laws.specs.LawsOfBodies.{SourcesBodiesFormed, TextsHaveFewLocals};
+ghost use Rattle.jn_laws.specs.LawsOfPlaces.{ProgramsWithinLimits};
 ghost use Rattle.jn_laws.specs.LawsOfSources.{SourcesBracketsNamed, SourcesWellFormed, TextsKeepLimits};
 
 /// In a program that a source spells the types of headers have terms, with names before each bracket.
@@ -24,4 +25,9 @@ pub fn sources_bodies_formed()
 /// In a program whose source no limit refuses the parameters and locals of a body have paths below 216.
 pub fn texts_have_few_locals()
     ensures { TextsHaveFewLocals }
+{}
+
+/// A program within the limits has what a program has that a source spells.
+pub fn programs_within_limits()
+    ensures { ProgramsWithinLimits }
 {}

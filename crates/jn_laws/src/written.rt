@@ -1,4 +1,4 @@
-ghost use Rattle.jn_laws.specs.LawsOfWritten.{ParamsFit, ThisAlone, WrittenTypes};
+ghost use Rattle.jn_laws.specs.LawsOfWritten.{ParamsFit, TargetsHaveFamilies, ThisAlone, WrittenKinds, WrittenTypes};
 
 /// A type that is written fits the scope of its place, and mentions `this` and final variables of class type alone. None is void.
 pub fn written_types()
@@ -13,4 +13,14 @@ pub fn this_alone()
 /// Parameters have the paths 1, 2, and so on, and each one's type mentions those before it.
 pub fn params_fit()
     ensures { ParamsFit }
+{}
+
+/// The target of a view, and the right side of a constraint, has a family where its anchor is Root.
+pub fn targets_have_families()
+    ensures { TargetsHaveFamilies }
+{}
+
+/// Whatever the program, no type that is written is void, and it mentions `this` and final variables of class type alone.
+pub fn written_kinds()
+    ensures { WrittenKinds }
 {}
