@@ -29,7 +29,12 @@ pub fn run_files<R: Env + Files + Print + Alloc<A = Global>, W: Rows>(
 }
 
 /// What the tally says of the cases of a file.
-pub fn run_cases<W: Rows>(alloc: Global, file: &str, cases: &[Case], rows: &W) -> Result<String, AllocError> {
+pub fn run_cases<W: Rows>(
+    alloc: Global,
+    file: &str,
+    cases: &[Case],
+    rows: &W,
+) -> Result<String, AllocError> {
     let mut tally = Tally::new(alloc, file)?;
     for case in cases {
         tally.begin(case)?;

@@ -95,7 +95,7 @@ grows_push parts next after v r e l h all i n m a at = by_case (pushed_at next r
 
 pub refines_push : (p : Program) (t : Table) (parts next after : List ℕ) (v r : ℕ) → after ≡ next ++ r ∷ [] → length next ≡ v → v < length parts
     → ((V : Path) → IsAt t.known.items v V → IsClass p V → (n : ℕ) → slice_get parts v ≡ Some n
-      → (slice_get parts r ≡ Some n) × IsFirstLike p t.known.items (SamePart t.known.items parts) (λ j. slice_get parts j ≡ Some n) r V)
+    → (slice_get parts r ≡ Some n) × IsFirstLike p t.known.items (SamePart t.known.items parts) (λ j. slice_get parts j ≡ Some n) r V)
     → RefinesTo p t parts next v → RefinesTo p t parts after (v + 1)
 refines_push p t parts next after v r e l w h all k V b at c = by_case (cases_lt k v) where
   by_case : (k < v) ⊎ (v ≤ k) → Refines p t.known.items parts after k V

@@ -29,4 +29,3 @@ pub use atoms::{in_atom, in_type};
 pub use fault::ShareFault;
 pub use groups::Groups;
 pub use slots::Slots;
-

@@ -19,7 +19,7 @@ returns-in-None-family_of-clause-no c = λ _ types p V W asked ready m n one two
 pub returns-in-Some-family_of-clause-yes : goal.returns-in-Some-family_of-clause-yes
 returns-in-Some-family_of-clause-yes c = λ e types p V W asked ready m n one two h.
     let Y = its_family p c.args.t.now c.args.g.now types c.args.all.now asked ready c.deref-in-Some-at.result.now c.deref-in-Some-at.ensures.value c.args.w.0
-        c.in-Some-family_of.family.0 W n two c.in-Some-family_of.ensures.some in
+    c.in-Some-family_of.family.0 W n two c.in-Some-family_of.ensures.some in
     covered p c.args.t.now c.args.g.now types c.args.all.now asked ready c.deref.result.now c.deref.ensures.value c.args.v c.in-Some.own.now V W
     c.deref-in-Some.result.now c.deref-in-Some.ensures.value m one (sym c.in-Some.ensures) c.in-Some-at.among.now (sym c.in-Some-at.ensures) c.args.ty.now h
     c.args.parts.now c.deref-in-Some-family_of.result.now c.deref-in-Some-family_of.ensures.value
@@ -28,5 +28,5 @@ returns-in-Some-family_of-clause-yes c = λ e types p V W asked ready m n one tw
 pub returns-in-Some-family_of-clause-no : goal.returns-in-Some-family_of-clause-no
 returns-in-Some-family_of-clause-no c = λ e types p V W asked ready m n one two h.
     let Y = its_family p c.args.t.now c.args.g.now types c.args.all.now asked ready c.deref-in-Some-at.result.now c.deref-in-Some-at.ensures.value c.args.w.0
-        c.in-Some-family_of.family.0 W n two c.in-Some-family_of.ensures.some in
+    c.in-Some-family_of.family.0 W n two c.in-Some-family_of.ensures.some in
     c.covers_of.ensures.no e p V W Y.0 asked.filled asked.groups m n Y.1 Y.2

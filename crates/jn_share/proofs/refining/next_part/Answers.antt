@@ -20,5 +20,5 @@ returns-in-Some-clause-is c = λ p V asked ready here k n at.
     let m = its_members c.args.parts.now c.args.rows.now c.requires.rows c.args.v c.requires.within c.in-Some.among.now c.in-Some.ensures in (
       part_within c.args.parts.now c.deref.result.now c.in-Some.among.now.items c.args.v c.first_like.result n c.requires.within m c.deref.ensures.value c.first_like.ensures.among at,
       part_first p known (SamePart known c.args.parts.now) c.args.parts.now c.deref.result.now c.in-Some.among.now.items c.args.v c.first_like.result n V c.requires.within m
-      c.deref.ensures.value at (c.first_like.ensures.is p V asked ready here k),
+          c.deref.ensures.value at (c.first_like.ensures.is p V asked ready here k),
     )
