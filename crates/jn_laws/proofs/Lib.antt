@@ -17,4 +17,5 @@ pub mod SpelledForms
 pub mod CleanTexts
 pub mod SpelledBodies
 pub mod FewLocals
+pub mod BodiesAside
 pub mod PlacesAside

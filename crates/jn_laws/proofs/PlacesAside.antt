@@ -1,5 +1,5 @@
 -- A program that is spelled but for its places has what a spelled program has.
-use Rattle.std.proofs.Common.{◌≡◌, ◌<◌, ◌≤◌, suc, All, List, [], ◌∷◌, length, map, refl, sym, ap, ◌∙◌, subst, arith, Contains, Option, Some, None}
+use Rattle.std.proofs.Common.{ℕ, ◌≡◌, ◌<◌, ◌≤◌, suc, All, List, [], ◌∷◌, length, map, refl, sym, ap, ◌∙◌, subst, arith, Contains, Option, Some, None}
 use Rattle.jn_base.specs.declared.tree.Name.{Name}
 use Rattle.std.specs.Prelude.{slice_get}
 use Rattle.jn_base.specs.declared.tree.Named.{Named}
@@ -22,9 +22,10 @@ use Rattle.jn_base.specs.Universe.{InUniverse}
 use Rattle.jn_base.specs.Members.{FieldAt, MethodAt}
 use Rattle.jn_base.specs.Atoms.{Among}
 use Rattle.jn_base.specs.ProgramNames.{IsNamed}
-use Rattle.jn_base.specs.Unplaced.{unplaced_named, unplaced_term, unplaced_type, unplaced_param, unplaced_constraint, unplaced_field, unplaced_result, unplaced_method, unplaced_member, unplaced_decl, unplaced, member_step, decl_step}
+use Rattle.jn_base.specs.Unplaced.{unplaced_stmt, unplaced_named, unplaced_term, unplaced_type, unplaced_param, unplaced_constraint, unplaced_field, unplaced_result, unplaced_method, unplaced_member, unplaced_decl, unplaced, member_step, decl_step}
 use Rattle.jn_base.proofs.Reaching.{universe_depth, declared_in_universe}
 use Rattle.jn_base.proofs.SpelledNames.{spelled_is_named}
+use Rattle.jn_sem.specs.Acts.{path_behind}
 use Rattle.jn_sem.specs.LawsOfSlots.{HeadNamed}
 use Rattle.jn_sem.proofs.FindingLaws.{among_of, contains_of}
 use Rattle.jn_sem.proofs.NormalTypes.{map_among}
@@ -34,6 +35,9 @@ use Rattle.jn_laws.specs.LawsOfPlaces.{ProgramsWithinLimits}
 use Rattle.jn_laws.proofs.Lists.{among_map}
 use Rattle.jn_laws.proofs.SpelledForms.{sources_well_formed, type_named}
 use Rattle.jn_laws.proofs.CleanTexts.{texts_keep_limits}
+use Rattle.jn_laws.proofs.BodiesAside.{bodies_kept, locals_kept}
+use Rattle.jn_laws.proofs.SpelledBodies.{sources_bodies_formed}
+use Rattle.jn_laws.proofs.FewLocals.{texts_have_few_locals}
 
 -- ---- declarations, one level deep
 
@@ -282,6 +286,15 @@ programs_within_limits p i =
       brackets = λ Q f x at. type_named x.ty (w.fields Q f x at);
       limits = k;
       shallow = λ R u. short R (k.depth R u);
+      bodies = λ Q m x at. let o = method_origin i.spelled p i.same Q m x at in
+          bodies_kept o.method.body x.body (ap (λ (z : Method). z.body) o.is) type_kept (sources_bodies_formed i.spelled i.source i.is_text.spelled Q m o.method o.at);
+      locals = λ Q m x at. let o = method_origin i.spelled p i.same Q m x at in
+          few o.method x (ap (λ (z : Method). z.body) o.is) (param_count i.spelled p i.same o.method.params x.params (ap (λ (z : Method). z.params) o.is))
+          (texts_have_few_locals i.spelled i.source i.is_text Q m o.method o.at);
     } where
       short : (R : Path) → length R ≤ 8 → length R ≤ 255
       short R l = omega (arith, l)
+
+      few : (y x : Method) → map unplaced_stmt y.body ≡ map unplaced_stmt x.body → length y.params ≡ length x.params
+          → path_behind y.body (suc (length y.params)) ≤ 216 → path_behind x.body (suc (length x.params)) ≤ 216
+      few y x e n l = subst (λ (k : ℕ). k ≤ 216) (ap (λ (k : ℕ). path_behind y.body (suc k)) n ∙ sym (locals_kept y.body x.body e (suc (length x.params)))) l

@@ -26,7 +26,7 @@ use Rattle.jn_sem.specs.Terms.{Site, spot_at, vars_at, TypeIs, FieldTypeIs, Term
 use Rattle.jn_sem.specs.Does.{Body, AreParams}
 use Rattle.jn_laws.specs.LawsOfViews.{OfThis}
 
--- ---- premises that each program has that is read from a source
+-- ---- what each program has that is read from a source
 
 -- a class type has a term, and where a term has a bracket, names stand before it
 abbrev pub TypeWellFormed : TypeTerm → Type 0

@@ -1,4 +1,4 @@
--- Fields, methods and constructors of classes and of their heirs, where steps 4 to 7 of the verdict refuse nothing.
+-- Fields, methods and constructors of classes and of their heirs, where nothing is refused of headers and members.
 use Rattle.std.specs.Prelude.{◌≡◌, List, [], ◌∷◌}
 use Rattle.jn_base.specs.declared.tree.Name.{Name}
 use Rattle.jn_base.specs.declared.tree.Program.{Program}
