@@ -30,7 +30,7 @@ use Rattle.jn_laws.specs.Surely.{Surely}
 use Rattle.jn_laws.proofs.Declarations.{field_names, method_names, method_named, field_named}
 use Rattle.jn_laws.proofs.Universes.{first_path, first_name}
 use Rattle.jn_base.specs.ProgramNames.{IsNamed}
-use Rattle.jn_rule_laws.specs.LawsOfRules.{OneVerdict}
+use Rattle.jn_rule_laws.specs.LawsOfRules.{HasOneVerdict}
 use Rattle.jn_rule_laws.proofs.Firsts.{IsKnown, first_name_once, first_path_once}
 use Rattle.jn_rule_laws.proofs.RepliesOne.{body_once, constructor_once, replies_one}
 use Rattle.jn_rule_laws.proofs.ResolveThere.{by_cases}
@@ -309,7 +309,7 @@ module _ (p : Program) (once : duplicates p ≡ []) (its : IsNamed p) where
       at (Err r) g = refuse (r, headers t g)
       at (Ok x) g = by_members (record { table = t; headers = g })
 
-  pub one_headers : OneVerdict (HeadersVerdict p)
+  pub one_headers : HasOneVerdict (HeadersVerdict p)
   one_headers = record { one = headers_once; there = headers_there }
 
 -- ---- a program
@@ -379,5 +379,5 @@ module _ (p : Program) (its : IsNamed p) where
   by_duplicates [] e deny = (one_headers p e its).there (λ h. by_headers e h.0 h.1 deny)
   by_duplicates (r ∷ rs) e deny = deny (Err r, twice (record { others = rs; is = e }))
 
-  pub one_tree : OneVerdict (TreeVerdict p)
+  pub one_tree : HasOneVerdict (TreeVerdict p)
   one_tree = record { one = tree_once; there = by_duplicates (duplicates p) refl }

@@ -32,14 +32,14 @@ abbrev pub PlansHaveOneOutcome : Type 0 → Type 0
 PlansHaveOneOutcome A = (p : Program) → DeclarationsPass p → IsNamed p → (x : Plan A) → OneOutcome p x
 
 -- Of verdicts there is one at most, which is Ok or a refusal, and surely one.
-pub record OneVerdict (Is : Result Nothing Refusal → Type 0) : Type 0 where
+pub record HasOneVerdict (Is : Result Nothing Refusal → Type 0) : Type 0 where
   pub one : (a b : Result Nothing Refusal) → Is a → Is b → a ≡ b
   pub there : Surely ((a : Result Nothing Refusal) × Is a)
 
 -- of the headers of a program, where no name stands twice
 abbrev pub HeadersHaveOneVerdict : Type 0
-HeadersHaveOneVerdict = (p : Program) → duplicates p ≡ [] → IsNamed p → OneVerdict (HeadersVerdict p)
+HeadersHaveOneVerdict = (p : Program) → duplicates p ≡ [] → IsNamed p → HasOneVerdict (HeadersVerdict p)
 
 -- of a program
 abbrev pub TreesHaveOneVerdict : Type 0
-TreesHaveOneVerdict = (p : Program) → IsNamed p → OneVerdict (TreeVerdict p)
+TreesHaveOneVerdict = (p : Program) → IsNamed p → HasOneVerdict (TreeVerdict p)

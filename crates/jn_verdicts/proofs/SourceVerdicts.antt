@@ -11,7 +11,7 @@ use Rattle.jn_sources.proofs.Answered.{one_verdict}
 use Rattle.jn_rules.specs.Plans.{Nothing}
 use Rattle.jn_rules.specs.Verdict.{TreeVerdict, Verdict, of_text, of_tree}
 use Rattle.jn_laws.specs.Surely.{Surely}
-use Rattle.jn_rule_laws.specs.LawsOfRules.{OneVerdict}
+use Rattle.jn_rule_laws.specs.LawsOfRules.{HasOneVerdict}
 use Rattle.jn_rule_laws.proofs.Verdicts.{one_tree}
 
 abbrev Answer : Type 0
@@ -38,5 +38,5 @@ module _ (bytes : List ℕ) where
   by_text (inl p) deny = (one_tree p.0 (named p.0 p.1)).there (λ a. deny (a.0, of_tree p.0 p.1 a.1))
   by_text (inr r) deny = deny (Err r.0, of_text r.0 r.1 refl)
 
-  pub one_source : OneVerdict (Verdict bytes)
+  pub one_source : HasOneVerdict (Verdict bytes)
   one_source = record { one = source_once; there = λ deny. by_text text.answered deny }
