@@ -1,5 +1,5 @@
 -- A field with a condition, read.
-use Rattle.std.proofs.Common.{◌≡◌, ℕ, List, Bool, true, false, Ok, Err, length, sym, ap, ◌∙◌, subst}
+use Rattle.std.proofs.Common.{◌≡◌, ℕ, List, Bool, true, false, Ok, Err, length, ap, ◌∙◌}
 use Rattle.std.specs.Prelude.{if◌then◌else◌}
 use Rattle.jn_code.specs.SpellsFields.{Field, Reading, passing, ◌>>=◌}
 use Rattle.jn_code.specs.SpellsFields as spells

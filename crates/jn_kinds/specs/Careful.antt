@@ -1,5 +1,5 @@
--- The machine once more, with words that carry their kinds. At an operand of another kind than its instruction asks for it is
--- stuck, whatever a check of the code has said. A slot is read as what it holds.
+-- The machine once more, with words that carry their kinds. At an operand of another kind than its instruction asks
+-- for it is stuck, whatever a check of the code has said. A slot is read as what it holds.
 use Rattle.std.specs.Prelude.{ℕ, ◌+◌, List, [], ◌∷◌, ◌++◌, length, map, ℤ, Bool, true, false, not, Option, Some, None, slice_get, slice_set, nat_lt, nat_le, nat_eq, int_lt, int_le, if◌then◌else◌}
 use Rattle.std.specs.Option.{option_map}
 use Rattle.std.specs.Ordering.{int_eq}

@@ -21,8 +21,9 @@ abbrev pub IsNotStuck : Next CarefulMachine plain.Halt → Type 0
 IsNotStuck (On s) = Unit {0}
 IsNotStuck (End o bytes) = o ≢ plain.Stuck
 
--- With words that carry their kinds the run is the same, step for step, and is never stuck. So no instruction ever has an operand
--- of another kind, no slot is read as another kind than it holds, and no number is taken for a reference.
+-- With words that carry their kinds the run is the same, step for step, and is never stuck. So no instruction ever
+-- has an operand of another kind, no slot is read as another kind than it holds, and no number is taken for a
+-- reference.
 pub record KindsAreKept (i : Image) (capacity depth n : ℕ) : Type 0 where
   pub same : plain_next (after (instruct i capacity depth) n (boot i)) ≡ after (plain.instruct i capacity depth) n (plain.boot i)
   pub right : IsNotStuck (after (instruct i capacity depth) n (boot i))

@@ -9,14 +9,15 @@ ghost use Rattle.jn_kinds.specs.Kept.{KindsAreKept};
 
 use jn_code::Instr;
 
-/// In a valid image every word is used as what it is, in runs of any length, whatever the depth and the arena. It does nothing.
+/// In a valid image every word is used as what it is, in runs of any length, whatever the depth and the arena. It
+/// does nothing.
 pub fn kinds_are_kept()
     ensures { (i : Image) → InForm i → IsValid i → (capacity depth n : ℕ) → capacity < 4294967296 →
         KindsAreKept i capacity depth n }
 {}
 
-/// Worked rows of codes, of which not all are valid: a number is printed, null or a truth value is not printed as a number, and a
-/// slot that holds a truth value is not read as a number. It does nothing.
+/// Worked rows of codes, of which not all are valid: a number is printed, null or a truth value is not printed as a
+/// number, and a slot that holds a truth value is not read as a number. It does nothing.
 pub fn careful_rows()
     ensures number { ends (Instr.Int (pos 7) ∷ Instr.Printi ∷ Instr.Ret ∷ []) ≡ End Done (55 ∷ 10 ∷ []) }
     ensures reference { ends (Instr.Null ∷ Instr.Printi ∷ Instr.Ret ∷ []) ≡ End Stuck [] }

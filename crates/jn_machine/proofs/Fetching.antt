@@ -1,10 +1,10 @@
 -- The next instruction of a machine that goes on, and what it finds.
-use Rattle.std.proofs.Common.{◌≡◌, sym, ap, ◌∙◌, ℕ, suc, ◌+◌, ◌<◌, ◌≤◌, List, [], ◌∷◌, ◌++◌, length, map, ℤ, Bool, true, Option, Some, None, slice_get, arith, subst}
+use Rattle.std.proofs.Common.{◌≡◌, sym, ap, ℕ, suc, ◌+◌, ◌<◌, ◌≤◌, List, [], ◌∷◌, length, map, ℤ, Bool, Option, Some, None, slice_get, arith, subst}
 use Rattle.std.specs.Prelude.{All}
 use Rattle.std.proofs.lemmas.List.{append-nil}
 use Rattle.std.proofs.lemmas.List.Elements.{All-get_or}
 use Rattle.std.proofs.lemmas.Option.{get_or_from_slice_get}
-use Rattle.jn_steps.specs.Steps.{Goes, Leaves, on_some}
+use Rattle.jn_steps.specs.Steps.{Goes, Leaves}
 use Rattle.jn_steps.specs.Frames.{machine_does}
 use Rattle.jn_code.specs.declared.kind.OperandKind.{OperandKind}
 use Rattle.jn_code.specs.declared.instr.Instr.{Instr}

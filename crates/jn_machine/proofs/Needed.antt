@@ -1,6 +1,5 @@
 -- An instruction of a valid image finds what it wants.
-use Rattle.std.proofs.Common.{◌≡◌, refl, sym, ap, ◌∙◌, ℕ, zero, suc, ◌+◌, ◌<◌, ◌≤◌, List, [], ◌∷◌, ◌++◌, length, map, drop, reverse, ℤ, pos, Bool, true, false, ◌&&◌, Option, Some, None, slice_get, nat_lt, arith, inl, inr, subst}
-use Rattle.std.specs.Prelude.{nat_eq}
+use Rattle.std.proofs.Common.{◌≡◌, refl, sym, ap, ◌∙◌, ℕ, zero, suc, ◌+◌, ◌<◌, ◌≤◌, List, [], ◌∷◌, ◌++◌, length, map, drop, ℤ, pos, true, Option, Some, None, slice_get, nat_lt, arith, inl, inr, subst}
 use Rattle.std.proofs.lemmas.Bool.{ltb-true}
 use Rattle.std.proofs.lemmas.List.{length-reverse, length-map, length-append}
 use Rattle.jn_code.specs.declared.kind.OperandKind.{OperandKind}
@@ -12,11 +11,10 @@ use Rattle.jn_code.specs.declared.image.Shape.{Shape}
 use Rattle.jn_code.specs.declared.image.ClassRow.{ClassRow}
 use Rattle.jn_code.specs.declared.image.Code.{Code}
 use Rattle.jn_code.specs.Kinds.{kind_of, locals_of, local_kind, argument_kinds, arguments_of, field_kind, each_some, one, list_of}
-use Rattle.jn_code.specs.Rows.{numbered}
 use Rattle.jn_code.specs.Valid.{suits, all_suit}
 use Rattle.jn_code.specs.Machine.{Ref, ref_in, class_in, slot_in}
 use Rattle.jn_code.proofs.Sound.{both_left, both_right, kind_same, get_below, get_there}
-use Rattle.jn_code.specs.Going.{Cell, IsRef, IsWord, Pairs, AreWords, CellHolds, HeapOk}
+use Rattle.jn_code.specs.Going.{Cell, IsRef, IsWord, Pairs, CellHolds, HeapOk}
 use Rattle.jn_code.proofs.Words.{pairs_long, pairs_get, ref_in_word}
 use Rattle.jn_code.proofs.RowFacts.{RowsOk, row_is, numbered_is, group_there, slot_there}
 use Rattle.jn_code.proofs.Frames.{Ready, as_kind, class_below}

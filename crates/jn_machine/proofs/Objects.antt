@@ -1,10 +1,10 @@
 -- Instructions that look at the cells.
-use Rattle.std.proofs.Common.{◌≡◌, refl, sym, ap, ◌∙◌, ℕ, suc, ◌+◌, ◌<◌, ◌≤◌, List, [], ◌∷◌, ◌++◌, length, replicate, ℤ, pos, Bool, true, false, Option, Some, None, slice_get, slice_set, get_or, nat_lt, nat_le, arith}
+use Rattle.std.proofs.Common.{◌≡◌, refl, sym, ap, ◌∙◌, ℕ, suc, ◌+◌, ◌<◌, ◌≤◌, List, ◌∷◌, ◌++◌, length, ℤ, pos, Bool, true, false, Option, Some, None, slice_get, slice_set, get_or, nat_lt, nat_le, arith}
 use Rattle.std.specs.Prelude.{nat_eq, if◌then◌else◌}
 use Rattle.std.proofs.lemmas.Bool.Decides.{nat_tests}
 use Rattle.std.proofs.lemmas.List.{length-replicate}
 use Rattle.std.proofs.lemmas.Option.{slice_get_read, slice_get-get_or}
-use Rattle.jn_steps.specs.Steps.{Goes, Faults, on_some, on_one, on_two}
+use Rattle.jn_steps.specs.Steps.{Faults, on_some}
 use Rattle.jn_code.specs.declared.image.Image.{Image}
 use Rattle.jn_code.specs.declared.image.Group.{Group}
 use Rattle.jn_code.specs.declared.image.ClassRow.{ClassRow}

@@ -7,7 +7,7 @@ use Rattle.std.proofs.lemmas.List.{length-map, append-nil}
 use Rattle.jn_steps.specs.Runs.{Next, On, End}
 use Rattle.std.proofs.lemmas.List.Elements.{All-get_or}
 use Rattle.std.proofs.lemmas.Option.{get_or_from_slice_get}
-use Rattle.jn_steps.specs.Steps.{Goes, Enters, Faults, on_args}
+use Rattle.jn_steps.specs.Steps.{Enters, Faults, on_args}
 use Rattle.jn_steps.specs.Frames.{begin, machine_does}
 use Rattle.jn_code.specs.declared.image.Image.{Image}
 use Rattle.jn_code.specs.declared.image.Shape.{Shape}

@@ -1,5 +1,5 @@
 -- What each instruction has to find in its frame and among the cells.
-use Rattle.std.specs.Prelude.{ℕ, ◌<◌, List, length, ℤ, drop}
+use Rattle.std.specs.Prelude.{◌<◌, List, length, ℤ, drop}
 use Rattle.jn_code.specs.declared.instr.Instr.{Instr}
 use Rattle.jn_code.specs.declared.instr.Instr.TheVariants as op
 use Rattle.jn_code.specs.declared.image.Image.{Image}

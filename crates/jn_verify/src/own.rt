@@ -20,7 +20,8 @@ fn has_room(stack: u16, left: usize, given: Option<OperandKind>) -> bool
     }
 }
 
-/// The operands that are left of list n, or the first fault of the instruction itself, where the kinds before it are that list.
+/// The operands that are left of list n, or the first fault of the instruction itself, where the kinds before it are
+/// that list.
 pub fn rest_of(image: &Image, code: &Code, x: Instr, tails: &Tails, n: u32) -> Result<u32, CodeWhy>
     requires { n < length tails.now }
     ensures none { IfOk result (λ m. own_fault image.now code.now x (list_at tails.now n) ≡ None) }

@@ -27,8 +27,8 @@ struct Node {
     height: u32,
 }
 
-/// Lists of kinds, the latest first, each with a number. Number 0 is the empty list. Contracts see the lists in the order of their
-/// numbers. A longer list costs one node more than the one that it is made of.
+/// Lists of kinds, the latest first, each with a number. Number 0 is the empty list. Contracts see the lists in the
+/// order of their numbers. A longer list costs one node more than the one that it is made of.
 #[derive(Drop)]
 pub struct Tails {
     nodes: Vec<Node>,

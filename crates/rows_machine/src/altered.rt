@@ -112,8 +112,8 @@ fn wanted_at(alloc: Global, ranges: &[String], at: usize) -> Result<String, Allo
     String::from_str(alloc, "none")
 }
 
-/// The value `byte`, in hex, stands at each place in turn. Each text of `altered` is a first place, a last one, and the answer at
-/// those, where @ is the place; everywhere else nothing is wrong.
+/// The value `byte`, in hex, stands at each place in turn. Each text of `altered` is a first place, a last one, and
+/// the answer at those, where @ is the place; everywhere else nothing is wrong.
 pub fn each(alloc: Global, case: &Case, bytes: &[u8], tally: &mut Tally) -> Result<(), CasesFault> {
     let ranges = case.texts(alloc, "altered")?;
     let Some(value) = hex_byte(case.text("byte").unwrap_or("none")) else {

@@ -1,8 +1,9 @@
 //! The rows of images and of the machine, as data.
 //!
 //! A case has an image: the bytes `image`, or the words `code` as the code that starts in a `world`. It has a `job`:
-//! `read`, `write`, `verify` and `run` want the `answer`, which is a fault, a halt, or `none` where nothing is wrong, and
-//! `run` also the bytes `out`, or so many as `out_length` says; `fronts`, `altered` and `each` read what is like the image.
+//! `read`, `write`, `verify` and `run` want the `answer`, which is a fault, a halt, or `none` where nothing is wrong,
+//! and `run` also the bytes `out`, or so many as `out_length` says; `fronts`, `altered` and `each` read what is like
+//! the image.
 #![tactic(auto)]
 
 mod altered;

@@ -55,8 +55,8 @@ fn outcome(
     String::from_str(alloc, name_of(halt_of(alloc, case, good, sink)?))
 }
 
-/// The run ends as the case wants, and has put what it wants, on a sink with room for 65,536 bytes, where the case says no other,
-/// that fails at the puts that the case names.
+/// The run ends as the case wants, and has put what it wants, on a sink with room for 65,536 bytes, where the case
+/// says no other, that fails at the puts that the case names.
 pub fn run(alloc: Global, case: &Case, bytes: &[u8], tally: &mut Tally) -> Result<(), CasesFault> {
     let room = bound(case, "room", 65536);
     let fails = case.numbers(alloc, "failing_puts")?;

@@ -1,4 +1,4 @@
-use Rattle.std.proofs.Common.{rules, arith, ◌≡◌, ◌<◌, ◌≤◌, ◌+◌, ◌∷◌, ap, sym, ◌∙◌, length, ℕ, ℤ, pos, Some, slice_get, get_or, replicate, to_z, of_z, w64}
+use Rattle.std.proofs.Common.{rules, arith, ◌≡◌, ◌<◌, ◌+◌, ◌∷◌, ap, ◌∙◌, length, ℕ, ℤ, pos, Some, slice_get, get_or, replicate, to_z, of_z, w64}
 use Rattle.jn_code.specs.declared.image.Code.{Code}
 use Rattle.jn_machine.specs.Sizes.{taken, waits_by}
 use Rattle.jn_machine.proofs.Objects.{number_at}

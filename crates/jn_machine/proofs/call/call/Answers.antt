@@ -1,16 +1,13 @@
-use Rattle.std.proofs.Common.{rules, arith, refl, ◌≡◌, ◌<◌, ◌≤◌, ◌+◌, ◌∷◌, [], ap, sym, ◌∙◌, subst, length, List, ℕ, ℤ, true, false, Some, None, suc, not, slice_get, get_or, map, drop, to_z, of_z, w64}
+use Rattle.std.proofs.Common.{rules, arith, refl, ◌≡◌, ◌≤◌, ◌∷◌, [], ap, sym, ◌∙◌, subst, length, ℤ, true, Some, None, slice_get, get_or, map, to_z, of_z, w64}
 use Rattle.std.specs.Option.{option_map}
-use Rattle.std.proofs.lemmas.List.{append-nil}
 use Rattle.jn_steps.specs.Runs.{Next}
 use Rattle.jn_steps.specs.Steps.{Enters}
 use Rattle.jn_steps.specs.Frames.{machine_does}
 use Rattle.jn_code.specs.declared.image.Shape.{Shape}
 use Rattle.jn_code.specs.declared.image.ClassRow.{ClassRow}
-use Rattle.jn_code.specs.Machine.{Halt, Machine, ref_in, class_in, code_in, rules as machine_rules, waits}
+use Rattle.jn_code.specs.Machine.{Halt, Machine, ref_in, code_in, rules as machine_rules, waits}
 use Rattle.jn_machine.specs.Acts.{frame_of}
-use Rattle.jn_machine.specs.Needs.{OnTop, IsClass}
 use Rattle.jn_machine.specs.Sizes.{taken, drop_args, under}
-use Rattle.jn_machine.specs.Calls.{HasArgs, HasReceiver, IsView}
 use Rattle.jn_machine.specs.Views.{ref_of}
 use Rattle.jn_machine.proofs.Objects.{read_at, number_at}
 use Rattle.jn_machine.proofs.Turns

@@ -1,6 +1,4 @@
-use Rattle.std.proofs.Common.{rules, arith, refl, ◌≡◌, ◌<◌, ◌≤◌, ◌+◌, ◌∷◌, [], ap, sym, ◌∙◌, subst, length, List, ℕ, ℤ, true, false, Some, None, suc, not, slice_get, get_or, map, drop, to_z, of_z, w64}
-use Rattle.std.specs.Option.{option_map}
-use Rattle.std.proofs.lemmas.List.{append-nil}
+use Rattle.std.proofs.Common.{rules, arith, refl, ◌≡◌, ◌<◌, ◌≤◌, ◌∷◌, [], ap, sym, ◌∙◌, subst, length, List, ℤ, true, Some, None, not, slice_get, get_or, map, drop, to_z, of_z, w64}
 use Rattle.jn_steps.specs.Runs.{Next}
 use Rattle.jn_steps.specs.Steps.{Enters}
 use Rattle.jn_steps.specs.Frames.{machine_does}
@@ -10,8 +8,7 @@ use Rattle.jn_code.specs.Machine.{Halt, Machine, ref_in, class_in, code_in, rule
 use Rattle.jn_machine.specs.Acts.{frame_of}
 use Rattle.jn_machine.specs.Needs.{OnTop, IsClass}
 use Rattle.jn_machine.specs.Sizes.{taken, drop_args, under}
-use Rattle.jn_machine.specs.Calls.{HasArgs, HasReceiver, IsView}
-use Rattle.jn_machine.specs.Views.{ref_of}
+use Rattle.jn_machine.specs.Calls.{HasArgs}
 use Rattle.jn_machine.proofs.Objects.{read_at, number_at}
 use Rattle.jn_machine.proofs.Turns
 use Rattle.jn_machine.proofs.call.call_at.Goals as goal

@@ -1,7 +1,6 @@
-use Rattle.std.proofs.Common.{rules, ◌≡◌, ◌<◌, ◌+◌, ◌∷◌, [], ap, sym, ◌∙◌, subst, length, List, ℤ, Some, None, slice_get, get_or, to_z, of_z, w64}
+use Rattle.std.proofs.Common.{rules, ◌≡◌, ◌∷◌, ap, sym, ◌∙◌, subst, List, ℤ, Some, slice_get, get_or, to_z, of_z, w64}
 use Rattle.std.specs.Option.{option_map}
-use Rattle.jn_steps.specs.Steps.{Goes}
-use Rattle.jn_code.specs.Machine.{Null, Did, ref_in, slot_in, field_value, next}
+use Rattle.jn_code.specs.Machine.{Did, ref_in, slot_in, field_value, next}
 use Rattle.jn_machine.specs.Acts.{frame_of}
 use Rattle.jn_machine.specs.Needs.{OnTop, Reaches}
 use Rattle.jn_machine.specs.Views.{ref_of}

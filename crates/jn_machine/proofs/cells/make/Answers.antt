@@ -1,11 +1,11 @@
-use Rattle.std.proofs.Common.{rules, arith, ◌≡◌, ◌<◌, ◌≤◌, ◌+◌, ◌∷◌, ◌++◌, [], ap, sym, ◌∙◌, subst, length, List, ℕ, ℤ, pos, Bool, false, Some, None, slice_get, get_or, replicate, to_z, of_z, w64}
+use Rattle.std.proofs.Common.{rules, arith, ◌≡◌, ◌<◌, ◌≤◌, ◌+◌, ◌∷◌, ◌++◌, ap, sym, ◌∙◌, subst, length, List, ℕ, ℤ, pos, false, Some, slice_get, get_or, replicate, to_z, of_z, w64}
 use Rattle.std.specs.Prelude.{nat_eq}
 use Rattle.std.proofs.lemmas.Bool.Decides.{nat_tests}
 use Rattle.jn_code.specs.declared.image.Group.{Group}
 use Rattle.jn_code.specs.Machine.{Did, class_in, ref_word, object_cells, next}
 use Rattle.jn_machine.specs.Acts.{frame_of}
 use Rattle.jn_machine.specs.Needs.{OnTop, HasGroup}
-use Rattle.jn_machine.proofs.Objects.{read_at, number_at, numbered_some, full, made}
+use Rattle.jn_machine.proofs.Objects.{number_at, numbered_some, full, made}
 use Rattle.jn_machine.proofs.cells.make.Goals as goal
 
 pub bounds-as_slice-group : goal.bounds-as_slice-group

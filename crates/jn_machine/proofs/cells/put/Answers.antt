@@ -1,4 +1,4 @@
-use Rattle.std.proofs.Common.{rules, ◌≡◌, ◌<◌, ◌+◌, ◌∷◌, [], ap, sym, ◌∙◌, subst, length, List, ℤ, Some, None, slice_get, slice_set, to_z, of_z, w64}
+use Rattle.std.proofs.Common.{rules, ◌≡◌, ◌+◌, ◌∷◌, ap, sym, ◌∙◌, subst, List, ℤ, Some, None, slice_get, slice_set, to_z, of_z, w64}
 use Rattle.std.specs.Option.{option_map}
 use Rattle.jn_code.specs.Machine.{Did, ref_in, slot_in, next}
 use Rattle.jn_machine.specs.Acts.{frame_of}

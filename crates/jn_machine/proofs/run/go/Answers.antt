@@ -1,8 +1,6 @@
-use Rattle.std.proofs.Common.{refl, sym, ◌∙◌, ap, ◌≡◌, ◌<◌, length, arith, subst}
+use Rattle.std.proofs.Common.{refl, ◌∙◌}
 use Rattle.jn_code.specs.Machine as code
-use Rattle.jn_machine.specs.Calls.{Roomy, SameSizes}
 use Rattle.jn_machine.specs.Does.{bytes_of}
-use Rattle.jn_machine.specs.Sizes.{Sizes, Sized}
 use Rattle.jn_machine.proofs.Writing.{on_err}
 use Rattle.jn_machine.proofs.Runs.{begins, turned_on, turned_print, turned_cut, turned_halt, roomy_same, sized_same}
 use Rattle.jn_machine.proofs.run.go.Goals as goal

@@ -1,4 +1,4 @@
-use Rattle.std.proofs.Common.{arith, ◌≡◌, ◌<◌, ◌∙◌, ap, sym, length, pos, Some, map, slice_get, get_or}
+use Rattle.std.proofs.Common.{arith, ◌≡◌, ap, length, pos, Some, map, slice_get, get_or}
 use Rattle.jn_code.specs.declared.image.Code.{Code}
 use Rattle.jn_code.specs.declared.instr.Instr.{Instr}
 use Rattle.jn_code.specs.declared.instr.Instr.TheVariants as op

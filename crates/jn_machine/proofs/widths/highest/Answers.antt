@@ -1,4 +1,4 @@
-use Rattle.std.proofs.Common.{arith, ◌≡◌, ◌<◌, ◌≤◌, ap, length, Some, slice_get}
+use Rattle.std.proofs.Common.{arith, ◌≡◌, ap, length, Some, slice_get}
 use Rattle.jn_code.specs.declared.image.Code.{Code}
 use Rattle.jn_code.specs.Form.{CodeInForm}
 use Rattle.jn_machine.specs.Calls.{IsHigh}
