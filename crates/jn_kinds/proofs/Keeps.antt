@@ -85,7 +85,7 @@ NextFits i m (On s) = GoingOn i m s.frames s.heap
 NextFits i m (End o out) = o ≢ Stuck
 
 -- a step fits, and is that of the machine
-pub record Goes_with (i : Image) (m : ℕ) (x : Next CarefulMachine Halt) (y : Next plain.Machine Halt) : Type 0 where
+pub record GoesWith (i : Image) (m : ℕ) (x : Next CarefulMachine Halt) (y : Next plain.Machine Halt) : Type 0 where
   pub fits : NextFits i m x
   pub same : plain_next x ≡ y
 
@@ -168,7 +168,7 @@ PH h = map held_word h
 on_state : List plain.Frame → List ℤ → List ℕ → Next plain.Machine Halt
 on_state fs h out = On (record { frames = fs; heap = h; output = out })
 
-returned : (i : Image) (m : ℕ) (p : List Cell) (r : Option OperandKind) (v : Option Value) (fs : List Careful) (h : Heap) (out : List ℕ) → HandsBack i p r v → HeapFits i m p h → Waiting i p r fs → Goes_with i m (return_to (rules i m) v fs h out) (return_to (plain.rules i m) (option_map word v) (PFS fs) (PH h) out)
+returned : (i : Image) (m : ℕ) (p : List Cell) (r : Option OperandKind) (v : Option Value) (fs : List Careful) (h : Heap) (out : List ℕ) → HandsBack i p r v → HeapFits i m p h → Waiting i p r fs → GoesWith i m (return_to (rules i m) v fs h out) (return_to (plain.rules i m) (option_map word v) (PFS fs) (PH h) out)
 unfolding on_state
 returned i m p r v [] h out b hp w = record { fits = λ e. cc; same = refl }
 returned i m p r v (f ∷ fs) h out b hp w = record {
@@ -176,7 +176,7 @@ returned i m p r v (f ∷ fs) h out b hp w = record {
   same = ap (λ g. on_state (g ∷ PFS fs) (PH h) out) (given_is v f);
 }
 
-entered : (i : Image) (m : ℕ) (p : List Cell) (b : ℕ) (c : Code) (args : List Value) (o : Option Code) (f : Careful) (fs : List Careful) (h : Heap) (out : List ℕ) → IsSound i → slice_get i.codes b ≡ o → o ≡ Some c → AreVals i p (map kind_of c.params) args → WaitsFor i p f (result_kind c.result) → HeapFits i m p h → Waiting i p (result_at i f.code) fs → Goes_with i m (begin (rules i m) (option_map (λ (c : Code). fresh b c args) o) (f ∷ fs) h out) (begin (plain.rules i m) (option_map (λ (c : Code). plain.fresh b c (words args)) o) (PFS (f ∷ fs)) (PH h) out)
+entered : (i : Image) (m : ℕ) (p : List Cell) (b : ℕ) (c : Code) (args : List Value) (o : Option Code) (f : Careful) (fs : List Careful) (h : Heap) (out : List ℕ) → IsSound i → slice_get i.codes b ≡ o → o ≡ Some c → AreVals i p (map kind_of c.params) args → WaitsFor i p f (result_kind c.result) → HeapFits i m p h → Waiting i p (result_at i f.code) fs → GoesWith i m (begin (rules i m) (option_map (λ (c : Code). fresh b c args) o) (f ∷ fs) h out) (begin (plain.rules i m) (option_map (λ (c : Code). plain.fresh b c (words args)) o) (PFS (f ∷ fs)) (PH h) out)
 unfolding on_state
 entered i m p b c args None f fs h out ok q e w u hp ws = absurd cc
 entered i m p b c args (Some d) f fs h out ok q e w u hp ws =
@@ -189,13 +189,13 @@ entered i m p b c args (Some d) f fs h out ok q e w u hp ws =
       same = ap (λ g. on_state (g ∷ PFS (f ∷ fs)) (PH h) out) (fresh_is b d args);
     }
 
-if_next : (i : Image) (m : ℕ) (b c : Bool) (s t : Next CarefulMachine Halt) (s' t' : Next plain.Machine Halt) → b ≡ c → Goes_with i m s s' → Goes_with i m t t' → Goes_with i m (if b then s else t) (if c then s' else t')
+if_next : (i : Image) (m : ℕ) (b c : Bool) (s t : Next CarefulMachine Halt) (s' t' : Next plain.Machine Halt) → b ≡ c → GoesWith i m s s' → GoesWith i m t t' → GoesWith i m (if b then s else t) (if c then s' else t')
 if_next i m true true s t s' t' e h k = h
 if_next i m true false s t s' t' e h k = absurd cc
 if_next i m false true s t s' t' e h k = absurd cc
 if_next i m false false s t s' t' e h k = k
 
-done_ok : (i : Image) (m d : ℕ) (p : List Cell) (b : ℕ) (a : Act) (fs : List Careful) (out : List ℕ) → IsSound i → DoesFit i m p b a → Waiting i p (result_at i b) fs → Goes_with i m (machine_does (rules i m) d a fs out) (machine_does (plain.rules i m) d (plain_act a) (PFS fs) out)
+done_ok : (i : Image) (m d : ℕ) (p : List Cell) (b : ℕ) (a : Act) (fs : List Careful) (out : List ℕ) → IsSound i → DoesFit i m p b a → Waiting i p (result_at i b) fs → GoesWith i m (machine_does (rules i m) d a fs out) (machine_does (plain.rules i m) d (plain_act a) (PFS fs) out)
 done_ok i m d p b (Goes f h bytes) fs out ok w ws = record {
   fits = record { plan = w.0; heap = w.2; active = w.3; waiting = same_code i w.0 b f.code fs (sym w.4) (waiting_later i p w.0 (result_at i b) fs w.1 ws) };
   same = refl;
@@ -208,20 +208,20 @@ done_ok i m d p b (Leaves v h) fs out ok w ws = returned i m p (result_at i b) v
 done_ok i m d p b Falls fs out ok w ws = absurd w
 done_ok i m d p b (Faults o) fs out ok w ws = record { fits = w; same = refl }
 
-step_ok : (i : Image) (m d : ℕ) (fs : List Careful) (h : Heap) (out : List ℕ) → InForm i → IsSound i → GoingOn i m fs h → Goes_with i m (machine_step_of (rules i m) d fs h out) (machine_step_of (plain.rules i m) d (PFS fs) (PH h) out)
+step_ok : (i : Image) (m d : ℕ) (fs : List Careful) (h : Heap) (out : List ℕ) → InForm i → IsSound i → GoingOn i m fs h → GoesWith i m (machine_step_of (rules i m) d fs h out) (machine_step_of (plain.rules i m) d (PFS fs) (PH h) out)
 step_ok i m d [] h out form ok g = absurd g
 step_ok i m d (f ∷ fs) h out form ok g =
     let a = moved i m g.plan f h form ok g.heap g.active in
     let both = done_ok i m d g.plan f.code (move i m f h) fs out ok a.fits g.waiting in
-    subst (λ (e : Did). Goes_with i m (machine_does (rules i m) d (move i m f h) fs out) (machine_does (plain.rules i m) d e (PFS fs) out)) a.same both
+    subst (λ (e : Did). GoesWith i m (machine_does (rules i m) d (move i m f h) fs out) (machine_does (plain.rules i m) d e (PFS fs) out)) a.same both
 
-on_both : (i : Image) (m d n : ℕ) (x : Next CarefulMachine Halt) (y : Next plain.Machine Halt) → Goes_with i m x y → ((s : CarefulMachine) → GoingOn i m s.frames s.heap → Goes_with i m (after (instruct i m d) n s) (after (plain.instruct i m d) n (plain_state s))) → Goes_with i m (and_then x (after (instruct i m d) n)) (and_then y (after (plain.instruct i m d) n))
+on_both : (i : Image) (m d n : ℕ) (x : Next CarefulMachine Halt) (y : Next plain.Machine Halt) → GoesWith i m x y → ((s : CarefulMachine) → GoingOn i m s.frames s.heap → GoesWith i m (after (instruct i m d) n s) (after (plain.instruct i m d) n (plain_state s))) → GoesWith i m (and_then x (after (instruct i m d) n)) (and_then y (after (plain.instruct i m d) n))
 on_both i m d n (On s) y h k =
-    subst (λ (y : Next plain.Machine Halt). Goes_with i m (after (instruct i m d) n s) (and_then y (after (plain.instruct i m d) n))) h.same (k s h.fits)
+    subst (λ (y : Next plain.Machine Halt). GoesWith i m (after (instruct i m d) n s) (and_then y (after (plain.instruct i m d) n))) h.same (k s h.fits)
 on_both i m d n (End o out) y h k =
-    subst (λ (y : Next plain.Machine Halt). Goes_with i m (End o out) (and_then y (after (plain.instruct i m d) n))) h.same (record { fits = h.fits; same = refl })
+    subst (λ (y : Next plain.Machine Halt). GoesWith i m (End o out) (and_then y (after (plain.instruct i m d) n))) h.same (record { fits = h.fits; same = refl })
 
-ran : (i : Image) (m d n : ℕ) (s : CarefulMachine) → InForm i → IsSound i → GoingOn i m s.frames s.heap → Goes_with i m (after (instruct i m d) n s) (after (plain.instruct i m d) n (plain_state s))
+ran : (i : Image) (m d n : ℕ) (s : CarefulMachine) → InForm i → IsSound i → GoingOn i m s.frames s.heap → GoesWith i m (after (instruct i m d) n s) (after (plain.instruct i m d) n (plain_state s))
 ran i m d zero s form ok g = record { fits = g; same = refl }
 ran i m d (suc n) s form ok g =
     on_both i m d n (instruct i m d s) (plain.instruct i m d (plain_state s)) (step_ok i m d s.frames s.heap s.output form ok g) (λ s g. ran i m d n s form ok g)

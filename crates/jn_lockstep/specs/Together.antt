@@ -1,5 +1,5 @@
--- Two machines in lockstep. The first is a relation and is charged; the second is a function, and makes up to c steps for each
--- charge, on the whole.
+-- Two machines in lockstep. The first is a relation and is charged; the second is a function, and makes up to c steps
+-- for each charge, on the whole.
 use Rattle.std.specs.Prelude.{◌≡◌, ℕ, zero, suc, ◌+◌, ◌*◌, ◌≤◌, List, Option, Some, None}
 use Rattle.std.specs.Option.{option_map}
 use Rattle.jn_steps.specs.Runs.{Report, Next, On, End, after, run}
@@ -7,8 +7,8 @@ use Rattle.jn_steps.specs.Laws.{GoesOn}
 use Rattle.jn_steps.specs.Reports.{Reports}
 
 module _ {S M O Q : Type 0} (c : ℕ) (Step : S → Next S O → Type 0) (shown : S → List ℕ) (move : M → Next M Q) (mshown : M → List ℕ) (halts : O → Option Q) where
-  -- The second comes from m to where the first is, in lo to w steps, some of which may be left over. Where the first ends, the
-  -- second ends likewise; of an end that is none of its own (the first is stuck) nothing is asked.
+  -- The second comes from m to where the first is, in lo to w steps, some of which may be left over. Where the first
+  -- ends, the second ends likewise; of an end that is none of its own (the first is stuck) nothing is asked.
   abbrev pub Leads : (S → M → ℕ → Type 0) → ℕ → Next S O → M → ℕ → Type 0
   Leads R lo (On s) m w = (j : ℕ) × (v : ℕ) × (n : M) × (after move j m ≡ On n) × (lo ≤ j) × (j + v ≤ w) × R s n v
   Leads R lo (End o bytes) m w = (q : Q) → halts o ≡ Some q → ((j : ℕ) × (after move j m ≡ End q bytes) × (j ≤ w))
