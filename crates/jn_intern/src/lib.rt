@@ -1,8 +1,8 @@
 //! Types by numbers: a pool that shows the term of each number, and scopes that bind paths to numbers.
 //!
-//! A pool is a plain list of terms. A call that adds a term leaves each older number its term, also after a refusal, so that numbers
-//! that a caller holds keep their meaning. Contracts see a pool as the list of its terms, and a scope of numbers as the list of binds
-//! of `jn_base` (`specs/Pools`).
+//! A pool is a plain list of terms. A call that adds a term leaves each older number its term, also after a refusal,
+//! so that numbers that a caller holds keep their meaning. Contracts see a pool as the list of its terms, and a scope
+//! of numbers as the list of binds of `jn_base` (`specs/Pools`).
 #![tactic(auto)]
 
 mod compare;

@@ -35,7 +35,8 @@ fn add_field(
     f: &Field,
     out: &mut Vec<FieldTy>,
 ) -> Result<(), NameFault>
-    ensures { SaysAdds t.now names.now (record { class = class.now; field = f.now } ∷ []) out.old.items out.new.items result }
+    ensures { SaysAdds t.now names.now
+        (record { class = class.now; field = f.now } ∷ []) out.old.items out.new.items result }
 {
     let spot = spot_of(alloc, class, f)?;
     let list = Items::new(alloc);
@@ -83,7 +84,8 @@ fn add_members(
     members: &[Member],
     out: &mut Vec<FieldTy>,
 ) -> Result<(), NameFault>
-    ensures { SaysAdds t.now names.now (all_by class.now (map fields_of_member members.now)) out.old.items out.new.items result }
+    ensures { SaysAdds t.now names.now
+        (all_by class.now (map fields_of_member members.now)) out.old.items out.new.items result }
 {
     for m in members {
         match add_member(alloc, t, names, class, m, out) {
@@ -120,7 +122,8 @@ fn add_decls(
     decls: &[Decl],
     out: &mut Vec<FieldTy>,
 ) -> Result<(), NameFault>
-    ensures { SaysAdds t.now names.now (all_by namespace.now (map fields_of_decl decls.now)) out.old.items out.new.items result }
+    ensures { SaysAdds t.now names.now
+        (all_by namespace.now (map fields_of_decl decls.now)) out.old.items out.new.items result }
 {
     for d in decls {
         match add_decl(alloc, t, names, namespace, d, out) {
@@ -135,7 +138,8 @@ fn add_decls(
 /// the table.
 pub fn field_types(alloc: Global, p: &Program, t: &mut Table) -> Result<FieldTypes, NameFault>
     ensures told { IsFilled p.now t.old → FieldsTold (AllFieldsGive p.now t.old) result }
-    ensures only { IsFilled p.now t.old → (o : Result (List AFieldTy) ARefusal) → AllFieldsGive p.now t.old o → FieldsTold (λ a. a ≡ o) result }
+    ensures only { IsFilled p.now t.old → (o : Result (List AFieldTy) ARefusal) → AllFieldsGive p.now t.old o
+        → FieldsTold (λ a. a ≡ o) result }
     ensures kept { t.new ≡ t.old }
 {
     let names = mask_names(alloc, p)?;

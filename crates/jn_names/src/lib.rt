@@ -1,8 +1,9 @@
 //! What the names of a program stand for: the terms of its types, and the methods and fields of its classes.
 //!
-//! `resolve` tells what a term stands for, `resolve_type` and `resolve_view` a type and a view with their masks, `field_types` the
-//! type of each declared field, and `mask_names` numbers the masks. The rules are the definitions of `jn_base` (specs/Resolve and
-//! specs/ResolveTypes there). `Members` has the least declaration of each method and the declaration of each field.
+//! `resolve` tells what a term stands for, `resolve_type` and `resolve_view` a type and a view with their masks,
+//! `field_types` the type of each declared field, and `mask_names` numbers the masks. The rules are the definitions
+//! of `jn_base` (specs/Resolve and specs/ResolveTypes there). `Members` has the least declaration of each method and
+//! the declaration of each field.
 #![tactic(auto)]
 
 mod before;

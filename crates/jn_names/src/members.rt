@@ -16,7 +16,8 @@ pub enum Least {
     None,
     /// The least declaration of a method, or the only one of a field.
     One(ClassId),
-    /// There is no such one: the first two declarations of a method below which no other stands, or of a field, in class order.
+    /// There is no such one: the first two declarations of a method below which no other stands, or of a field, in
+    /// class order.
     Many(ClassId, ClassId),
 }
 
@@ -137,7 +138,8 @@ fn is_passed(
 
 /// The first of the numbers, but for one, that has the method and none below.
 fn first_low(rows: &[MemberRow], sups: &[ClassId], m: Name, but: Option<ClassId>) -> Option<ClassId>
-    ensures { MatchOption result (PassedTo rows.now sups.now m but (length sups.now)) (FirstLowRow rows.now sups.now m but) }
+    ensures { MatchOption result (PassedTo rows.now sups.now m but (length sups.now))
+        (FirstLowRow rows.now sups.now m but) }
 {
     for s in sups {
         if !is_passed(rows, sups, m, but, *s) {
@@ -165,7 +167,8 @@ fn first_field(
     f: Name,
     but: Option<ClassId>,
 ) -> Option<ClassId>
-    ensures { MatchOption result (FieldlessTo rows.now sups.now f but (length sups.now)) (FirstFieldRow rows.now sups.now f but) }
+    ensures { MatchOption result (FieldlessTo rows.now sups.now f but (length sups.now))
+        (FirstFieldRow rows.now sups.now f but) }
 {
     for s in sups {
         if !is_fieldless(rows, f, but, *s) {
@@ -217,7 +220,8 @@ impl Members {
 
     /// The members of a program, by a table in which its universe is filled.
     pub fn build(alloc: Global, p: &Program, t: &Table) -> Result<Members, AllocError>
-        ensures { IfOk result (λ members. IsFilled p.now t.now → NoneIs (IsCycle p.now) → IsMembersOf p.now t.now members) }
+        ensures { IfOk result (λ members. IsFilled p.now t.now → NoneIs (IsCycle p.now)
+            → IsMembersOf p.now t.now members) }
     {
         let mut rows = Vec::new(alloc);
         for k in 0..t.known().len() {

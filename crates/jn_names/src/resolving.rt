@@ -16,8 +16,8 @@ use jn_base::types::{Atom, Ty};
 use jn_table::Table;
 use std::alloc::Global;
 
-/// What a term stands for: an atom, or the first of its refusals, by E06, E14, E15 or E22. The universe is filled in the
-/// table, and the variables make a scope that fits.
+/// What a term stands for: an atom, or the first of its refusals, by E06, E14, E15 or E22. The universe is filled in
+/// the table, and the variables make a scope that fits.
 pub fn resolve(
     alloc: Global,
     p: &Program,
@@ -27,7 +27,8 @@ pub fn resolve(
     term: &Term,
 ) -> Result<Atom, NameFault>
     ensures told { IsFilled p.now t.old → Told (Resolve p.now spot.now vars.now term.now) result }
-    ensures only { IsFilled p.now t.old → (o : Result AnAtom ARefusal) → Resolve p.now spot.now vars.now term.now o → Told (λ a. a ≡ o) result }
+    ensures only { IsFilled p.now t.old → (o : Result AnAtom ARefusal) → Resolve p.now spot.now vars.now term.now o
+        → Told (λ a. a ≡ o) result }
     ensures kept { t.new ≡ t.old }
 {
     atom_of(alloc, t, spot, vars, term)
@@ -45,7 +46,8 @@ pub fn resolve_type(
     ty: &TypeTerm,
 ) -> Result<Ty, NameFault>
     ensures told { IsFilled p.now t.old → Told (ResolveType p.now masks.now spot.now vars.now ty.now) result }
-    ensures only { IsFilled p.now t.old → (o : Result AType ARefusal) → ResolveType p.now masks.now spot.now vars.now ty.now o → Told (λ a. a ≡ o) result }
+    ensures only { IsFilled p.now t.old → (o : Result AType ARefusal)
+        → ResolveType p.now masks.now spot.now vars.now ty.now o → Told (λ a. a ≡ o) result }
     ensures kept { t.new ≡ t.old }
 {
     type_of(alloc, t, masks, spot, vars, ty)
@@ -62,7 +64,8 @@ pub fn resolve_view(
     view: &ViewTerm,
 ) -> Result<Ty, NameFault>
     ensures told { IsFilled p.now t.old → Told (ResolveView p.now masks.now spot.now vars.now view.now) result }
-    ensures only { IsFilled p.now t.old → (o : Result AType ARefusal) → ResolveView p.now masks.now spot.now vars.now view.now o → Told (λ a. a ≡ o) result }
+    ensures only { IsFilled p.now t.old → (o : Result AType ARefusal)
+        → ResolveView p.now masks.now spot.now vars.now view.now o → Told (λ a. a ≡ o) result }
     ensures kept { t.new ≡ t.old }
 {
     view_of(alloc, t, masks, spot, vars, view)

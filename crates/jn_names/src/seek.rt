@@ -42,7 +42,8 @@ fn found_out(
     class: &Bound,
     name: Name,
 ) -> Result<Option<usize>, AllocError>
-    ensures { IfOk result (λ o. (p : Program) → IsFilled p t.now → MatchOption o (FoundNowhere p class.now name) (λ k. FoundOut p class.now name k)) }
+    ensures { IfOk result (λ o. (p : Program) → IsFilled p t.now
+        → MatchOption o (FoundNowhere p class.now name) (λ k. FoundOut p class.now name k)) }
 {
     for k in 0..=class.depth() {
         let mut at = class.without(alloc, k)?;
@@ -63,7 +64,8 @@ fn found_behind(
     name: Name,
     others: &[Name],
 ) -> Result<Found, AllocError>
-    ensures { IfOk result (λ f. (p : Program) → IsFilled p t.now → FoundOut p class.now name k → FirstSought p class.now name others.now (told f)) }
+    ensures { IfOk result (λ f. (p : Program) → IsFilled p t.now → FoundOut p class.now name k
+        → FirstSought p class.now name others.now (told f)) }
 {
     let mut at = class.without(alloc, k)?;
     at.push(name)?;

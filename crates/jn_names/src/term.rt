@@ -103,7 +103,8 @@ fn behind(
     v: &Bound,
     anchor: Anchor,
 ) -> Result<Anchor, NameFault>
-    ensures { Told (λ o. (p : Program) → IsFilled p t.now → Behind p spot.now term.now front.now v.now anchor o) result }
+    ensures { Told (λ o. (p : Program) → IsFilled p t.now
+        → Behind p spot.now term.now front.now v.now anchor o) result }
 {
     let names = names_of(alloc, term)?;
     if let Some(name) = first_unknown(alloc, t, v, names.as_slice())? {
@@ -125,7 +126,8 @@ fn bound_gives(
     path: u32,
     v: &Bound,
 ) -> Result<Anchor, NameFault>
-    ensures { Told (λ o. (p : Program) → IsFilled p t.now → BoundGives p spot.now term.now front.now path v.now (taken_off front.now v.now) o) result }
+    ensures { Told (λ o. (p : Program) → IsFilled p t.now
+        → BoundGives p spot.now term.now front.now path v.now (taken_off front.now v.now) o) result }
 {
     match taken_off(front, v) {
         None => Err(refused(alloc, Rule::E15, term.at, spot, spot.owner)),
@@ -149,7 +151,8 @@ fn path_gives(
     front: &Option<Bound>,
     before: Before,
 ) -> Result<Anchor, NameFault>
-    ensures { Told (λ o. (p : Program) → IsFilled p t.now → PathGives p spot.now (scope_at spot.now vars.now) term.now front.now (told_before before) o) result }
+    ensures { Told (λ o. (p : Program) → IsFilled p t.now
+        → PathGives p spot.now (scope_at spot.now vars.now) term.now front.now (told_before before) o) result }
 {
     match before {
         Before::NotInScope(x) => Err(refused(alloc, Rule::E06, term.at, spot, x)),
@@ -172,7 +175,8 @@ fn prefix(
     names: &[Name],
     r: Ref,
 ) -> Result<Anchor, NameFault>
-    ensures { Told (λ o. (p : Program) → IsFilled p t.now → PrefixGiven p spot.now vars.now term.now names.now r o) result }
+    ensures { Told (λ o. (p : Program) → IsFilled p t.now
+        → PrefixGiven p spot.now vars.now term.now names.now r o) result }
 {
     let class = class_of(alloc, spot)?;
     match sought(alloc, t, &class, names)? {
@@ -194,7 +198,8 @@ fn anchor_of(
     vars: &Vars,
     term: &Term,
 ) -> Result<Anchor, NameFault>
-    ensures { Told (λ o. (p : Program) → IsFilled p t.now → AnchorGiven p spot.now vars.now term.now term.now.head o) result }
+    ensures { Told (λ o. (p : Program) → IsFilled p t.now
+        → AnchorGiven p spot.now vars.now term.now term.now.head o) result }
 {
     match &term.head {
         Head::Plain => plain(alloc, t, spot, term),
@@ -273,7 +278,8 @@ fn suited(
     term: &Term,
     x: Atom,
 ) -> Result<Atom, NameFault>
-    ensures { Told (λ o. (p : Program) → IsFilled p t.now → SuitGives p spot.now vars.now term.now x (suits spot.now.role x) o) result }
+    ensures { Told (λ o. (p : Program) → IsFilled p t.now
+        → SuitGives p spot.now vars.now term.now x (suits spot.now.role x) o) result }
 {
     if !suits(spot.role, &x) {
         return Err(refused(alloc, Rule::E15, term.at, spot, spot.owner));

@@ -93,7 +93,8 @@ fn masked(
     atoms: Items<Atom>,
     masks: &[Named],
 ) -> Result<Ty, NameFault>
-    ensures { Told (λ o. (p : Program) → IsFilled p t.now → MasksGive p names.now spot.now bounds.now atoms masks.now (may_mask spot.now.role) o) result }
+    ensures { Told (λ o. (p : Program) → IsFilled p t.now
+        → MasksGive p names.now spot.now bounds.now atoms masks.now (may_mask spot.now.role) o) result }
 {
     if may_mask(spot.role) {
         if let Some(m) = first_unfit(t, bounds, masks) {
@@ -117,7 +118,8 @@ fn joined(
     masks: &[Named],
 ) -> Result<Ty, NameFault>
     requires { length bounds.now ≡ length terms.now }
-    ensures { Told (λ o. (p : Program) → IsFilled p t.now → DepthsGive p names.now spot.now terms.now masks.now bounds.now atoms o) result }
+    ensures { Told (λ o. (p : Program) → IsFilled p t.now
+        → DepthsGive p names.now spot.now terms.now masks.now bounds.now atoms o) result }
 {
     if !one_depth(bounds) {
         return Err(refused(alloc, Rule::E15, terms[1].at, spot, spot.owner));
@@ -135,7 +137,8 @@ fn class_type(
     terms: &[Term],
     masks: &[Named],
 ) -> Result<Ty, NameFault>
-    ensures { Told (λ o. (p : Program) → IsFilled p t.now → ResolveClass p names.now spot.now vars.now terms.now masks.now o) result }
+    ensures { Told (λ o. (p : Program) → IsFilled p t.now
+        → ResolveClass p names.now spot.now vars.now terms.now masks.now o) result }
 {
     let atoms = atoms_of(alloc, t, spot, vars, terms)?;
     let bounds = bounds_of(alloc, spot, vars, atoms.as_slice())?;
@@ -178,7 +181,9 @@ fn single(
     x: Atom,
     masks: &[Named],
 ) -> Result<Ty, NameFault>
-    ensures { Told (λ o. (p : Program) → IsFilled p t.now → MasksGive p names.now spot.now (bounds_at spot.now vars.now (x ∷ [])) (x ∷ []) masks.now (may_mask spot.now.role) o) result }
+    ensures { Told (λ o. (p : Program) → IsFilled p t.now
+        → MasksGive p names.now spot.now (bounds_at spot.now vars.now (x ∷ [])) (x ∷ []) masks.now
+        (may_mask spot.now.role) o) result }
 {
     let mut atoms = Items::new(alloc);
     atoms.push(x)?;
@@ -195,7 +200,8 @@ pub fn view_of(
     vars: &Vars,
     view: &ViewTerm,
 ) -> Result<Ty, NameFault>
-    ensures { Told (λ o. (p : Program) → IsFilled p t.now → ResolveView p names.now spot.now vars.now view.now o) result }
+    ensures { Told (λ o. (p : Program) → IsFilled p t.now
+        → ResolveView p names.now spot.now vars.now view.now o) result }
 {
     match atom_of(alloc, t, spot, vars, &view.term) {
         Err(fault) => Err(fault),

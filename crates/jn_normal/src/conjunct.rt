@@ -107,8 +107,9 @@ impl Conjunct {
         atom
     }
 
-    /// What an atom `z` of the path's type, with at most `k` inexact names, makes of this one: `k` less the number of these names are
-    /// taken off the end of z's exact names, and the rest off its anchor; this one's exact names follow what is left.
+    /// What an atom `z` of the path's type, with at most `k` inexact names, makes of this one: `k` less the number of
+    /// these names are taken off the end of z's exact names, and the rest off its anchor; this one's exact names
+    /// follow what is left.
     pub fn reduced(&self, alloc: Global, z: &Atom, k: usize) -> Result<Conjunct, AllocError>
         requires within { length z.now.names ≤ k }
         requires small { levels (reduced (atom_of z.now) k self.now).anchor < 2 ^ 8 }
@@ -134,8 +135,9 @@ impl Conjunct {
         })
     }
 
-    /// What any atom `z` of the path's type makes of this one. Where z has more than `k` inexact names, that is z's anchor and exact
-    /// names, with z's inexact names but for the last `k`, and then this one's exact and inexact names, as inexact ones.
+    /// What any atom `z` of the path's type makes of this one. Where z has more than `k` inexact names, that is z's
+    /// anchor and exact names, with z's inexact names but for the last `k`, and then this one's exact and inexact
+    /// names, as inexact ones.
     pub fn replaced(&self, alloc: Global, z: &Atom, k: usize) -> Result<Conjunct, AllocError>
         requires small { levels (replaced (atom_of z.now) k self.now).anchor < 2 ^ 8 }
         ensures { IfOk result (λ y. y ≡ replaced (atom_of z.now) k self.now) }

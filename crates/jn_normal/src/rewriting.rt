@@ -9,7 +9,8 @@ use jn_base::types::{Anchor, Atom, Ty};
 use jn_intern::{Pool, Scope};
 use std::alloc::{AllocError, Global};
 
-/// The atom rewritten by the first of the atoms that has at most `k` inexact names; the atom itself where there is none.
+/// The atom rewritten by the first of the atoms that has at most `k` inexact names; the atom itself where there is
+/// none.
 fn by_first(alloc: Global, k: usize, x: Conjunct, atoms: &[Atom]) -> Result<Conjunct, AllocError>
     requires small { levels (by_first k x (map atom_of atoms.now)).anchor < 2 ^ 8 }
     ensures { IfOk result (λ y. y ≡ by_first k x (map atom_of atoms.now)) }

@@ -49,8 +49,10 @@ fn normals(
     requires long { length from.now ≡ length to.now }
     requires known { ScopeInPool pool.now scope.now }
     requires fits { BindsFit (scope_in pool.now scope.now) }
-    requires anchored { All (λ x. Anchored (scope_in pool.now scope.now) (moved_anchor (swapped from.now to.now) x.anchor)) xs.now }
-    ensures { IfOk result (λ ys. ys.items ≡ map (moved_normal (scope_in pool.now scope.now) (swapped from.now to.now)) (map atom_of xs.now)) }
+    requires anchored { All
+        (λ x. Anchored (scope_in pool.now scope.now) (moved_anchor (swapped from.now to.now) x.anchor)) xs.now }
+    ensures { IfOk result (λ ys. ys.items
+        ≡ map (moved_normal (scope_in pool.now scope.now) (swapped from.now to.now)) (map atom_of xs.now)) }
 {
     let mut all = Vec::new(alloc);
     for x in xs {
@@ -129,7 +131,9 @@ pub fn subst(
     requires type_fits { MovedFits (scope_in pool.old scope.now) (swapped from.now to.now) (shown pool.old t) }
     ensures keeps { Keeps pool.old pool.new }
     ensures number { IfOk result (λ u. InPool pool.new u) }
-    ensures subst { IfOk result (λ u. TypeSubst (scope_in pool.old scope.now) (swapped from.now to.now) (shown pool.old t) (shown pool.new u)) }
+    ensures subst { IfOk result
+        (λ u. TypeSubst (scope_in pool.old scope.now) (swapped from.now to.now) (shown pool.old t)
+        (shown pool.new u)) }
 {
     let term = substituted(alloc, pool, scope, pool.show(t), from, to)?;
     let id = pool.intern(&term)?;

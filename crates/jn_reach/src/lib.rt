@@ -1,8 +1,9 @@
-//! Closures over numbered nodes, each proved exact: what chains of edges reach, the classes of the least equivalence that holds some pairs,
-//! and the least set that holds some seeds and is closed under rules of one premise.
+//! Closures over numbered nodes, each proved exact: what chains of edges reach, the classes of the least equivalence
+//! that holds some pairs, and the least set that holds some seeds and is closed under rules of one premise.
 //!
-//! A graph is a list of rows. Its nodes are the numbers below its length, and row a lists the nodes to which an edge leads from a,
-//! in any order and as often as it likes; [`edges_of`] makes one of pairs. Each answer holds a node exactly where the definition does:
+//! A graph is a list of rows. Its nodes are the numbers below its length, and row a lists the nodes to which an edge
+//! leads from a, in any order and as often as it likes; [`edges_of`] makes one of pairs. Each answer holds a node
+//! exactly where the definition does:
 //!
 //! | Call | Its answer | Defined in |
 //! |---|---|---|
@@ -12,18 +13,19 @@
 //! | [`least_set`] | what follows from the seeds | `specs/Derived` |
 //! | [`class_firsts`], [`class_members`] | the least node of each node's class, and the nodes of each class | `specs/Equivalent`, `specs/Pairs` |
 //!
-//! Lists of nodes are ascending and hold each node once, so a caller that numbers its things in some order has its answers in that order.
-//! A node is a `usize` of any size, and each call asks that no edge, pair or start leads outside the graph.
-//! The only error is want of memory; no call changes what it is given.
+//! Lists of nodes are ascending and hold each node once, so a caller that numbers its things in some order has its
+//! answers in that order. A node is a `usize` of any size, and each call asks that no edge, pair or start leads
+//! outside the graph. The only error is want of memory; no call changes what it is given.
 //!
-//! [`origins`], [`reached`], [`least_set`] and [`class_firsts`] visit each node once and follow each edge once, and their memory grows
-//! with the nodes and edges. [`closure`] does this for each node, and keeps only the rows that it gives.
-//! Neither time nor memory is in a contract, but for that each call ends.
+//! [`origins`], [`reached`], [`least_set`] and [`class_firsts`] visit each node once and follow each edge once, and
+//! their memory grows with the nodes and edges. [`closure`] does this for each node, and keeps only the rows that it
+//! gives. Neither time nor memory is in a contract, but for that each call ends.
 //!
-//! The nodes stand for things by their places in a list. `specs/Numbers` says that a relation on things is that of their numbers, and
-//! `proofs/Numbering` carries each closure of the numbers to that of the things: `Numbers-closure`, `Numbers-chain`, `Numbers-steps`,
-//! `Numbers-equivalent`, `NumbersSet-derived`. `proofs/Chains` has the laws over any relation, and `laws` those over graphs and pairs as
-//! contracts. `Each` and `Searches` serve loops that make one thing for each, or that look for one.
+//! The nodes stand for things by their places in a list. `specs/Numbers` says that a relation on things is that of
+//! their numbers, and `proofs/Numbering` carries each closure of the numbers to that of the things:
+//! `Numbers-closure`, `Numbers-chain`, `Numbers-steps`, `Numbers-equivalent`, `NumbersSet-derived`. `proofs/Chains`
+//! has the laws over any relation, and `laws` those over graphs and pairs as contracts. `Each` and `Searches` serve
+//! loops that make one thing for each, or that look for one.
 #![tactic(auto)]
 
 mod cycle;

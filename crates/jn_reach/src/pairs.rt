@@ -99,8 +99,9 @@ fn all_nodes(alloc: Global, count: usize) -> Result<Vec<usize>, AllocError>
     Ok(nodes)
 }
 
-/// For each node below `count` the least node of its class, where the classes are those of the least equivalence that holds the pairs.
-/// Two nodes are in one class exactly where this is the same. The time is that of one visit of each node and pair.
+/// For each node below `count` the least node of its class, where the classes are those of the least equivalence that
+/// holds the pairs. Two nodes are in one class exactly where this is the same. The time is that of one visit of each
+/// node and pair.
 pub fn class_firsts(
     alloc: Global,
     count: usize,
@@ -109,7 +110,8 @@ pub fn class_firsts(
     requires { AreBelow count pairs.now }
     ensures firsts { IfOk result (λ firsts. AreFirsts (IsPair pairs.now) count firsts.items) }
     ensures within { IfOk result (λ firsts. All (λ f. f < count) firsts.items) }
-    ensures classes { IfOk result (λ firsts. (a b : ℕ) → a < count → b < count → (slice_index firsts.items a ≡ slice_index firsts.items b) ↔ Equivalent (IsPair pairs.now) a b) }
+    ensures classes { IfOk result (λ firsts. (a b : ℕ) → a < count → b < count
+        → (slice_index firsts.items a ≡ slice_index firsts.items b) ↔ Equivalent (IsPair pairs.now) a b) }
 {
     let edges = edges_both_ways(alloc, count, pairs)?;
     let starts = all_nodes(alloc, count)?;
@@ -121,8 +123,8 @@ pub fn class_firsts(
     Ok(firsts)
 }
 
-/// The classes by their least nodes: for each node those whose least it is, in ascending order. `firsts` is what `class_firsts` gives.
-/// A node that is not the least of its class has none.
+/// The classes by their least nodes: for each node those whose least it is, in ascending order. `firsts` is what
+/// `class_firsts` gives. A node that is not the least of its class has none.
 pub fn class_members(alloc: Global, firsts: &[usize]) -> Result<Vec<Vec<usize>>, AllocError>
     requires { All (λ f. f < length firsts.now) firsts.now }
     ensures exact { IfOk result (λ rows. AreMembers firsts.now rows.items) }

@@ -13,7 +13,8 @@ fn visit_node(
     node: usize,
 ) -> Result<(), AllocError>
     requires { node < vec_len origins.old }
-    ensures visited { OnOk result (Visited start (node ∷ []) origins.old.items waiting.old.items origins.new.items waiting.new.items) }
+    ensures visited { OnOk result
+        (Visited start (node ∷ []) origins.old.items waiting.old.items origins.new.items waiting.new.items) }
 {
     if origins[node].is_none() {
         waiting.push(node)?;
@@ -30,7 +31,8 @@ fn visit_all(
     nodes: &[usize],
 ) -> Result<(), AllocError>
     requires { All (λ w. w < vec_len origins.old) nodes.now }
-    ensures visited { OnOk result (Visited start nodes.now origins.old.items waiting.old.items origins.new.items waiting.new.items) }
+    ensures visited { OnOk result
+        (Visited start nodes.now origins.old.items waiting.old.items origins.new.items waiting.new.items) }
 {
     for node in nodes {
         visit_node(origins, waiting, start, *node)?;
@@ -48,7 +50,8 @@ fn visit_from(
 ) -> Result<(), AllocError>
     requires edges { InRange edges.now (vec_len origins.old) }
     requires node { node < length edges.now }
-    ensures visited { OnOk result (VisitedFrom edges.now start node origins.old.items waiting.old.items origins.new.items waiting.new.items) }
+    ensures visited { OnOk result
+        (VisitedFrom edges.now start node origins.old.items waiting.old.items origins.new.items waiting.new.items) }
 {
     visit_all(origins, waiting, start, &edges[node])?;
     Ok(())

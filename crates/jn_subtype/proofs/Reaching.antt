@@ -8,14 +8,14 @@ use Rattle.jn_base.specs.declared.types.Atom.{Atom as ShownAtom}
 use Rattle.jn_base.specs.declared.types.Masks.{Masks}
 use Rattle.jn_base.specs.declared.types.Ty.{Ty}
 use Rattle.jn_base.specs.declared.types.Ty.TheVariants as ty
-use Rattle.jn_base.specs.Atoms.{Atom, atom_of}
+use Rattle.jn_base.specs.Atoms.{Atom, atom_of, MasksWithin}
 use Rattle.jn_base.specs.Scopes.{Scope}
 use Rattle.jn_base.specs.Fits.{Anchored, TypeFits}
 use Rattle.jn_table.specs.declared.table.Table.{Table}
 use Rattle.jn_table.specs.Tables.{IsFilled}
 use Rattle.jn_sem.specs.Widening.{Widens}
 use Rattle.jn_sem.specs.Search.{EndsPlainly, TurnsTo}
-use Rattle.jn_sem.specs.Below.{ReachedFrom, BelowAtoms, MasksWithin, Below, ints, booleans, nulls, classes}
+use Rattle.jn_sem.specs.Below.{ReachedFrom, BelowAtoms, Below, ints, booleans, nulls, classes}
 use Rattle.jn_sem.proofs.Searches.{ends_chain, not_chain}
 use Rattle.jn_sem.proofs.Endings.{ends_plainly}
 use Rattle.jn_sem.proofs.NormalTypes.{among_map, map_among}

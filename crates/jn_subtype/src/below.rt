@@ -29,7 +29,8 @@ pub fn below(
     requires known { ScopeInPool pool.now scope.now }
     requires fits { BindsFit (scope_in pool.now scope.now) }
     requires anchored { Anchored (scope_in pool.now scope.now) x.now.anchor }
-    ensures { IfOk result (λ r. (p : Program) → IsFilled p table.now → IsTrue r ↔ Chain (Widens p (scope_in pool.now scope.now)) x.now y.now) }
+    ensures { IfOk result (λ r. (p : Program) → IsFilled p table.now → IsTrue r
+        ↔ Chain (Widens p (scope_in pool.now scope.now)) x.now y.now) }
 {
     if ends(alloc, pool, scope, table, x, y)? {
         return Ok(true);
@@ -55,7 +56,8 @@ fn is_reached(
     requires known { ScopeInPool pool.now scope.now }
     requires fits { BindsFit (scope_in pool.now scope.now) }
     requires anchored { All (λ x. Anchored (scope_in pool.now scope.now) x.anchor) xs.now }
-    ensures { IfOk result (λ r. (p : Program) → IsFilled p table.now → IsTrue r ↔ ReachedFrom p (scope_in pool.now scope.now) (map atom_of xs.now) (atom_of y.now)) }
+    ensures { IfOk result (λ r. (p : Program) → IsFilled p table.now → IsTrue r
+        ↔ ReachedFrom p (scope_in pool.now scope.now) (map atom_of xs.now) (atom_of y.now)) }
 {
     let end = Conjunct::at(alloc, y.anchor, y)?;
     for x in xs {
@@ -79,7 +81,8 @@ fn are_reached(
     requires known { ScopeInPool pool.now scope.now }
     requires fits { BindsFit (scope_in pool.now scope.now) }
     requires anchored { All (λ x. Anchored (scope_in pool.now scope.now) x.anchor) xs.now }
-    ensures { IfOk result (λ r. (p : Program) → IsFilled p table.now → IsTrue r ↔ BelowAtoms p (scope_in pool.now scope.now) (map atom_of xs.now) (map atom_of ys.now)) }
+    ensures { IfOk result (λ r. (p : Program) → IsFilled p table.now → IsTrue r
+        ↔ BelowAtoms p (scope_in pool.now scope.now) (map atom_of xs.now) (map atom_of ys.now)) }
 {
     for y in ys {
         if !is_reached(alloc, pool, scope, table, xs, y)? {
@@ -102,7 +105,8 @@ pub fn is_below(
     requires known { ScopeInPool pool.now scope.now }
     requires fits { BindsFit (scope_in pool.now scope.now) }
     requires s_fits { TypeFits (scope_in pool.now scope.now) s.now }
-    ensures { IfOk result (λ r. (p : Program) → IsFilled p table.now → IsTrue r ↔ Below p (scope_in pool.now scope.now) s.now t.now) }
+    ensures { IfOk result (λ r. (p : Program) → IsFilled p table.now → IsTrue r
+        ↔ Below p (scope_in pool.now scope.now) s.now t.now) }
 {
     match s {
         Ty::Int => Ok(matches!(t, Ty::Int)),

@@ -17,11 +17,14 @@ use jn_normal::{Conjunct, further};
 use jn_table::Table;
 use std::alloc::{AllocError, Global};
 
-/// How many atoms steps 1 and 2 lead to, itself among them, where `b` is the bound: one more than the names that can be moved. These
-/// are the exact names, and where the bound is in the universe also those of the anchor's bound but for the outermost.
+/// How many atoms steps 1 and 2 lead to, itself among them, where `b` is the bound: one more than the names that can
+/// be moved. These are the exact names, and where the bound is in the universe also those of the anchor's bound but
+/// for the outermost.
 fn count(table: &Table, b: &Bound, x: &Conjunct) -> usize
-    ensures exact { (p : Program) (s : AScope) → IsFilled p table.now → b.now ≡ bound s x.now → Anchored s x.now.anchor → (i : ℕ) → i < result ↔ CanClimb p s x.now i }
-    ensures anchored { (s : AScope) → b.now ≡ bound s x.now → Anchored s x.now.anchor → (i : ℕ) → i < result → Anchored s (lifted (i - length x.now.exact) x.now.anchor) }
+    ensures exact { (p : Program) (s : AScope) → IsFilled p table.now → b.now ≡ bound s x.now
+        → Anchored s x.now.anchor → (i : ℕ) → i < result ↔ CanClimb p s x.now i }
+    ensures anchored { (s : AScope) → b.now ≡ bound s x.now → Anchored s x.now.anchor → (i : ℕ) → i < result
+        → Anchored s (lifted (i - length x.now.exact) x.now.anchor) }
 {
     let exact = x.exact().len();
     match x.anchor() {
@@ -52,8 +55,8 @@ fn climb(alloc: Global, b: &Bound, x: &Conjunct, i: usize) -> Result<Conjunct, A
     Conjunct::of(alloc, anchor, &exact[..kept], &names[from..])
 }
 
-/// The atoms to which steps 1 and 2 lead from `x`, itself first: as many names as can be are moved, one after another, from the innermost
-/// exact one outwards and on into the anchor's bound.
+/// The atoms to which steps 1 and 2 lead from `x`, itself first: as many names as can be are moved, one after
+/// another, from the innermost exact one outwards and on into the anchor's bound.
 pub fn climbs(
     alloc: Global,
     pool: &Pool,
@@ -64,7 +67,8 @@ pub fn climbs(
     requires known { ScopeInPool pool.now scope.now }
     requires fits { BindsFit (scope_in pool.now scope.now) }
     requires anchored { Anchored (scope_in pool.now scope.now) x.now.anchor }
-    ensures exact { IfOk result (λ zs. (p : Program) → IsFilled p table.now → (z : AnAtom) → Contains zs.items z ↔ Chain (Climbs p (scope_in pool.now scope.now)) x.now z) }
+    ensures exact { IfOk result (λ zs. (p : Program) → IsFilled p table.now → (z : AnAtom) → Contains zs.items z
+        ↔ Chain (Climbs p (scope_in pool.now scope.now)) x.now z) }
     ensures old { IfOk result (λ zs. All (IsAsOld (scope_in pool.now scope.now) x.now) zs.items) }
 {
     let b = bound_in(alloc, pool, scope, x)?;

@@ -29,7 +29,8 @@ fn is_front(front: &[Name], all: &[Name]) -> bool
     true
 }
 
-/// Whether `y` is at the same anchor as `x` and has as many names, and its exact names are the outer ones of those of `x`.
+/// Whether `y` is at the same anchor as `x` and has as many names, and its exact names are the outer ones of those of
+/// `x`.
 fn is_level(x: &Conjunct, y: &Conjunct) -> bool
     ensures { IsTrue result ↔ IsLevel x.now y.now }
 {
@@ -80,8 +81,8 @@ fn is_higher(x: &Conjunct, y: &Conjunct) -> bool
     }
 }
 
-/// Whether `y` is reached from `x` without an atom of a path's type: at the same anchor some exact names have become inexact, or at a
-/// higher one all have, and the bound of `y` is a super of that of `x`.
+/// Whether `y` is reached from `x` without an atom of a path's type: at the same anchor some exact names have become
+/// inexact, or at a higher one all have, and the bound of `y` is a super of that of `x`.
 pub fn ends(
     alloc: Global,
     pool: &Pool,
@@ -91,7 +92,8 @@ pub fn ends(
     y: &Conjunct,
 ) -> Result<bool, AllocError>
     requires known { ScopeInPool pool.now scope.now }
-    ensures { IfOk result (λ r. (p : Program) → IsFilled p table.now → IsTrue r ↔ EndsPlainly p (scope_in pool.now scope.now) x.now y.now) }
+    ensures { IfOk result (λ r. (p : Program) → IsFilled p table.now → IsTrue r
+        ↔ EndsPlainly p (scope_in pool.now scope.now) x.now y.now) }
 {
     let from = bound_in(alloc, pool, scope, x)?;
     let to = bound_in(alloc, pool, scope, y)?;

@@ -45,8 +45,11 @@ fn add_replaced(
     requires known { ScopeInPool pool.now scope.now }
     requires fits { BindsFit (scope_in pool.now scope.now) }
     requires older { IsOlder (scope_in pool.now scope.now) w.now (replaced (atom_of z.now) k w.now) }
-    ensures exact { OnOk result ((p : Program) → IsFilled p table.now → Adds (λ t. (t ≡ replaced (atom_of z.now) k w.now) × InUniverse p (bound (scope_in pool.now scope.now) t)) all.old.items all.new.items) }
-    ensures older { OnOk result (All (IsOlder (scope_in pool.now scope.now) w.now) all.old.items → All (IsOlder (scope_in pool.now scope.now) w.now) all.new.items) }
+    ensures exact { OnOk result ((p : Program) → IsFilled p table.now
+        → Adds (λ t. (t ≡ replaced (atom_of z.now) k w.now)
+        × InUniverse p (bound (scope_in pool.now scope.now) t)) all.old.items all.new.items) }
+    ensures older { OnOk result (All (IsOlder (scope_in pool.now scope.now) w.now) all.old.items
+        → All (IsOlder (scope_in pool.now scope.now) w.now) all.new.items) }
 {
     let t = w.replaced(alloc, z, k)?;
     let b = bound_in(alloc, pool, scope, &t)?;
@@ -69,8 +72,10 @@ fn by_atoms(
 ) -> Result<Vec<Conjunct>, AllocError>
     requires known { ScopeInPool pool.now scope.now }
     requires fits { BindsFit (scope_in pool.now scope.now) }
-    requires older { (z : AnAtom) → Among (map atom_of atoms.now) z → IsOlder (scope_in pool.now scope.now) w.now (replaced z k w.now) }
-    ensures exact { IfOk result (λ ts. (p : Program) → IsFilled p table.now → (t : AnAtom) → Contains ts.items t ↔ Replaces p (scope_in pool.now scope.now) (map atom_of atoms.now) k w.now t) }
+    requires older { (z : AnAtom) → Among (map atom_of atoms.now) z
+        → IsOlder (scope_in pool.now scope.now) w.now (replaced z k w.now) }
+    ensures exact { IfOk result (λ ts. (p : Program) → IsFilled p table.now → (t : AnAtom) → Contains ts.items t
+        ↔ Replaces p (scope_in pool.now scope.now) (map atom_of atoms.now) k w.now t) }
     ensures older { IfOk result (λ ts. All (IsOlder (scope_in pool.now scope.now) w.now) ts.items) }
 {
     let mut all = Vec::new(alloc);
@@ -92,8 +97,10 @@ fn by_type(
 ) -> Result<Vec<Conjunct>, AllocError>
     requires known { ScopeInPool pool.now scope.now }
     requires fits { BindsFit (scope_in pool.now scope.now) }
-    requires older { (z : AnAtom) → Among (atoms_in ty.now) z → IsOlder (scope_in pool.now scope.now) w.now (replaced z k w.now) }
-    ensures exact { IfOk result (λ ts. (p : Program) → IsFilled p table.now → (t : AnAtom) → Contains ts.items t ↔ Replaces p (scope_in pool.now scope.now) (atoms_in ty.now) k w.now t) }
+    requires older { (z : AnAtom) → Among (atoms_in ty.now) z
+        → IsOlder (scope_in pool.now scope.now) w.now (replaced z k w.now) }
+    ensures exact { IfOk result (λ ts. (p : Program) → IsFilled p table.now → (t : AnAtom) → Contains ts.items t
+        ↔ Replaces p (scope_in pool.now scope.now) (atoms_in ty.now) k w.now t) }
     ensures older { IfOk result (λ ts. All (IsOlder (scope_in pool.now scope.now) w.now) ts.items) }
 {
     match ty {
@@ -105,8 +112,8 @@ fn by_type(
     }
 }
 
-/// The atoms to which a step 3 leads from `w`: each atom of its path's type stands for the path, where the bound is then one of the
-/// universe.
+/// The atoms to which a step 3 leads from `w`: each atom of its path's type stands for the path, where the bound is
+/// then one of the universe.
 pub fn enters(
     alloc: Global,
     pool: &Pool,
@@ -117,7 +124,8 @@ pub fn enters(
     requires known { ScopeInPool pool.now scope.now }
     requires fits { BindsFit (scope_in pool.now scope.now) }
     requires anchored { Anchored (scope_in pool.now scope.now) w.now.anchor }
-    ensures exact { IfOk result (λ ts. (p : Program) → IsFilled p table.now → (t : AnAtom) → Contains ts.items t ↔ Enters p (scope_in pool.now scope.now) w.now t) }
+    ensures exact { IfOk result (λ ts. (p : Program) → IsFilled p table.now → (t : AnAtom) → Contains ts.items t
+        ↔ Enters p (scope_in pool.now scope.now) w.now t) }
     ensures older { IfOk result (λ ts. All (IsOlder (scope_in pool.now scope.now) w.now) ts.items) }
 {
     match w.anchor() {

@@ -32,8 +32,8 @@ impl Judge {
 
     /// Whether the first type is below the second one, in the scope.
     ///
-    /// The scope fits, and so do both types; they need not be in normal form. The universe is filled in the table. Each number
-    /// of the pool shows the same afterwards, also after a refusal, and the judge still fits.
+    /// The scope fits, and so do both types; they need not be in normal form. The universe is filled in the table.
+    /// Each number of the pool shows the same afterwards, also after a refusal, and the judge still fits.
     pub fn sub(
         &mut self,
         pool: &mut Pool,
@@ -49,7 +49,8 @@ impl Judge {
         requires fits { ScopeFits (scope_in pool.old scope.now) }
         requires s_fits { TypeFits (scope_in pool.old scope.now) (shown pool.old s) }
         requires t_fits { TypeFits (scope_in pool.old scope.now) (shown pool.old t) }
-        ensures below { IfOk result (λ r. (p : Program) → IsFilled p table.now → IsTrue r ↔ Below p (scope_in pool.old scope.now) (shown pool.old s) (shown pool.old t)) }
+        ensures below { IfOk result (λ r. (p : Program) → IsFilled p table.now → IsTrue r
+            ↔ Below p (scope_in pool.old scope.now) (shown pool.old s) (shown pool.old t)) }
         ensures keeps { Keeps pool.old pool.new }
         ensures still { JudgeFits self.new pool.new table.now }
     {

@@ -21,7 +21,8 @@ fn add_spread(
     above: &Bound,
     all: &mut Vec<Conjunct>,
 ) -> Result<(), AllocError>
-    ensures { OnOk result (Adds (λ w. (drop (length z.now.names) above.now ≡ outer.now) × (w ≡ spread z.now above.now)) all.old.items all.new.items) }
+    ensures { OnOk result (Adds (λ w. (drop (length z.now.names) above.now ≡ outer.now)
+        × (w ≡ spread z.now above.now)) all.old.items all.new.items) }
 {
     let n = z.names().len();
     let rest = above.without(alloc, n)?;
@@ -35,8 +36,8 @@ fn add_spread(
     Ok(())
 }
 
-/// The atoms to which one step 4 or none leads from `z`: the inexact names become those of a super of the bound that has the same outer
-/// names.
+/// The atoms to which one step 4 or none leads from `z`: the inexact names become those of a super of the bound that
+/// has the same outer names.
 pub fn spreads(
     alloc: Global,
     pool: &Pool,
@@ -45,7 +46,8 @@ pub fn spreads(
     z: &Conjunct,
 ) -> Result<Vec<Conjunct>, AllocError>
     requires known { ScopeInPool pool.now scope.now }
-    ensures exact { IfOk result (λ ws. (p : Program) → IsFilled p table.now → (w : AnAtom) → Contains ws.items w ↔ Spreads p (scope_in pool.now scope.now) z.now w) }
+    ensures exact { IfOk result (λ ws. (p : Program) → IsFilled p table.now → (w : AnAtom) → Contains ws.items w
+        ↔ Spreads p (scope_in pool.now scope.now) z.now w) }
     ensures anchors { IfOk result (λ ws. All (λ w. w.anchor ≡ z.now.anchor) ws.items) }
 {
     let b = bound_in(alloc, pool, scope, z)?;

@@ -27,7 +27,8 @@ fn spread_and_enter(
     requires known { ScopeInPool pool.now scope.now }
     requires fits { BindsFit (scope_in pool.now scope.now) }
     requires anchored { Anchored (scope_in pool.now scope.now) z.now.anchor }
-    ensures exact { IfOk result (λ ts. (p : Program) → IsFilled p table.now → (t : AnAtom) → Contains ts.items t ↔ SpreadEnters p (scope_in pool.now scope.now) z.now t) }
+    ensures exact { IfOk result (λ ts. (p : Program) → IsFilled p table.now → (t : AnAtom) → Contains ts.items t
+        ↔ SpreadEnters p (scope_in pool.now scope.now) z.now t) }
     ensures older { IfOk result (λ ts. All (IsOlder (scope_in pool.now scope.now) z.now) ts.items) }
 {
     let ws = spreads(alloc, pool, scope, table, z)?;
@@ -39,8 +40,8 @@ fn spread_and_enter(
     Ok(all)
 }
 
-/// The atoms that are reached from `x` with one atom of its path's type: by steps 1 and 2, then one step 4 or none, then one step 3.
-/// Each has an older path, or none.
+/// The atoms that are reached from `x` with one atom of its path's type: by steps 1 and 2, then one step 4 or none,
+/// then one step 3. Each has an older path, or none.
 pub fn turns(
     alloc: Global,
     pool: &Pool,
@@ -51,7 +52,8 @@ pub fn turns(
     requires known { ScopeInPool pool.now scope.now }
     requires fits { BindsFit (scope_in pool.now scope.now) }
     requires anchored { Anchored (scope_in pool.now scope.now) x.now.anchor }
-    ensures exact { IfOk result (λ ts. (p : Program) → IsFilled p table.now → (t : AnAtom) → Contains ts.items t ↔ TurnsTo p (scope_in pool.now scope.now) x.now t) }
+    ensures exact { IfOk result (λ ts. (p : Program) → IsFilled p table.now → (t : AnAtom) → Contains ts.items t
+        ↔ TurnsTo p (scope_in pool.now scope.now) x.now t) }
     ensures older { IfOk result (λ ts. All (IsOlder (scope_in pool.now scope.now) x.now) ts.items) }
 {
     let zs = climbs(alloc, pool, scope, table, x)?;

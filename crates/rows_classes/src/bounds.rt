@@ -10,10 +10,11 @@ use std::alloc::{AllocError, Global};
 
 /// The answer to a question on paths, known or not:
 ///
-/// - `is_known P`, `is_class P`, `has_number P`, `has_field P f`: `yes` or `no`; `is_below P Q R ..`: one for each of Q, R ..
+/// - `is_known P`, `is_class P`, `has_number P`, `has_field P f`: `yes` or `no`.
+/// - `is_below P Q R ..`: `yes` or `no` for each of Q, R ..
 /// - `supers P`: the supers, in their order.
 /// - `depth P`, `without P k`: how many names it has, and the path without so many last ones.
-/// - `is P Q`, `same_names P Q`, `has_name P n`, `is_name m n`: of paths, of lists of names, of a name in a list, of names.
+/// - `is P Q`, `same_names P Q`, `has_name P n`, `is_name m n`: `yes` or `no`.
 pub fn answer(
     alloc: Global,
     world: &World,

@@ -79,8 +79,10 @@ fn are_deep(
     depth: usize,
 ) -> Result<bool, AllocError>
     requires known { All (λ b. InPool pool.now b.ty) binds.now }
-    ensures anchored { IfOk result (λ r. IsTrue r → (x : ShownAtom) → Contains xs.now x → Anchored (binds_in pool.now binds.now) x.anchor) }
-    ensures deep { IfOk result (λ r. IsTrue r → (x : ShownAtom) → Contains xs.now x → length (bound (binds_in pool.now binds.now) (atom_of x)) ≡ depth) }
+    ensures anchored { IfOk result (λ r. IsTrue r → (x : ShownAtom) → Contains xs.now x
+        → Anchored (binds_in pool.now binds.now) x.anchor) }
+    ensures deep { IfOk result (λ r. IsTrue r → (x : ShownAtom) → Contains xs.now x
+        → length (bound (binds_in pool.now binds.now) (atom_of x)) ≡ depth) }
 {
     for x in xs {
         if !is_deep(alloc, pool, binds, x, depth)? {
@@ -152,7 +154,8 @@ fn moved_atoms_fit(
 ) -> Result<bool, AllocError>
     requires long { length from.now ≡ length to.now }
     requires known { All (λ b. InPool pool.now b.ty) binds.now }
-    ensures { IfOk result (λ r. IsTrue r → AtomsFit (binds_in pool.now binds.now) (map (moved_atom (swapped from.now to.now)) (map atom_of xs.now))) }
+    ensures { IfOk result (λ r. IsTrue r
+        → AtomsFit (binds_in pool.now binds.now) (map (moved_atom (swapped from.now to.now)) (map atom_of xs.now))) }
 {
     let moved = moved_atoms(alloc, from, to, xs)?;
     atoms_fit(alloc, pool, binds, moved.as_slice())

@@ -4,9 +4,9 @@ use jn_cases::{Case, CasesFault, bytes_of};
 use std::alloc::{AllocError, Global};
 use toml::Value;
 
-/// The source that a case gives: under `source`, or under `source_parts` with repeats, or under `source_numbered`, a list of
-/// texts with the first and the last of the numbers for which each stands there. In such a text `#` is the number in
-/// four digits, and `%` the number before it.
+/// The source that a case gives: under `source`, or under `source_parts` with repeats, or under `source_numbered`, a
+/// list of texts with the first and the last of the numbers for which each stands there. In such a text `#` is the
+/// number in four digits, and `%` the number before it.
 pub fn source_of(alloc: Global, case: &Case) -> Result<Option<Vec<u8>>, CasesFault> {
     match case.list("source_numbered") {
         None => bytes_of(alloc, case, "source"),

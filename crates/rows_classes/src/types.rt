@@ -23,9 +23,10 @@ const UNFIT: &str = "it does not fit";
 /// - `subst v this->p q->r ..`: its normal form with paths put for paths, all at once.
 /// - `sub v w`: whether the type of v is below that of w.
 /// - `same v w`: whether they are equal as they are.
-/// - `intern v w ..`: the numbers that the types get in a new pool with what it shows for each, and how many it then has.
+/// - `intern v w ..`: the numbers that the types get in a new pool with what it shows for each, and how many it has.
 ///
-/// The words `null` and `void` stand for the types that no variable has. A type that does not fit the scope is answered so.
+/// The words `null` and `void` stand for the types that no variable has. A type that does not fit the scope is
+/// answered so.
 pub fn answer(
     alloc: Global,
     setting: &Setting<'_>,
