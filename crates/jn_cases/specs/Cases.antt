@@ -76,8 +76,8 @@ numbered before first (suc n) behind = numbered before first n behind ++ before 
 
 -- the bytes of one part in text: of copies, or of numbers, as ["p", 7, 2, ";"]
 abbrev pub text_part : Data → Option (List ℕ)
-text_part (array (item (string before) (item (integer (pos first)) (item (integer (pos n)) (item (string behind) no_items))))) =
-    Some (numbered before first n behind)
+text_part (array (item (string before) (item (integer (pos first)) (item (integer (pos n))
+    (item (string behind) no_items))))) = Some (numbered before first n behind)
 text_part d = part_bytes Some d
 
 -- some bytes, and then those of the parts, one after the other

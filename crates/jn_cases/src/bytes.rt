@@ -64,7 +64,8 @@ fn bytes_of_parts(alloc: Global, line: u32, parts: &[Value]) -> Result<Vec<u8>, 
 }
 
 fn put_part(bytes: &mut Vec<u8>, line: u32, part: &Value) -> Result<(), CasesFault>
-    ensures { OnOk result (option_map (λ more. bytes.old.items ++ more) (text_part (view part.now)) ≡ Some bytes.new.items) }
+    ensures { OnOk result (option_map (λ more. bytes.old.items ++ more) (text_part (view part.now))
+        ≡ Some bytes.new.items) }
 {
     if let Some((text, count)) = copies_of(part) {
         put_copies(bytes, text.as_bytes(), count)?;
@@ -95,7 +96,8 @@ fn put_hex_part(
     line: u32,
     part: &Value,
 ) -> Result<(), CasesFault>
-    ensures { OnOk result (option_map (λ more. bytes.old.items ++ more) (part_bytes hex_bytes (view part.now)) ≡ Some bytes.new.items) }
+    ensures { OnOk result (option_map (λ more. bytes.old.items ++ more) (part_bytes hex_bytes (view part.now))
+        ≡ Some bytes.new.items) }
 {
     let (text, count) = match copies_of(part) {
         Some(pair) => pair,
@@ -108,7 +110,8 @@ fn put_hex_part(
 
 // A text and a count that is not negative.
 fn copies_of(part: &Value) -> Option<(&str, u64)>
-    ensures { IfSome result (λ pair. view part.now ≡ array (item (string pair.0.now) (item (integer (pos pair.1)) no_items))) }
+    ensures { IfSome result (λ pair. view part.now
+        ≡ array (item (string pair.0.now) (item (integer (pos pair.1)) no_items))) }
 {
     match part.as_array()?.as_slice() {
         [text, count] => Some((text.as_str()?, u64::try_from(count.as_integer()?).ok()?)),
@@ -118,7 +121,8 @@ fn copies_of(part: &Value) -> Option<(&str, u64)>
 
 // What stands before each number, the first, how many there are, and what stands behind each.
 fn numbered_of(part: &Value) -> Option<(&str, u64, u64, &str)>
-    ensures form { IfSome result (λ n. view part.now ≡ array (item (string n.0.now) (item (integer (pos n.1)) (item (integer (pos n.2)) (item (string n.3.now) no_items))))) }
+    ensures form { IfSome result (λ n. view part.now ≡ array (item (string n.0.now)
+        (item (integer (pos n.1)) (item (integer (pos n.2)) (item (string n.3.now) no_items))))) }
     ensures fits { IfSome result (λ n. n.1 + n.2 < 2 ^ 64) }
 {
     match part.as_array()?.as_slice() {

@@ -41,7 +41,8 @@ impl Case {
 
     /// The texts of the list under a key, none where the case has no such key.
     pub fn texts(&self, alloc: Global, key: &str) -> Result<Vec<String>, CasesFault>
-        ensures { IfOk result (λ v. unwrap_or (under self.now key.now) (array no_items) ≡ array (text_items v.items)) }
+        ensures { IfOk result (λ v. unwrap_or (under self.now key.now) (array no_items)
+            ≡ array (text_items v.items)) }
     {
         match self.entries.get(key) {
             None => Ok(Vec::new(alloc)),
@@ -52,7 +53,8 @@ impl Case {
 
     /// The numbers of the list under a key, none where the case has no such key. None is negative.
     pub fn numbers(&self, alloc: Global, key: &str) -> Result<Vec<u64>, CasesFault>
-        ensures { IfOk result (λ v. unwrap_or (under self.now key.now) (array no_items) ≡ array (number_items v.items)) }
+        ensures { IfOk result (λ v. unwrap_or (under self.now key.now) (array no_items)
+            ≡ array (number_items v.items)) }
     {
         match self.entries.get(key) {
             None => Ok(Vec::new(alloc)),

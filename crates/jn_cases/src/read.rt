@@ -10,7 +10,8 @@ use toml::Value;
 
 /// The cases of a file, in its order.
 pub fn read_cases(alloc: Global, text: &str) -> Result<Vec<Case>, CasesFault>
-    ensures cases { IfOk result (λ v. option_and_then listed_cases (parse_document text.now) ≡ Some (tables_of v.items)) }
+    ensures cases { IfOk result (λ v. option_and_then listed_cases (parse_document text.now)
+        ≡ Some (tables_of v.items)) }
     ensures names { IfOk result (λ v. All IsNamed v.items) }
 {
     let table = match toml::table_from_str(alloc, text) {

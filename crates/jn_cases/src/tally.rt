@@ -54,7 +54,8 @@ impl Tally {
 
     /// Says which keys the case may have beside its name. One that has another differs.
     pub fn keys(&mut self, case: &Case, known: &[&str]) -> Result<(), AllocError>
-        ensures { ¬ All (λ key. ¬ IsUnknown known.now key) (keys_of case.now) → OnOk result (Differs self.old self.new) }
+        ensures { ¬ All (λ key. ¬ IsUnknown known.now key) (keys_of case.now)
+            → OnOk result (Differs self.old self.new) }
     {
         match case.unknown_key(known) {
             None => Ok(()),

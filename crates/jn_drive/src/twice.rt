@@ -6,6 +6,7 @@ ghost use Rattle.jn_base.specs.declared.tree.Name.{Name};
 ghost use Rattle.jn_base.specs.Duplicates.{Given, same_given, only_if, has_name, seconds, param_name, param_scope, in_block, in_stmt, in_method, refusal, duplicate, in_members, in_member, in_decl, in_decls, in_lists, duplicates};
 ghost use Rattle.jn_drive.specs.First.{first, IfPassed, SameNames, in_seen};
 
+use jn_base::compare::has_name;
 use jn_base::path::Path;
 use jn_base::refusal::{Refusal, Rule};
 use jn_base::tree::{Decl, Member, Method, Name, Named, Param, Program, Stmt};
@@ -62,17 +63,6 @@ fn shown(alloc: Global, path: &Path, second: Option<Named>) -> Result<Option<Ref
         Some(second) => Ok(Some(duplicate(alloc, path, second)?)),
         None => Ok(None),
     }
-}
-
-fn has_name(names: &[Name], name: Name) -> bool
-    ensures { result ≡ has_name names.now name }
-{
-    for n in names {
-        if n.0 == name.0 {
-            return true;
-        }
-    }
-    false
 }
 
 /// The names that the members of a body gave, each in the name space of its sort.

@@ -1,6 +1,5 @@
 -- Reading by parts: what is read first is an answer of its own.
 use Rattle.std.proofs.Common.{◌≡◌, refl, List, Result, Ok, Err}
-use Rattle.jn_base.specs.declared.tree.Expr.{Expr}
 use Rattle.jn_base.specs.declared.tree.Node.TheVariants as node
 use Rattle.jn_base.specs.declared.tree.Place.{Place}
 use Rattle.jn_base.specs.declared.tree.Term.{Term}
@@ -9,7 +8,7 @@ use Rattle.jn_base.specs.declared.word.Word.TheVariants.{Mark as Marked}
 use Rattle.jn_base.specs.declared.word.Lexeme.{Lexeme}
 use Rattle.jn_base.specs.Parts.{expr}
 use Rattle.jn_grammar.specs.declared.fault.Fault.{Fault}
-use Rattle.jn_grammar.specs.Answers.{Answer, ◌>>=◌, expect, name_in}
+use Rattle.jn_grammar.specs.Answers.{◌>>=◌, expect, name_in}
 use Rattle.jn_grammar.specs.ReadExprs.{Inner, call_args_in, super_call_in}
 use Rattle.jn_parser.specs.Levels.{super_method_in}
 

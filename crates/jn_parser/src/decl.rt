@@ -14,7 +14,7 @@ ghost use Rattle.jn_parser.specs.Giving.{Gives};
 
 use crate::cursor::{behind, name, passed, starts, starts_key, syntax, take};
 use crate::fault::Stop;
-use crate::rows::joined;
+use crate::rows::{alone, joined};
 use crate::stmt::{block, is_in_body, starts_name};
 use crate::types::{type_term, view};
 use jn_base::refusal::Limit;
@@ -171,8 +171,10 @@ fn sharing(alloc: Global, left: u32, ts: &[Lexeme]) -> Result<(Items<Constraint>
         return Ok((Items::new(alloc), ts));
     }
     let (first, rest) = rel(alloc, left, behind(ts))?;
+    let mut rels = alone(alloc, first)?;
     let (others, rest) = next_rels(alloc, left, rest)?;
-    Ok((joined(alloc, first, others)?, rest))
+    rels.append(others)?;
+    Ok((rels, rest))
 }
 
 /// A further name of a list, from the ampersand before it on.

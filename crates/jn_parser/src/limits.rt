@@ -1,6 +1,6 @@
 //! The limits that words alone show: how many different names there are, and how many of them name masks.
 
-ghost use Rattle.std.specs.Prelude.{◌≡◌, IfOk, OnOk};
+ghost use Rattle.std.specs.Prelude.{◌≡◌, [], IfOk, OnOk};
 ghost use Rattle.jn_base.specs.Words.{name_number};
 ghost use Rattle.jn_grammar.specs.TokenLimits.{token_limit};
 ghost use Rattle.jn_parser.specs.Noted.{noted, shown_by};
@@ -47,13 +47,24 @@ pub fn first_passed(alloc: Global, words: &[Lexeme]) -> Result<Option<(Limit, us
     ensures { IfOk result (λ r. r ≡ token_limit words.now) }
 {
     let mut masks = IndexSet::new(alloc);
+    passed_behind(words, &mut masks)
+}
+
+/// The same, where the masks that are noted are none.
+fn passed_behind(
+    words: &[Lexeme],
+    masks: &mut IndexSet<u32>,
+) -> Result<Option<(Limit, usize)>, AllocError>
+    requires { masks.old.keys ≡ [] }
+    ensures { IfOk result (λ r. r ≡ token_limit words.now) }
+{
     let mut is_mask = false;
     let mut rest = words;
     'word: while let Some((t, after)) = split_first(rest) {
-        if let Some(limit) = shown(&masks, is_mask, t.word) {
+        if let Some(limit) = shown(masks, is_mask, t.word) {
             return Ok(Some((limit, rest.len())));
         }
-        note(&mut masks, is_mask, t.word)?;
+        note(masks, is_mask, t.word)?;
         is_mask = starts(Mark::Backslash, rest);
         rest = after;
     }

@@ -15,6 +15,15 @@ pub fn split_first<T: Copy>(items: &[T]) -> Option<(T, &[T])>
     }
 }
 
+/// One item.
+pub fn alone<T: Drop>(alloc: Global, item: T) -> Result<Items<T>, AllocError>
+    ensures { IfOk result (λ all. all ≡ item ∷ []) }
+{
+    let mut all = Items::new(alloc);
+    all.push(item)?;
+    Ok(all)
+}
+
 /// The first, and the others behind it.
 pub fn joined<T: Drop>(alloc: Global, first: T, others: Items<T>) -> Result<Items<T>, AllocError>
     ensures { IfOk result (λ all. all ≡ first ∷ others) }

@@ -160,6 +160,20 @@ fn table(alloc: Global, seen: &[Vec<u8>]) -> Result<Items<Text>, AllocError>
     Ok(texts)
 }
 
+/// The texts of the table of names and of that of texts.
+fn tables(
+    alloc: Global,
+    names: &[Vec<u8>],
+    texts: &[Vec<u8>],
+) -> Result<(Items<Text>, Items<Text>), AllocError>
+    ensures names { IfOk result (λ x. x.0 ≡ map (λ k. text k.items) names.now) }
+    ensures texts { IfOk result (λ x. x.1 ≡ map (λ k. text k.items) texts.now) }
+{
+    let names = table(alloc, names)?;
+    let texts = table(alloc, texts)?;
+    Ok((names, texts))
+}
+
 /// The words of the tokens, and what stands behind them.
 fn all_words(alloc: Global, bytes: &[u8], scanned: &Scanned) -> Result<Seen, AllocError>
     requires within { length bytes.now ≤ 1_048_576 }
@@ -180,8 +194,7 @@ pub fn words(alloc: Global, bytes: &[u8], scanned: &Scanned) -> Result<Wording, 
     ensures { IfOk result (λ w. AreWordsOf bytes.now w.names w.texts w.words.items) }
 {
     let seen = all_words(alloc, bytes, scanned)?;
-    let names = table(alloc, seen.names.as_slice())?;
-    let texts = table(alloc, seen.texts.as_slice())?;
+    let (names, texts) = tables(alloc, seen.names.as_slice(), seen.texts.as_slice())?;
     let Seen { words, .. } = seen;
     Ok(Wording {
         words,

@@ -1,9 +1,9 @@
 use Rattle.std.proofs.Common.{sym, ◌∙◌, subst, false}
 use Rattle.jn_parser.proofs.Passes.{Passing, passing_starts, stops_at, goes_behind, passing_ends}
-use Rattle.jn_parser.proofs.limits.first_passed.Goals as goal
+use Rattle.jn_parser.proofs.limits.passed_behind.Goals as goal
 
 pub word-init : goal.word-init
-word-init c = subst (λ ks. Passing ks false c.args.words.now c.args.words.now) (sym c.new-masks.ensures.empty) (passing_starts c.args.words.now)
+word-init c = subst (λ ks. Passing ks false c.args.words.now c.args.words.now) (sym c.requires) (passing_starts c.args.words.now)
 
 pub returns-in-Some-shown : goal.returns-in-Some-shown
 returns-in-Some-shown c =
