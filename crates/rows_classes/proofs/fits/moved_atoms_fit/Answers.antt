@@ -1,4 +1,4 @@
-use Rattle.std.proofs.Common.{◌∙◌, List, sym, ap, map, subst}
+use Rattle.std.proofs.Common.{◌∙◌, List, ap, map, subst}
 use Rattle.std.proofs.lemmas.Result.{IfOk-weaker}
 use Rattle.jn_base.specs.declared.types.Atom.{Atom as ShownAtom}
 use Rattle.jn_base.specs.Atoms.{Atom, atom_of}
