@@ -5,3 +5,6 @@ pub mod OtherRows
 pub mod NameRows
 pub mod SharingProof
 pub mod MoreProof
+pub mod FamilyProof
+pub mod WordProof
+pub mod ManyProof

@@ -209,7 +209,7 @@ zeros (suc (suc zero)) = refl
 zeros (suc (suc (suc zero))) = refl
 zeros (suc (suc (suc (suc n)))) = refl
 
-not_masked : (i : ℕ) → HasMask no_masks i → ⊥
+pub not_masked : (i : ℕ) → HasMask no_masks i → ⊥
 not_masked i e =
     let z : bit_at (get_or no_masks.0 (i / 64) 0) (i % 64) ≡ 0 = ap (λ (n : ℕ). bit_at n (i % 64)) (zeros (i / 64)) ∙ bit_at-zero (i % 64) in
     omega (arith, e, z)

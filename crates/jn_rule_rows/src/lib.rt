@@ -1,9 +1,12 @@
 //! Worked rows of the rules of refusal: small programs with their verdicts, and single forms with what is refused of them.
 #![tactic(auto)]
 
+ghost use Rattle.jn_rule_rows.specs.FamilyRows.{FamilyRows};
+ghost use Rattle.jn_rule_rows.specs.ManyRows.{ManyRows};
 ghost use Rattle.jn_rule_rows.specs.SharingRows.{SharingRows};
 ghost use Rattle.jn_rule_rows.specs.MoreRows.{MoreMemberRows, SourceRows};
 ghost use Rattle.jn_rule_rows.specs.Rows.{FormsRefused, MainRows, MemberRows, NameRows, TableRows, TypesRefused};
+ghost use Rattle.jn_rule_rows.specs.WordRows.{WordRows};
 
 use jn_sem_rows::sharing_examples::at_an_heir;
 
@@ -52,4 +55,19 @@ pub fn more_member_rows()
 /// What is refused of a source's bytes: E02 and E03.
 pub fn source_rows()
     ensures { SourceRows }
+{}
+
+/// What is refused of families and masks: E12, E19, E21 and E25, each found in a program.
+pub fn family_rows()
+    ensures { FamilyRows }
+{}
+
+/// What is refused of words: E01, and E04 at the ninth declaration in one another.
+pub fn word_rows()
+    ensures { WordRows }
+{}
+
+/// A program with more than 4,096 paths, which is E13.
+pub fn many_rows()
+    ensures { ManyRows }
 {}

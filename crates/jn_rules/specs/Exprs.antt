@@ -56,6 +56,7 @@ pub record Typed : Type 0 where
   pub path : Option ℕ
   pub scope : Scope
 
+-- a value of the type, which is no path
 abbrev pub plain : Ty → Scope → Typed
 plain t s = record { ty = t; path = None; scope = s }
 
@@ -66,6 +67,7 @@ abbrev pub in_method : Rule → Here → Place → Refusal
 in_method rule h at =
     record { rule = rule; at = at; class = Some (shown h.class); member = Some h.method.name.name; limit = None }
 
+-- E18
 abbrev pub mismatch : Here → Place → Refusal
 mismatch h at = in_method rule.E18 h at
 
@@ -83,6 +85,7 @@ first_bound x = first_at (bound_of x.scope) (atoms_in x.ty)
 
 -- ---- marks
 
+-- the kind of a value: null and objects are references, and a `void` call has none
 abbrev pub kind_of : Ty → Option ValKind
 kind_of ty.Int = Some kind.Int
 kind_of ty.Bool = Some kind.Bool
@@ -134,11 +137,13 @@ masks_at (b ∷ s) q = cond (nat_eq q b.path) (masks_of b.ty) (masks_at s q)
 abbrev pub path_type : Scope → ℕ → Ty
 path_type s q = ty.Class (shown_atom (atom (Up q 0) [] []) ∷ []) (masks_at s q)
 
+-- a path expression
 abbrev pub of_path : ℕ → Scope → Typed
 of_path q s = record { ty = path_type s q; path = Some q; scope = s }
 
 -- ---- typing
 
+-- an expression is typed in a scope
 abbrev pub Typing : Type 0
 Typing = Scope → Plan Typed
 
@@ -169,10 +174,11 @@ is_object t = is_class t || is_null_type t
 
 -- ---- variables
 
--- E06 where the name is not in scope. A `final` variable of class type is a path; another one has its declared type.
+-- A `final` variable of class type is a path; another one has its declared type.
 abbrev pub var_typed : Var → Scope → Typed
 var_typed v s = cond (v.fixed && is_class v.ty) (of_path v.path s) (plain v.ty s)
 
+-- E06 where the name is not in scope
 abbrev pub var_gives : Here → Place → Name → Scope → Option Var → Plan Typed
 var_gives h at x s None = refuse (of_name rule.E06 h at x)
 var_gives h at x s (Some v) = note (VarMark v.path) (gives (var_typed v s))
@@ -313,6 +319,7 @@ suffixes_typed whole at (s ∷ ss) x = then_do (s.1 at x) (suffixes_typed whole 
 abbrev pub made_exact : Atom → Ty
 made_exact x = ty.Class (shown_atom (atom x.anchor (x.names ++ x.exact) []) ∷ []) no_masks
 
+-- what `new` has: its type, and its fresh path
 abbrev pub of_new : Ty → Passing → Scope → Typed
 of_new t n s = record { ty = t; path = Some n.path; scope = s }
 
@@ -325,16 +332,19 @@ abbrev pub made_without : Here → Place → List (Expr × Typing) → Scope →
 made_without h at es s t =
     wants (nat_eq (length es) 0) (in_method rule.E17 h at) (gives (of_new t (fresh_with t s) (fresh_with t s).scope))
 
+-- E17 against the constructor, and then its arguments; the fresh path stands for `this` in its types
 abbrev pub made_by : Here → Place → List (Expr × Typing) → Scope → Ty → Body → Header → Plan Typed
 made_by h at es s t b c =
     wants (as_many c es) (in_method rule.E17 h at)
     (note (MemberMark b.class)
     (then_do (call_typed h c es (fresh_with t s)) (λ x. gives (of_new t (fresh_with t s) x.scope))))
 
+-- by the constructor, where there is one
 abbrev pub made_with : Here → Place → List (Expr × Typing) → Scope → Ty → Option Body → Plan Typed
 made_with h at es s t None = made_without h at es s t
 made_with h at es s t (Some b) = then_do (header_typed b) (made_by h at es s t b)
 
+-- `new T(..)`, where T stands for the atom a: the constructor is that of its bound, the type is its bound exact
 abbrev pub new_typed : Here → Place → List (Expr × Typing) → Scope → ShownAtom → Plan Typed
 new_typed h at es s a =
     note (AtomMark a)
@@ -349,11 +359,13 @@ one_grants h (c ∷ cs) s t u =
     ask (OfConstraint h.class h.method.name.name c) (taken (λ x.
     ask (Grants s x t u) (λ ok. cond ok (done true) (one_grants h cs s t u))))
 
+-- whether the header of the method grants it
 abbrev pub header_grants : Here → Scope → Ty → Target → Plan Bool
 header_grants h s t u = one_grants h h.method.sharing s t u
 
 -- ---- super
 
+-- the type of one atom
 abbrev pub of_atom : ShownAtom → Ty
 of_atom a = ty.Class (a ∷ []) no_masks
 
@@ -367,7 +379,7 @@ constraints_granted h b m s (k ∷ ks) go =
     wants ok (of_name rule.E25 h m.at m.name)
     (constraints_granted h b m s ks go))))
 
--- the receiver's path is `this`
+-- E17, the arguments, E25, and then the result. The receiver's path is `this`.
 abbrev pub super_with : Here → Named → List (Expr × Typing) → Scope → Body → Header → Plan Typed
 super_with h m es s b c =
     wants (as_many c es) (in_method rule.E17 h m.at)
@@ -375,10 +387,11 @@ super_with h m es s b c =
     (then_do (call_typed h c es (record { path = 0; scope = s })) (λ x.
     constraints_granted h b m x.scope b.method.sharing (result_gives c x))))
 
+-- the body b is called, with its header
 abbrev pub super_gives : Here → Named → List (Expr × Typing) → Scope → Body → Plan Typed
 super_gives h m es s b = then_do (header_typed b) (super_with h m es s b)
 
--- E18 at the term where `this` is not below it; the member is looked up in the term's bound
+-- E18 at the term where `this` is not below it; E16 where the term's bound, in which the member is looked up, has none
 abbrev pub super_typed : Here → Term → Named → List (Expr × Typing) → Scope → ShownAtom → Plan Typed
 super_typed h t m es s a =
     note (AtomMark a)
@@ -404,16 +417,18 @@ abbrev pub by_sharing : Place → Scope → Ty → Target → Typed → Anchor �
 by_sharing at s t u y Root = ask (OfSharing s t u) (shared_or at y)
 by_sharing at s t u y (Up q k) = refuse (no_view at)
 
+-- a granted view has the target's type
 abbrev pub viewed_as : Target → Scope → Typed
 viewed_as u s = plain (normal_type s (target_type u)) s
 
--- A view change is granted where e is null, or by the header, or by sharing.
+-- A view change is granted where e is null, or by the header, or by sharing; else E20.
 abbrev pub viewed : Here → Place → Target → Typed → Plan Typed
 viewed h at u x =
     cond (is_null_type x.ty) (gives (viewed_as u x.scope))
     (then_do (header_grants h x.scope x.ty u) (λ ok. cond ok (gives (viewed_as u x.scope))
     (by_sharing at x.scope x.ty u (viewed_as u x.scope) u.atom.anchor)))
 
+-- `(view T) e`, where T stands for u: e, E18 where it is of no class type and not null, E20
 abbrev pub view_typed : Here → Place → Expr × Typing → Scope → Target → Plan Typed
 view_typed h at e s u =
     note (AtomMark u.atom) (then_do (e.1 s) (λ x. wants (is_object x.ty) (mismatch h e.0.at) (viewed h at u x)))
@@ -423,6 +438,7 @@ view_typed h at e s u =
 abbrev pub NodeTyping : Type 0
 NodeTyping = Place → Typing
 
+-- each form by what is had of its parts
 abbrev pub node_step : Here → Node-F (Node × NodeTyping) (Expr × Typing) (Link × Typing) (Suffix × SuffixTyping)
     → NodeTyping
 node_step h (Node-F.Int z) at s = gives (plain ty.Int s)

@@ -65,13 +65,16 @@ header_typed b =
 
 -- ---- the headers of a program
 
+-- a constraint, its left side first
 abbrev pub constraint_asked : Path → Method → Constraint → Plan Nothing
 constraint_asked Q m c = ask (OfConstraint Q m.name.name c) (taken (λ x. done tt))
 
+-- the parameters of a method, its result, and then its constraints in order
 abbrev pub method_asked : Path → Method → Plan Nothing
 method_asked Q m =
     then_do (header_typed (record { class = Q; method = m })) (λ x. in_turn (map (constraint_asked Q m) m.sharing))
 
+-- the type of a field
 abbrev pub field_asked : Path → Field → Plan Nothing
 field_asked Q f = ask (OfFieldType Q f.name.name f.ty) (taken (λ t. done tt))
 

@@ -46,11 +46,13 @@ var_type v = v.ty
 abbrev pub signature : Header → Signature
 signature x = record { fixed = map var_fixed x.vars; types = map var_type x.vars; result = x.result }
 
+-- the body b has this signature
 pub record HasSignature (p : Program) (b : Body) (s : Signature) : Type 0 where
   pub header : Header
   pub is : Gives p (header_typed b) (Ok header)
   pub signature : s ≡ signature header
 
+-- the bodies have one signature
 pub record SameSignature (p : Program) (b c : Body) : Type 0 where
   pub signature : Signature
   pub one : HasSignature p b signature
@@ -87,6 +89,7 @@ pub record BadField (p : Program) (R : Path) (f : Name) : Type 0 where
 
 -- ---- constructors
 
+-- no parameters and no result
 abbrev pub empty_signature : Signature
 empty_signature = record { fixed = []; types = []; result = ty.Void }
 
@@ -160,6 +163,7 @@ pub data IsEntry (p : Program) : Entry → Type 0 where
 abbrev pub MOST_ENTRIES : ℕ
 MOST_ENTRIES = 1_048_576
 
+-- more than 1,048,576 entries
 abbrev pub TooManyEntries : Program → Type 0
 TooManyEntries p = MoreThan MOST_ENTRIES (IsEntry p)
 
@@ -186,9 +190,11 @@ pub record SharingFails (p : Program) (R : Path) (m : Name) (b : Body) : Type 0 
   pub is : ConstraintGives p (header_site b.class b.method.name.name) constraint (Ok pledge)
   pub fails : HoldsAt p R (sides p (atom_of pledge.from.atom ∷ []) pledge.from.masks pledge.to) → ⊥
 
+-- some constraint of m fails at R
 abbrev pub FailsFor : Program → Path → Name → Type 0
 FailsFor p R m = (b : Body) × SharingFails p R m b
 
+-- some constraint of a method fails at R
 abbrev pub FailsAt : Program → Path → Type 0
 FailsAt p R = (m : Name) × FailsFor p R m
 

@@ -79,6 +79,7 @@ pub data FirstWith (s : Scope) (Has : Path → Type 0) : List Atom → Path → 
 abbrev pub HasMethod : Program → Name → Path → Type 0
 HasMethod p m B = (Q : Path) × Decls p B m Q
 
+-- B has the field f
 abbrev pub HasFieldAt : Program → Name → Path → Type 0
 HasFieldAt p f B = HasField p B f
 
@@ -97,10 +98,11 @@ pub record IsMethodOf (p : Program) (s : Scope) (t : Ty) (m : Name) (b : Body) :
 
 -- ---- masks
 
--- by the bytes of their names; of two names with the same bytes, which no source has, the smaller number
 abbrev pub name_number : Name → ℕ
 name_number n = n.0
 
+-- Masks are ordered by the bytes of their names; of two names with the same bytes, which no source has, the smaller
+-- number comes first.
 abbrev pub mask_cmp : Program → Name → Name → Ordering
 mask_cmp p = then_cmp (name_cmp p) (on name_number nat_cmp)
 
@@ -113,9 +115,11 @@ pub record IsFirstMask (p : Program) (m : Masks) (f : Name) : Type 0 where
 abbrev pub KeptMask : List Name → Masks → Name → ℕ → Type 0
 KeptMask names m f i = HasMask m i × (slice_get names i ≡ Some f → ⊥)
 
+-- i is a mask of one of the two
 abbrev pub InEither : Masks → Masks → ℕ → Type 0
 InEither m n i = HasMask m i ⊎ HasMask n i
 
+-- the masks of a class type; no other type has one
 abbrev pub masks_of : Ty → Masks
 masks_of (ty.Class xs m) = m
 masks_of ty.Int = no_masks

@@ -54,6 +54,7 @@ typed_below b x e s t go =
 
 -- ---- locals and assignments
 
+-- with one more local in scope
 abbrev pub with_local : Before → Var → Before
 with_local x v = record { vars = x.vars ++ v ∷ []; scope = var_bind v ∷ x.scope; next = suc x.next }
 
@@ -69,6 +70,7 @@ atom_marks ty.Void = []
 abbrev pub local_with : In → Before → Named → Expr → Var → Plan Before
 local_with b x n e v = note (VarMark v.path) (typed_below b x e x.scope v.ty (done (with_local x v)))
 
+-- by what its written type stands for, in normal form
 abbrev pub local_typed : In → Before → Bool → Named → Expr → Ty → Plan Before
 local_typed b x fixed n e t =
     note_all (atom_marks t) (local_with b x n e (var n.name x.next fixed (declared_type (site_here (here b x)) t)))
@@ -98,6 +100,7 @@ with_masks (b ∷ s) q m = cond (nat_eq q b.path) (record b { ty = remasked m b.
 abbrev pub is_variable : ℕ → Bool
 is_variable q = not (nat_eq q 0) && nat_lt q 256
 
+-- the field is no mask of the path any more
 abbrev pub without_mask : Before → Name → ℕ → Plan Before
 without_mask x f q = ask (WithoutMask (masks_at x.scope q) f) (λ m. done (record x { scope = with_masks x.scope q m }))
 
@@ -111,6 +114,7 @@ abbrev pub joined_type : Ty → Ty → Plan Ty
 joined_type t u =
     cond (is_class t && is_class u) (ask (EitherMasks (masks_of t) (masks_of u)) (λ m. done (remasked m t))) (done t)
 
+-- both ends have the same paths, in the same order
 abbrev pub joined : Scope → Scope → Plan Scope
 joined [] t = done []
 joined (b ∷ s) [] = done (b ∷ s)
@@ -125,6 +129,7 @@ set_with b x f e r c =
     note (MemberMark c.class)
     (typed_below b x e (path_of r.ty r).scope (field_type c (path_of r.ty r)) (dropped x f.name r.path))
 
+-- by the receiver, which has to have the field
 abbrev pub set_typed : In → Before → Expr → Named → Expr → Plan Before
 set_typed b x of f e =
     then_do (typed b x of x.scope) (λ r. wants (is_class r.ty) (mismatch (here b x) of.at)
@@ -136,6 +141,7 @@ set_typed b x of f e =
 abbrev pub out_of : Before → Before → Before
 out_of x y = record { vars = x.vars; scope = drop (length y.scope - length x.scope) y.scope; next = y.next }
 
+-- one statement after the other
 abbrev pub run_through : List StmtTyping → StmtTyping
 run_through [] x = done x
 run_through (s ∷ ss) x = then_do (s x) (run_through ss)
@@ -174,12 +180,14 @@ return_typed b x (Some e) at =
     then_do (typed b x e x.scope) (λ y. wants (not (is_void b.result)) (mismatch (here b x) at)
     (ask (IsBelow y.scope y.ty b.result) (λ ok. wants ok (mismatch (here b x) e.at) (done x))))
 
+-- `print(e);`: E18 where e is neither int nor boolean
 abbrev pub print_typed : In → Before → Expr → Plan Before
 print_typed b x e =
     then_do (typed b x e x.scope) (λ y. wants (is_int y.ty || is_bool y.ty) (mismatch (here b x) e.at) (done x))
 
 -- ---- all forms
 
+-- each form by what is had of its blocks
 abbrev pub stmt_step : In → Stmt-F StmtTyping → StmtTyping
 stmt_step b (Stmt-F.Block body) x = block_typed body x
 stmt_step b (Stmt-F.Local fixed t n e) x = ask (OfType (site_here (here b x)) t) (taken (local_typed b x fixed n e))
@@ -223,6 +231,7 @@ stops_step (Stmt-F.PrintText t at) = false
 abbrev pub stops : Stmt → Bool
 stops = fold-Stmt Bool stops_step
 
+-- a whole block
 abbrev pub all_stop : List Stmt → Bool
 all_stop ss = some_stops (map stops ss)
 
