@@ -36,7 +36,7 @@ returns-clause-exact c = λ p f.
     let all : List Path = c.in_ok-supers.supers.items in
     let each : (S : Path) → Contains supers S ↔ Sup p b S = λ S.
     subst (λ (l : List Path). Contains l S ↔ Sup p b S) (sym c.as_slice-above-items.ensures.value)
-    (subst (λ (B : Path). Contains all S ↔ Sup p B S) c.in_ok-b.ensures (c.in_ok-supers.ensures p f S)) in
+    (subst (λ (B : Path). Contains all S ↔ Sup p B S) c.in_ok-b.ensures ((c.in_ok-supers.ensures p f).exact S)) in
     spreads_found z outer supers c.loop-above.all.items each refl
     (adds_whole (HasOuter z outer) supers c.loop-above.above-index [] c.loop-above.all.items c.loop-above-test.false c.loop-above.invariant)
 
