@@ -1,5 +1,5 @@
 -- The rows of families and masks.
-use Rattle.std.proofs.Common.{◌≡◌, ◌<◌, ◌^◌, get_or, ℕ, zero, suc, List, [], ◌∷◌, drop, length, Contains, Bool, true, Some, None, slice_get, ◌&&◌, nat_eq, refl, sym, ap, ◌∙◌, subst, inl, inr, arith}
+use Rattle.std.proofs.Common.{◌≡◌, ◌<◌, ◌^◌, get_or, ℕ, zero, suc, List, [], ◌∷◌, drop, length, Contains, Bool, true, false, Some, None, slice_get, ◌&&◌, nat_eq, refl, sym, ap, ◌∙◌, subst, inl, inr, arith}
 use Rattle.std.specs.Prelude.{Ok, Err}
 use Rattle.jn_reach.specs.Equivalent as link
 use Rattle.jn_reach.specs.Equivalent.{Equivalent}
@@ -17,19 +17,23 @@ use Rattle.jn_base.specs.declared.types.Anchor.TheVariants.{Root, Up}
 use Rattle.jn_base.specs.declared.types.Ty.TheVariants as ty
 use Rattle.jn_base.specs.declared.refusal.Rule.TheVariants as rule
 use Rattle.jn_base.specs.Scopes.{Scope}
-use Rattle.jn_base.specs.Duplicates.{has_name}
+use Rattle.jn_base.specs.Duplicates.{has_name, duplicates}
+use Rattle.jn_base.proofs.Unique.{decl_opened}
+use Rattle.jn_rules.specs.Verdict.{headers}
 use Rattle.jn_base.specs.Atoms.{Atom, atom, atom_of, Among, first, later, no_masks}
 use Rattle.jn_base.specs.Paths.{Path, StandsAt, nested, fields, methods}
-use Rattle.jn_base.specs.Supers.{Sup, itself, Member}
-use Rattle.jn_base.specs.Members.{HasKind, MethodAt, FieldAt, FieldDecls, Least}
+use Rattle.jn_base.specs.Supers.{Sup, itself, Member, IsOwnSuper}
+use Rattle.jn_base.specs.Universe.{InUniverse}
+use Rattle.jn_base.specs.TableRules.{TablePasses}
+use Rattle.jn_base.specs.Members.{HasKind, MethodAt, FieldAt, FieldDecls, Least, HasTwoKinds}
 use Rattle.jn_base.specs.Resolve.{found, in_class}
 use Rattle.jn_base.specs.ResolveTypes.{mask_names, MasksAre, OneDepth, none, first as first_term, one as one_depth_of}
 use Rattle.jn_base.specs.ExampleTrees.{word, declaration, package_at, field}
 use Rattle.jn_base.proofs.NameTests.{in_cons, in_none, has_in, first as at_first, later as behind}
 use Rattle.jn_base.proofs.FormEquations.{at_decl, at_slot, at_body}
 use Rattle.jn_base.proofs.SuperLaws.{member_heir, sup_inherited}
-use Rattle.jn_base.proofs.ExampleTools.{at_top, at_inner, OneOf, top_kept_sup, sups_kept, top_member, top_above, inner_member, inner_class, same, method_in, least_from}
-use Rattle.jn_base.proofs.VerdictTools.{TwoLevels, package_of, class_of, universe_of, class_named}
+use Rattle.jn_base.proofs.ExampleTools.{at_top, at_inner, OneOf, top_kept_sup, sups_kept, top_member, top_above, inner_member, inner_class, same, method_in, least_from, of_each}
+use Rattle.jn_base.proofs.VerdictTools.{TwoLevels, package_of, class_of, universe_of, class_named, few_paths, no_top_cycle, package_alone, all_known}
 use Rattle.jn_sem.specs.Sets.{no_views, InAtom, InAtoms}
 use Rattle.jn_sem.specs.Sharing.{IsClass, Shares, adapted, shared, in_family}
 use Rattle.jn_sem.specs.NotFamily.{IsStrictSuper, no_super, not_family}
@@ -326,6 +330,41 @@ disp_alone s = let k = top_kept_sup listing (disp ∷ []) refl disp refl (base �
   not_it : (B : Name) → ◌≡◌ {A = Path} (base ∷ []) (B ∷ []) → has_name (disp ∷ []) B ≡ true → ⊥
   not_it B e h = let i : base ≡ B = cc in let j = subst (λ (N : Name). has_name (disp ∷ []) N ≡ true) (sym i) h in cc j
 
+listing_once : duplicates listing ≡ []
+listing_once = simp decl_opened
+
+none_extends : Name → ℕ
+none_extends N = 0
+
+abbrev listing_names : List Name
+listing_names = base ∷ disp ∷ []
+
+no_class_in : false ≡ true → ⊥
+no_class_in e = cc e
+
+listing_acyclic : (Q : Path) → TwoLevels [] listing_names Q → IsOwnSuper listing Q → ⊥
+unfolding none_extends
+listing_acyclic Q (package_of K a) o = no_top_cycle listing none_extends refl K o
+listing_acyclic Q (class_of N K c a) o = no_class_in c
+
+listing_kinds : (Q : Path) → TwoLevels [] listing_names Q → HasTwoKinds listing Q → ⊥
+listing_kinds Q (package_of K a) h = package_alone listing K refl h
+listing_kinds Q (class_of N K c a) h = no_class_in c
+
+listing_has : (K : Name) → has_name listing_names K ≡ true → Member listing [] K
+listing_has K a = of_each listing_names (Member listing []) (top_member listing base refl, (top_member listing disp refl, tt)) K (has_in listing_names K a)
+
+listing_two : (Q : Path) → InUniverse listing Q → TwoLevels [] listing_names Q
+listing_two Q u = universe_of listing [] listing_names refl refl Q u
+
+listing_passes : TablePasses listing
+listing_passes = record {
+  within = few_paths listing [] listing_names refl refl refl (omega arith);
+  no_cycle = λ Q o. listing_acyclic Q (listing_two Q o.0) o.1;
+  one_kind = λ Q h. listing_kinds Q (listing_two Q h.0) h.1;
+  all_known = all_known listing [] listing_names listing_has refl refl refl;
+}
+
 abbrev listing_base : Decl
 listing_base = package_at 1 base [] []
 
@@ -341,8 +380,9 @@ base_passes = subst (λ (x : Plan Nothing). Gives listing x (Ok tt)) (sym (decl_
 
 pub family_rows : FamilyRows
 family_rows = record {
-  no_family = then_gives listing (decl_headers listing_base []) _ tt _ base_passes
-      (then_refuses listing (decl_headers listing_disp []) _ (not_family base_listed) disp_refused);
+  no_family = headers listing_once (headers listing_passes
+      (then_gives listing (decl_headers listing_base []) _ tt _ base_passes
+      (then_refuses listing (decl_headers listing_disp []) _ (not_family base_listed) disp_refused)));
   masked = λ h at s. (
     Some f_found,
     record {

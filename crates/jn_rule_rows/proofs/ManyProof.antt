@@ -18,8 +18,11 @@ use Rattle.jn_base.specs.Universe.{InUniverse}
 use Rattle.jn_base.specs.ClassOrder.{name_bytes, name_cmp, class_cmp, Before}
 use Rattle.jn_base.specs.TableRules.{IsPathAfter, too_many}
 use Rattle.jn_base.specs.ExampleTrees.{name}
-use Rattle.jn_base.proofs.NameTests.{in_cons, in_none, first as at_first, later as behind}
+use Rattle.jn_base.proofs.NameTests.{in_cons, in_none, has_in, first as at_first, later as behind}
 use Rattle.jn_base.proofs.ClassOrders.{before_irreflexive}
+use Rattle.jn_base.specs.Duplicates.{has_name, in_decl, in_decls, duplicates}
+use Rattle.jn_base.proofs.Unique.{decl_opened}
+use Rattle.jn_rules.specs.Verdict.{headers, table}
 use Rattle.jn_base.proofs.SuperLaws.{sup_level, sup_root}
 use Rattle.jn_rule_rows.specs.ManyRows.{spelled, spelled_name, kth_package, many, ManyRows}
 
@@ -167,9 +170,32 @@ module _ (n : ℕ) where
     count = length-map-range_with_len path 0 n;
   }
 
+-- ---- no name stands twice
+
+has_not : (before : List Name) (a : ℕ) → ((x : Name) → Contains before x → x.0 < a) → has_name before (name a) ≡ false
+has_not before a h = at (has_name before (name a)) refl where
+  at : (t : Bool) → has_name before (name a) ≡ t → has_name before (name a) ≡ false
+  at true e = let l = h (name a) (has_in before (name a) e) in absurd (omega (arith, l))
+  at false e = e
+
+and_next : (before : List Name) (a : ℕ) → ((x : Name) → Contains before x → x.0 < a) → (x : Name) → Contains (name a ∷ before) x → x.0 < a + 1
+and_next before a h x c = at (in_cons (name a) before x c) where
+  at : (name a ≡ x) ⊎ Contains before x → x.0 < a + 1
+  at (inl e) = omega (arith, ap (λ (y : Name). y.0) e)
+  at (inr k) = let l = h x k in omega (arith, l)
+
+once_from : (before : List Name) (a n : ℕ) → ((x : Name) → Contains before x → x.0 < a)
+    → in_decls before (map in_decl (map kth_package (range_with_len a n))) ≡ []
+once_from before a zero h = refl
+once_from before a (suc n) h = simp (decl_opened, has_not before a h, once_from (name a ∷ before) (a + 1) n (and_next before a h))
+
+once : (n : ℕ) → duplicates (many n) ≡ []
+unfolding many
+once n = once_from [] 0 n (λ x c. absurd (in_none x c))
+
 pub many_rows : ManyRows
 many_rows = record {
-  too_many = too_many (path 4096) _ (last_path 4096)
+  too_many = headers (once 4097) (table (too_many (path 4096) _ (last_path 4096)
       (record {
         off = 0;
         decl = kth_package 4096;
@@ -177,5 +203,5 @@ many_rows = record {
         longest = λ k l. absurd (omega (arith, l));
         is = refl;
       })
-      refl;
+      refl));
 }

@@ -1,4 +1,4 @@
--- Rows of families and masks: a listed name that is no family, a masked field, and a constraint that an heir doesn't meet.
+-- Rows of families and masks: a listed name that is no family, a masked field, and a constraint that fails at an heir.
 use Rattle.std.specs.Prelude.{◌≡◌, List, [], ◌∷◌, false, None, Err}
 use Rattle.jn_base.specs.declared.tree.Name.{Name}
 use Rattle.jn_base.specs.declared.tree.Named.{Named}
@@ -20,19 +20,21 @@ use Rattle.jn_base.specs.Scopes.{Scope}
 use Rattle.jn_base.specs.ExampleTrees.{name, line, word, declaration, package_at, class_in, field, program}
 use Rattle.jn_sem.specs.NotFamily.{Listed, adapting, not_family}
 use Rattle.jn_sem.specs.Does.{Body}
-use Rattle.jn_sem_rows.specs.SlotsExample.{base, disp, Exp, Add, in_base, in_disp}
+use Rattle.jn_sem_rows.specs.SlotsExample.{base, disp, Exp, Add, adapting as adapting_base, in_base, in_disp}
 use Rattle.jn_rules.specs.Plans.{Plan}
 use Rattle.jn_rules.specs.Questions.{Gives}
-use Rattle.jn_rules.specs.Headers.{header_plan}
 use Rattle.jn_rules.specs.Exprs.{Here, Typed, of_name, of_class, plain, suffix_typed, constraints_granted}
 use Rattle.jn_rules.specs.Members.{SharingFails}
+use Rattle.jn_rules.specs.Verdict.{TreeRefuses}
 
 -- ---- a list
 
 -- package base { }
 -- package disp adapts base { }
 abbrev pub listing : Program
-listing = program (package_at 1 base [] [] ∷ record (package_at 2 disp [] []) { adapts = word base ∷ [] } ∷ [])
+listing = record (adapting_base [] []) {
+  decls = package_at 1 base [] [] ∷ record (package_at 2 disp [] []) { adapts = word base ∷ [] } ∷ [];
+}
 
 abbrev pub base_listed : Listed
 base_listed = record { at = disp ∷ []; listing = adapting; name = word base }
@@ -104,7 +106,7 @@ lift_body = record { class = in_base Add; method = lift_method }
 
 pub record FamilyRows : Type 0 where
   -- disp adapts base and doesn't extend it
-  pub no_family : Gives listing (header_plan listing) (Err (not_family base_listed))
+  pub no_family : TreeRefuses listing (not_family base_listed)
   -- x.f, where x has the type A\f
   pub masked : (h : Here) (at : Place) (s : Scope)
       → Gives masking (suffix_typed h (word f) None at (plain masked_a s)) (Err (of_class rule.E19 (A ∷ []) (word f) f))
@@ -112,4 +114,5 @@ pub record FamilyRows : Type 0 where
   pub fails_at_heir : SharingFails lifting (in_disp Add) lift lift_body
   -- super[base.Add].lift(), from a method without constraints
   pub not_granted : (h : Here) (n : Named) (s : Scope) (go : Plan Typed) → h.method.sharing ≡ []
-      → Gives lifting (constraints_granted h lift_body n s lift_method.sharing go) (Err (of_name rule.E25 h n.at n.name))
+      → Gives lifting (constraints_granted h lift_body n s lift_method.sharing go)
+      (Err (of_name rule.E25 h n.at n.name))

@@ -5,8 +5,9 @@ use Rattle.jn_base.specs.declared.tree.Text.{Text}
 use Rattle.jn_base.specs.declared.tree.Decl.{Decl}
 use Rattle.jn_base.specs.declared.tree.Program.{Program}
 use Rattle.jn_base.specs.declared.refusal.Rule.TheVariants as rule
-use Rattle.jn_base.specs.TableRules.{at_home, TableRefuses}
+use Rattle.jn_base.specs.TableRules.{at_home}
 use Rattle.jn_base.specs.ExampleTrees.{name, line, package_at}
+use Rattle.jn_rules.specs.Verdict.{TreeRefuses}
 
 -- the bytes of the k-th name: a, aa, aaa, ..
 unfoldable pub spelled : ℕ → List ℕ
@@ -22,7 +23,7 @@ kth_package k = package_at (suc k) (name k) [] []
 
 -- package a { }
 -- package aa { }
--- package aaa { }, and so on: n packages. What is asked here is asked of a tree; a source with 4,097 such names is too long.
+-- package aaa { }, and so on: n packages. This is a tree; a source with 4,097 such names is too long.
 unfoldable pub many : ℕ → Program
 many n = record {
   names = map spelled_name (range_with_len 0 n);
@@ -32,4 +33,4 @@ many n = record {
 
 pub record ManyRows : Type 0 where
   -- of 4,097 packages the last one is the 4,097th path
-  pub too_many : TableRefuses (many 4097) (at_home rule.E13 (name 4096 ∷ []) (line 4097))
+  pub too_many : TreeRefuses (many 4097) (at_home rule.E13 (name 4096 ∷ []) (line 4097))

@@ -480,6 +480,7 @@ abbrev pub expr_types : Here → Expr → Typing
 expr_types h = para-Expr NodeTyping Typing Typing SuffixTyping (node_step h) expr_step link_step (suffix_step h)
 
 -- Examples, in a body of base.Make with `final base.Exp p` (path 1) and `base.Exp q` (path 2, no path expression):
--- `p` has the type Up(p, 0), and `q` has base.Exp. `new Lit(5)` has the atom of the anchor Up(this, 1) with the exact name
--- Lit, and the path 256 where there is no fresh path yet. In `q.eval()` the receiver gets a fresh path, in `p.eval()` it
--- has its own. `1 + true` is refused at `true`, `true + 1` there too, and `1 == true` at the operator (jn_rule_rows).
+-- `p` has the type Up(p, 0), and `q` has base.Exp. `new Lit(5)` has the atom of the anchor Up(this, 1) with the exact
+-- name Lit, and the path 256 where there is no fresh path yet. In `q.eval()` the receiver gets a fresh path, in
+-- `p.eval()` it has its own. `1 + true` is refused at `true`, `true + 1` there too, and `1 == true` at the operator
+-- (jn_rule_rows).

@@ -114,5 +114,5 @@ decl_headers = fold-Decl Asked Asked member_asked decl_asked
 abbrev pub header_plan : Program → Plan Nothing
 header_plan p = in_turn (map (asked_at []) (map decl_headers p.decls))
 
--- Example: in `void m(final base.Exp p, base[p.class].Exp q)` the type of q is resolved with p in scope, as path 1. Without
--- `final` it is E14, and with the two parameters in the other order E06.
+-- Example: in `void m(final base.Exp p, base[p.class].Exp q)` the type of q is resolved with p in scope, as path 1.
+-- Without `final` it is E14, and with the two parameters in the other order E06.

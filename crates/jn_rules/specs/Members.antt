@@ -198,5 +198,5 @@ FailsFor p R m = (b : Body) × SharingFails p R m b
 abbrev pub FailsAt : Program → Path → Type 0
 FailsAt p R = (m : Name) × FailsFor p R m
 
--- Examples (jn_rule_rows): d with `extends b & c`, which both override n, has no least n: E09 at the name of d. A class that
--- has `boolean m()` where its super has `int m()` is E11 at its own m.
+-- Examples (jn_rule_rows): d with `extends b & c`, which both override n, has no least n: E09 at the name of d. A class
+-- that has `boolean m()` where its super has `int m()` is E11 at its own m.

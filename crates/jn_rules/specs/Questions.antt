@@ -194,5 +194,5 @@ Notes p (refuse r) ms b = ⊥
 Notes p (note m go) ms b = (ns : List Mark) × (ms ≡ m ∷ ns) × Notes p go ns b
 Notes p (ask q go) ms b = (x : Reply q) × Means p q x × Notes p (go x) ms b
 
--- Examples: the field `v` of a value of the type `both.Lit` is declared by base.Lit. `base!.Exp -> Exp` in the header of
--- base.Make grants a view from `base!.Lit` to the `Exp` of the family of `this`, and not to `shower!.Exp`.
+-- Examples: the field `v` of a value of the type `both.Lit` is declared by base.Lit. `base!.Exp -> Exp` in the header
+-- of base.Make grants a view from `base!.Lit` to the `Exp` of the family of `this`, and not to `shower!.Exp`.

@@ -270,6 +270,6 @@ decl_bodies = fold-Decl Asked Asked member_bodies bodies_step
 abbrev pub body_plan : Program → Plan Nothing
 body_plan p = in_turn (map (asked_at []) (map decl_bodies p.decls))
 
--- Example: with `final disp.Lit!\tag d` in scope, `d.tag = 7; print(d.tag);` is accepted, since the store drops the mask.
--- `if (c) { d.tag = 7; } print(d.tag);` is E19: behind the `if` d has the masks of either end. So is the same with a `while`,
--- behind which d has the masks before the loop.
+-- Example: with `final disp.Lit!\tag d` in scope, `d.tag = 7; print(d.tag);` is accepted, since the store drops the
+-- mask. `if (c) { d.tag = 7; } print(d.tag);` is E19: behind the `if` d has the masks of either end. So is the same with
+-- a `while`, behind which d has the masks before the loop.
