@@ -4,9 +4,4 @@ pub mod Pieces
 pub mod Plainness
 pub mod Reading
 pub mod Running
-pub mod TwiceEquations
-pub mod TwiceSteps
-pub mod Housing
-pub mod Unknowns
-pub mod Checking
 pub mod ShownAgain

@@ -1,9 +1,6 @@
 pub mod Again
 pub mod Answer
-pub mod Check
 pub mod Code
-pub mod First
-pub mod Homes
 pub mod Job
 pub mod Machine
 pub mod Meaning
@@ -11,5 +8,4 @@ pub mod Plain
 pub mod Reply
 pub mod Seen
 pub mod Status
-pub mod Unknown
 pub mod Words

@@ -5,7 +5,6 @@ ghost use Rattle.jn_drive.specs.Meaning.{output_of};
 ghost use Rattle.jn_drive.specs.Answer.{AnswersTree, IsRefusedBy, IsOfFault, IsNotTaken, Judges, Answers, too_long_refusal};
 ghost use Rattle.jn_drive.specs.Job.{Does};
 
-use crate::check::{CheckFault, check_declarations};
 use crate::code::code_of;
 use crate::halt::Halt;
 use crate::machine::run_code;
@@ -16,6 +15,7 @@ use crate::status::Status;
 use crate::words::JobKind;
 use jn_base::refusal::{Refusal, Rule};
 use jn_base::tree::{Place, Program};
+use jn_header::{CheckFault, check_declarations};
 use jn_io::{Sink, Store};
 use jn_parser::{ParseFault, parse};
 use jn_printer::print_program;

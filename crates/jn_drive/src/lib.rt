@@ -1,10 +1,8 @@
 //! The top call: what `jandc` does with its words, its files and its outputs.
 #![tactic(auto)]
 
-mod check;
 mod code;
 mod halt;
-mod homes;
 mod job;
 pub mod laws;
 mod machine;
@@ -12,8 +10,6 @@ mod plain;
 mod put;
 mod read;
 mod status;
-mod twice;
-mod unknown;
 mod words;
 
 ghost use Rattle.std.specs.Prelude.{◌≡◌, map, string_bytes, None};

@@ -282,7 +282,7 @@ int_there at = record { written = tt; fits = record { atoms = λ i. absurd i }; 
 bool_there : (at : Site) → TypeThere at ty.Bool
 bool_there at = record { written = tt; fits = record { atoms = λ i. absurd i }; named = λ x m. elim m [ ]; paths = λ x q k m e. elim m [ ] }
 
-of_role : (p : Program) → Shallow p → (r : Role) (at : Site) → IsTypeRole r → SiteFits p at → (names : List Name) (t : TypeTerm) (u : Ty) → TypeWellFormed t
+pub of_role : (p : Program) → Shallow p → (r : Role) (at : Site) → IsTypeRole r → SiteFits p at → (names : List Name) (t : TypeTerm) (u : Ty) → TypeWellFormed t
     → ResolveType p names (spot_at at r) (vars_at at) t (Ok u) → TypeThere at u
 of_role p deep r at typed ok names type.Int u w g = subst (TypeThere at) (sym (same_ok u ty.Int g)) (int_there at)
 of_role p deep r at typed ok names type.Bool u w g = subst (TypeThere at) (sym (same_ok u ty.Bool g)) (bool_there at)
@@ -315,7 +315,7 @@ module _ (p : Program) (deep : Shallow p) where
       shallow = subst (λ (R : Path). length R ≤ 255) (sym (append-nil _ ∙ reverse-reverse C ∙ reverse-reverse Q)) (deep Q u);
     }
 
-  scope_more : (at : Site) (x : Var) → scope_of (site_with at.class at.method (at.vars ++ x ∷ [])) ≡ var_bind x ∷ scope_of at
+  pub scope_more : (at : Site) (x : Var) → scope_of (site_with at.class at.method (at.vars ++ x ∷ [])) ≡ var_bind x ∷ scope_of at
   scope_more at x =
       ap (λ (bs : List Bind). reverse (this_bind (class_of (spot_at at role.Value)) ∷ bs)) (map-append var_bind at.vars (x ∷ []))
       ∙ reverse-append (this_bind (class_of (spot_at at role.Value)) ∷ map var_bind at.vars) (var_bind x ∷ [])

@@ -297,7 +297,7 @@ module _ (p : Program) (names : List Name) (spot : Spot) (vars : Vars) where
     of g = cc g
 
   -- a refusal, or one atom with masks
-  target_of : (t : Term) (ms : List Named) (o : Result Ty Refusal) (x : Result (List ShownAtom) Refusal) → ResolveAll p spot vars (t ∷ []) x
+  pub target_of : (t : Term) (ms : List Named) (o : Result Ty Refusal) (x : Result (List ShownAtom) Refusal) → ResolveAll p spot vars (t ∷ []) x
       → AtomsGive p names spot vars (t ∷ []) ms x o → (y : Result Target Refusal) × (o ≡ as_type y)
   unfolding Classed
   target_of t ms o (Err r) all h = (Err r, h)

@@ -1,5 +1,5 @@
 use Rattle.std.proofs.Common.{rules}
-use Rattle.jn_drive.proofs.Checking.{cause_is}
+use Rattle.jn_header.proofs.Checking.{cause_is}
 use Rattle.jn_drive.proofs.Judging.{tree_passed, tree_not_passed}
 use Rattle.jn_drive.proofs.job.checked.Goals as goal
 

@@ -1,6 +1,0 @@
-use Rattle.std.proofs.Common.{drop}
-use Rattle.jn_drive.proofs.Housing.{Searched}
-use Rattle.jn_drive.proofs.homes.find_decl.Given as goal
-
-abbrev pub invariant-loop-d : goal.invariant-loop-d
-invariant-loop-d l = Searched l.decls (drop l.d-index l.decls) l.name

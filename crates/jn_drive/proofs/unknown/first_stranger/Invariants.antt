@@ -1,6 +1,0 @@
-use Rattle.std.proofs.Common.{All, take}
-use Rattle.jn_drive.specs.Unknown.{IsKnown}
-use Rattle.jn_drive.proofs.unknown.first_stranger.Given as goal
-
-abbrev pub invariant-loop-named : goal.invariant-loop-named
-invariant-loop-named l = All (λ n. IsKnown l.table l.space.names n.name) (take l.named-index l.list)

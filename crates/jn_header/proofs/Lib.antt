@@ -1,0 +1,10 @@
+pub mod TwiceEquations
+pub mod TwiceSteps
+pub mod Housing
+pub mod Unknowns
+pub mod Checking
+pub mod Writing
+pub mod Parameters
+pub mod Turns
+pub mod Families
+pub mod Heads

@@ -1,0 +1,18 @@
+use Rattle.std.proofs.Common.{rules, reverse, subst, sym, List, Contains}
+use Rattle.std.proofs.Math.ListN.{drop_of_length-le}
+use Rattle.jn_base.specs.declared.tree.Name.{Name}
+use Rattle.jn_base.specs.declared.tree.Member.{Member}
+use Rattle.jn_base.specs.Paths.{nested}
+use Rattle.jn_header.specs.Homes.{OnWay}
+use Rattle.jn_header.proofs.TwiceSteps.{at_get}
+use Rattle.jn_header.proofs.Housing.{undeclared_here, declared_here}
+use Rattle.jn_header.proofs.homes.inner_at.Goals as goal
+
+pub returns-in-None : goal.returns-in-None
+returns-in-None c =
+    undeclared_here c.args.p.now c.requires.once _ c.loop-name.decl.now _ _
+    (subst (λ (l : List Name). OnWay c.args.p.now (reverse c.args.path.now.names) c.loop-name.decl.now l) (at_get c.args.left.now c.loop-name.name-index (record { 0 = 0 }) c.loop-name-test.true) c.loop-name.invariant)
+    (λ e among is. c.in-None.ensures e (subst (λ (l : List Member). Contains (nested l) e) (sym c.as_slice.ensures) among) is)
+
+pub returns : goal.returns
+returns c = declared_here c.args.p.now _ c.loop-name.decl.now _ (drop_of_length-le c.args.left.now {i = c.loop-name.name-index} (search rules)) c.loop-name.invariant

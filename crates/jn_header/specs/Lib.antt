@@ -1,0 +1,10 @@
+pub mod Check
+pub mod First
+pub mod Homes
+pub mod Listed
+pub mod Params
+pub mod Places
+pub mod Sides
+pub mod Told
+pub mod Unknown
+pub mod Written

@@ -1,0 +1,116 @@
+//! Homes: where a path of the universe stands in the text, and the declaration at a declared path.
+
+ghost use Rattle.std.specs.Prelude.{◌≡◌, [], ◌∷◌, reverse, option_copied};
+ghost use Rattle.jn_base.specs.Paths.{nested};
+ghost use Rattle.jn_base.specs.Duplicates.{duplicates};
+ghost use Rattle.jn_base.specs.Members.{IsHome};
+ghost use Rattle.jn_header.specs.Homes.{Finds, HomeIs, DeclIs, OnWay};
+
+use jn_base::path::Path;
+use jn_base::tree::{Decl, Member, Name, Place, Program};
+
+/// The home of a path: the place of the name in the declaration of its longest declared front. A path
+/// whose first name isn't declared has none.
+///
+/// No name stands twice in the program, so that a path has one declaration at most.
+pub fn home_of(p: &Program, path: &Path) -> Option<Place>
+    requires { duplicates p.now ≡ [] }
+    ensures { HomeIs p.now (reverse path.now.names) result }
+{
+    match path.names.as_slice() {
+        [] => None,
+        [top, inner @ ..] => match find_decl(p.decls.as_slice(), *top) {
+            Some(decl) => Some(go_down(p, path, decl, inner)),
+            None => None,
+        },
+    }
+}
+
+/// From the declaration of a front of the path by the names that are left, as far as they are declared.
+fn go_down(p: &Program, path: &Path, top: &Decl, left: &[Name]) -> Place
+    requires once { duplicates p.now ≡ [] }
+    requires way { OnWay p.now (reverse path.now.names) top.now left.now }
+    ensures { IsHome p.now (reverse path.now.names) result }
+{
+    let mut decl = top;
+    for name in left {
+        match find_inner(decl.members.as_slice(), *name) {
+            Some(next) => decl = next,
+            None => return decl.name.at,
+        }
+    }
+    decl.name.at
+}
+
+/// The declaration at a path. A path that isn't declared has none.
+///
+/// No name stands twice in the program, so that a path has one declaration at most.
+pub fn decl_at<'a>(p: &'a Program, path: &Path) -> Option<&'a Decl>
+    requires { duplicates p.now ≡ [] }
+    ensures { DeclIs p.now (reverse path.now.names) (option_copied result) }
+{
+    match path.names.as_slice() {
+        [] => None,
+        [top, inner @ ..] => match find_decl(p.decls.as_slice(), *top) {
+            Some(decl) => inner_at(p, path, decl, inner),
+            None => None,
+        },
+    }
+}
+
+/// From the declaration of a front of the path by all the names that are left.
+fn inner_at<'a>(p: &'a Program, path: &Path, top: &'a Decl, left: &[Name]) -> Option<&'a Decl>
+    requires once { duplicates p.now ≡ [] }
+    requires way { OnWay p.now (reverse path.now.names) top.now left.now }
+    ensures { DeclIs p.now (reverse path.now.names) (option_copied result) }
+{
+    let mut decl = top;
+    for name in left {
+        match find_inner(decl.members.as_slice(), *name) {
+            Some(next) => decl = next,
+            None => return None,
+        }
+    }
+    Some(decl)
+}
+
+/// The first declaration of this name.
+fn find_decl(decls: &[Decl], name: Name) -> Option<&Decl>
+    ensures { Finds decls.now name (option_copied result) }
+{
+    for d in decls {
+        if d.name.name.0 == name.0 {
+            return Some(d);
+        }
+    }
+    None
+}
+
+/// The first nested declaration of this name.
+fn find_inner(members: &[Member], name: Name) -> Option<&Decl>
+    ensures { Finds (nested members.now) name (option_copied result) }
+{
+    for m in members {
+        if let Some(d) = inner_named(m, name) {
+            return Some(d);
+        }
+    }
+    None
+}
+
+/// The member, where it is a declaration of this name.
+fn inner_named(m: &Member, name: Name) -> Option<&Decl>
+    ensures { Finds (nested (m.now ∷ [])) name (option_copied result) }
+{
+    match m {
+        Member::Inner(d) => {
+            if d.name.name.0 == name.0 {
+                Some(d)
+            } else {
+                None
+            }
+        }
+        Member::Slot(_) => None,
+        Member::Body(_) => None,
+    }
+}
