@@ -8,3 +8,4 @@ pub mod Parameters
 pub mod Turns
 pub mod Families
 pub mod Heads
+pub mod BadMembers

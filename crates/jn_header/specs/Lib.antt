@@ -2,6 +2,7 @@ pub mod Check
 pub mod First
 pub mod Homes
 pub mod Listed
+pub mod Members
 pub mod Params
 pub mod Places
 pub mod Sides

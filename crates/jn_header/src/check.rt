@@ -1,4 +1,4 @@
-//! Steps 4 and 5 of the verdict: names that stand twice, and the class table.
+//! Names that stand twice, and the class table.
 
 ghost use Rattle.std.specs.Prelude.{◌≡◌, [], reverse, OnOk, IfErr, Result};
 ghost use Rattle.jn_base.specs.declared.refusal.Refusal.{Refusal as ARefusal};
@@ -52,11 +52,13 @@ impl<T: Drop> From<AllocFailed<T>> for CheckFault {
     }
 }
 
-/// Whether the declarations of a program pass: no name stands twice, there are no more than 4,096 paths, none of them is its
-/// own strict super or has supers of both kinds, and each name that is extended is a member of the namespace.
+/// Whether the declarations of a program pass: no name stands twice, there are no more than 4,096 paths, none of
+/// them is its own strict super or has supers of both kinds, and each name that is extended is a member of the
+/// namespace.
 ///
-/// The first of these that doesn't hold is answered, and memory may run out before any. `IsNamed` says that equal names of
-/// the program have one number and that it has each name of a declaration, as each program has that a source spells.
+/// The first of these that doesn't hold is answered, and memory may run out before any. `IsNamed` says that equal
+/// names of the program have one number and that it has each name of a declaration, as each program has that a
+/// source spells.
 pub fn check_declarations(alloc: Global, p: &Program) -> Result<(), CheckFault>
     requires { IsNamed p.now }
     ensures passes { OnOk result (DeclarationsPass p.now) }
@@ -67,8 +69,9 @@ pub fn check_declarations(alloc: Global, p: &Program) -> Result<(), CheckFault>
     decided(alloc, p)
 }
 
-/// Whether no name stands twice where it may stand once: a second declaration, field or method of one name in one body, a second
-/// name in one list, a second parameter, a local where its name is in scope. The first that does, in source order, is answered.
+/// Whether no name stands twice where it may stand once: a second declaration, field or method of one name in one
+/// body, a second name in one list, a second parameter, a local where its name is in scope. The first that does, in
+/// source order, is answered.
 pub fn check_names(alloc: Global, p: &Program) -> Result<(), CheckFault>
     ensures told { Told (NamesVerdict p.now) itself result }
     ensures only { (o : Result Nothing ARefusal) → NamesVerdict p.now o → Told (λ a. a ≡ o) itself result }
@@ -79,9 +82,9 @@ pub fn check_names(alloc: Global, p: &Program) -> Result<(), CheckFault>
     }
 }
 
-/// Whether the class table of a program in which no name stands twice passes: it has no more than 4,096 paths, none of them is its own
-/// strict super or has supers of both kinds, and each name that is extended is a member of the namespace. The first of these that
-/// doesn't hold is answered.
+/// Whether the class table of a program in which no name stands twice passes: it has no more than 4,096 paths, none
+/// of them is its own strict super or has supers of both kinds, and each name that is extended is a member of the
+/// namespace. The first of these that doesn't hold is answered.
 ///
 /// Where it passes, the universe is filled in the table; else the table still is one of the program.
 pub fn check_table(alloc: Global, p: &Program, t: &mut Table) -> Result<(), CheckFault>
@@ -99,7 +102,7 @@ pub fn check_table(alloc: Global, p: &Program, t: &mut Table) -> Result<(), Chec
     }
 }
 
-/// Steps one after the other, said one way.
+/// The same, said one way.
 fn decided(alloc: Global, p: &Program) -> Result<(), CheckFault>
     requires { IsNamed p.now }
     ensures passes { OnOk result (DeclarationsPass p.now) }

@@ -274,11 +274,13 @@ fn judge_decls(
     Ok(())
 }
 
-/// Whether the headers of a program pass, in source order: the names in the lists `shares` and `adapts`, the types of fields, and of
-/// each method its parameters, its result and its constraints. The first that doesn't is answered.
+/// Whether the headers of a program pass, in source order: the names in the lists `shares` and `adapts`, the types
+/// of fields, and of each method its parameters, its result and its constraints. The first that doesn't is
+/// answered.
 ///
-/// The universe is filled in the table. Types are added to the pool, whose older numbers keep their meaning. Of a program with a path
-/// of more than 255 names, or with a class type without a term, which no source spells, nothing is told.
+/// The universe is filled in the table. Types are added to the pool, whose older numbers keep their meaning. Of a
+/// program with a path of more than 255 names, or with a class type without a term, which no source spells, nothing
+/// is told.
 pub fn check_types(
     alloc: Global,
     p: &Program,

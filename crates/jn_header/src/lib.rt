@@ -5,6 +5,7 @@ mod check;
 mod headers;
 mod homes;
 mod listed;
+mod members;
 mod params;
 mod place;
 mod twice;
@@ -13,3 +14,4 @@ mod written;
 
 pub use check::{CheckFault, check_declarations, check_names, check_table};
 pub use headers::check_types;
+pub use members::field_twice;

@@ -126,8 +126,8 @@ fn at_name(
     }
 }
 
-/// A name in a list of the declaration at a path: E06 where it is no top-level name, then E12 where it lacks what a family in the list
-/// must have.
+/// A name in a list of the declaration at a path: E06 where it is no top-level name, then E12 where it lacks what a
+/// family in the list must have.
 fn judge_name(
     alloc: Global,
     t: &Table,

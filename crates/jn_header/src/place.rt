@@ -11,7 +11,8 @@ use jn_intern::Scope;
 use jn_table::Table;
 use std::alloc::{AllocError, Global};
 
-/// Where a type of a header stands: in the declaration of a class, in its method, with the parameters before it in scope.
+/// Where a type of a header stands: in the declaration of a class, in its method, with the parameters before it in
+/// scope.
 #[derive(Drop)]
 pub struct Place {
     pub class: Bound,

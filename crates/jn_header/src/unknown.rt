@@ -14,8 +14,8 @@ use jn_table::Table;
 use sqlite_items::Items;
 use std::alloc::{AllocError, Global};
 
-/// The first declared path in class order that extends a name which is no member of its namespace, as the refusal at the
-/// first such name.
+/// The first declared path in class order that extends a name which is no member of its namespace, as the refusal
+/// at the first such name.
 ///
 /// The table is filled, so that its paths are those of the universe, in class order.
 pub fn first_unknown(
