@@ -1,0 +1,7 @@
+pub mod Callees
+pub mod Takes
+pub mod Fit
+pub mod Sound
+pub mod Steps
+pub mod Needs
+pub mod Forms
