@@ -1,0 +1,13 @@
+pub mod Ways
+pub mod Nodes
+pub mod Simple
+pub mod Gets
+pub mod Puts
+pub mod Views
+pub mod Quiet
+pub mod Calls
+pub mod Decides
+pub mod Loops
+pub mod News
+pub mod Prints
+pub mod Laws

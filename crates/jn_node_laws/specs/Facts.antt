@@ -1,0 +1,70 @@
+-- What the instructions of an act rely on besides words: facts of its operands, which typing gives.
+use Rattle.std.specs.Prelude.{◌≡◌, ℕ, suc, List, [], ◌∷◌, Option, Some, None}
+use Rattle.jn_base.specs.declared.tree.Name.{Name}
+use Rattle.jn_base.specs.declared.tree.Program.{Program}
+use Rattle.jn_base.specs.declared.types.Ty.{Ty}
+use Rattle.jn_base.specs.declared.types.Ty.TheVariants as ty
+use Rattle.jn_base.specs.Paths.{Path}
+use Rattle.jn_sem.specs.Values.{Value, Number, Truth, Null, Reference}
+use Rattle.jn_sem.specs.Slots.{Slot, IsSlot, FieldType}
+use Rattle.jn_sem.specs.State.{Heap, slot_value}
+use Rattle.jn_base.specs.declared.tree.TypeTerm.{TypeTerm}
+use Rattle.jn_code.specs.declared.image.Shape.{Shape}
+use Rattle.jn_code.specs.declared.instr.Instr.{Instr}
+use Rattle.jn_code.specs.declared.instr.Instr.TheVariants as ins
+use Rattle.jn_sem.specs.Does.{Body, IsBody, args_of}
+use Rattle.jn_agree.specs.Rows.{FieldKind, HasShape}
+
+-- a number, a truth value, or null or a reference
+abbrev pub OfKind : Ty → Value → Type 0
+OfKind ty.Int (Number z) = Unit {0}
+OfKind ty.Bool (Truth b) = Unit {0}
+OfKind ty.Null Null = Unit {0}
+OfKind (ty.Class xs m) Null = Unit {0}
+OfKind (ty.Class xs m) (Reference o V) = Unit {0}
+OfKind _ _ = ⊥
+
+-- The field of that type has this kind, and what stands in its slot is of its type's kind.
+pub record FieldReads (p : Program) (field : Name) (number : ℕ) (h : Heap) (o : ℕ) (V : Path) (t : Ty) : Type 0 where
+  pub kind : FieldKind t number
+  pub stored : (s : Slot) (v : Value) → IsSlot p V field s → slot_value h o s ≡ Some v → OfKind t v
+
+-- where the latest operand is a reference, so it is with its field
+abbrev pub ReadsWell : Program → Name → (kind : ℕ) → Heap → List Value → Type 0
+ReadsWell p field kind h vals =
+    (o : ℕ) (V : Path) (us : List Value) → vals ≡ Reference o V ∷ us → (t : Ty) → FieldType p V field t →
+    FieldReads p field kind h o V t
+
+-- where the operand below the latest is a reference, its field has this kind
+abbrev pub WritesWell : Program → Name → (kind : ℕ) → Heap → List Value → Type 0
+WritesWell p field kind h vals =
+    (v : Value) (o : ℕ) (V : Path) (us : List Value) → vals ≡ v ∷ (Reference o V ∷ us) → (t : Ty) →
+    FieldType p V field t → FieldKind t kind
+
+-- whether there is a result, by its kind
+abbrev pub ResultGoes : Option TypeTerm → ℕ → Type 0
+ResultGoes None k = k ≡ 0
+ResultGoes (Some t) k = (j : ℕ) × (k ≡ suc j)
+
+-- The body has the shape of the selector.
+pub record CallsBody (p : Program) (b : Body) (s : Shape) : Type 0 where
+  pub shape : HasShape p b s
+  pub result : ResultGoes b.method.result s.result
+
+-- where a reference stands below so many arguments, the body of the name at its view has that shape
+abbrev pub CallsWell : Program → Name → (count : ℕ) → Shape → Heap → List Value → Type 0
+CallsWell p name count shape h vals =
+    (args us : List Value) (o : ℕ) (V : Path) → args_of count [] vals ≡ Some (args, Reference o V ∷ us) → (b : Body) →
+    IsBody p V name b
+    → CallsBody p b shape
+
+-- a number is printed by PRINTI, a truth value by PRINTB
+abbrev pub PrintsValue : Instr → Value → Type 0
+PrintsValue x (Number z) = x ≡ ins.Printi
+PrintsValue x (Truth b) = x ≡ ins.Printb
+PrintsValue x Null = Unit {0}
+PrintsValue x (Reference o V) = Unit {0}
+
+-- so it is with the latest operand
+abbrev pub PrintsWell : Instr → Heap → List Value → Type 0
+PrintsWell x h vals = (v : Value) (us : List Value) → vals ≡ v ∷ us → PrintsValue x v

@@ -1,0 +1,3 @@
+pub mod Cont
+pub mod Facts
+pub mod LawsOfNodes

@@ -1,0 +1,33 @@
+-- What holds of parts of a code that have kinds.
+use Rattle.std.specs.Prelude.{◌≡◌, ℕ, suc, ◌+◌, List, [], ◌∷◌, length, true, false, Some, None, slice_get}
+use Rattle.jn_code.specs.declared.kind.OperandKind.{OperandKind}
+use Rattle.jn_code.specs.declared.instr.Instr.{Instr}
+use Rattle.jn_code.specs.declared.image.Image.{Image}
+use Rattle.jn_code.specs.declared.image.Code.{Code}
+use Rattle.jn_code.specs.Kinds.{after_it, target_of, goes_on}
+use Rattle.jn_code.specs.Valid.{Notes, Known, own_fault, pass}
+use Rattle.jn_agree.specs.Spans.{Spans}
+
+pub record PartsOf (i : Image) (c : Code) : Type 0 where
+  -- one behind the other
+  pub joined : (s m t : ℕ) (ks js ls : List OperandKind) → Spans i c s m ks js → Spans i c m t js ls
+      → Spans i c s t ks ls
+  -- one instruction
+  pub single : (s : ℕ) (x : Instr) (ks : List OperandKind) → slice_get c.instrs s ≡ Some x → target_of x ≡ None
+      → goes_on x ≡ true → own_fault i c x ks ≡ None → Spans i c s (s + 1) ks (after_it i c x ks)
+
+abbrev pub PartsJoin : Type 0
+PartsJoin = (i : Image) (c : Code) → PartsOf i c
+
+-- the last instruction doesn't go on
+abbrev pub IsClosed : Code → Type 0
+IsClosed c = (n : ℕ) (x : Instr) → suc n ≡ length c.instrs → slice_get c.instrs n ≡ Some x → goes_on x ≡ false
+
+-- The pass over the code, which finds its first fault, ends and has found none.
+abbrev pub Passes : Image → Code → Type 0
+Passes i c = (u : Notes) × (pass i c ≡ Known u)
+
+abbrev pub WholePartsPass : Type 0
+WholePartsPass =
+    (i : Image) (c : Code) (ls : List OperandKind) (x : Instr) (xs : List Instr) → c.instrs ≡ x ∷ xs
+    → Spans i c 0 (length c.instrs) [] ls → IsClosed c → Passes i c

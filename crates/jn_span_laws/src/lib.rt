@@ -1,0 +1,16 @@
+//! A code with kinds by parts has no fault of its own.
+//!
+//! The definition is `Spans` of `jn_agree`: a part of a code takes the kinds of the operands from some to others.
+#![tactic(auto)]
+
+ghost use Rattle.jn_span_laws.specs.LawsOfSpans.{PartsJoin, WholePartsPass};
+
+/// Parts that stand one behind the other are one part, and an instruction that neither jumps nor ends is one.
+pub fn parts_join()
+    ensures { PartsJoin }
+{}
+
+/// A code that is one part, from no operands to any, and whose last instruction doesn't go on, has no fault of its own.
+pub fn whole_parts_pass()
+    ensures { WholePartsPass }
+{}
