@@ -18,7 +18,7 @@ use Rattle.jn_table.specs.Answers.{UniversePasses, UniverseRefused}
 use Rattle.jn_table.specs.declared.fault.TableFault.{TableFault}
 use Rattle.jn_table.specs.declared.fault.TableFault.TheVariants as fault
 use Rattle.jn_header.specs.First.{first}
-use Rattle.jn_header.specs.Homes.{HomeIs}
+use Rattle.jn_homes.specs.Homes.{HomeIs}
 use Rattle.jn_header.specs.Unknown.{IsFirstUnknown, FirstUnknownIs}
 use Rattle.jn_rules.specs.Plans.{Nothing}
 use Rattle.jn_header.specs.Told.{Told, itself}

@@ -1,6 +1,5 @@
 pub mod TwiceEquations
 pub mod TwiceSteps
-pub mod Housing
 pub mod Unknowns
 pub mod Checking
 pub mod Writing

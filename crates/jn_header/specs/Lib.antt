@@ -1,6 +1,5 @@
 pub mod Check
 pub mod First
-pub mod Homes
 pub mod Listed
 pub mod Members
 pub mod Params

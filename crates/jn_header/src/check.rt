@@ -12,12 +12,12 @@ ghost use Rattle.jn_rules.specs.Plans.{Nothing};
 ghost use Rattle.jn_header.specs.Check.{IsCauseOf, IsRefusedUnlessMemory, PassesUnlessMemory, IsAtHome, NamesVerdict, TableVerdict, IsTableFault};
 ghost use Rattle.jn_header.specs.Told.{Told, itself};
 
-use crate::homes::home_of;
 use crate::twice::first_duplicate;
 use crate::unknown::first_unknown;
 use jn_base::path::Path;
 use jn_base::refusal::{Refusal, Rule};
 use jn_base::tree::Program;
+use jn_homes::home_of;
 use jn_table::{Table, TableFault};
 use std::alloc::{AllocError, AllocFailed, Global};
 

@@ -3,7 +3,6 @@
 
 mod check;
 mod headers;
-mod homes;
 mod listed;
 mod members;
 mod params;

@@ -6,10 +6,10 @@ ghost use Rattle.jn_base.specs.TableRules.{unknown_at};
 ghost use Rattle.jn_table.specs.Tables.{IsFilled};
 ghost use Rattle.jn_header.specs.Unknown.{IsKnown, FirstWithout, UnknownIs, FirstUnknownIs};
 
-use crate::homes::decl_at;
 use jn_base::path::Path;
 use jn_base::refusal::{Refusal, Rule};
 use jn_base::tree::{Name, Named, Program};
+use jn_homes::decl_at;
 use jn_table::Table;
 use sqlite_items::Items;
 use std::alloc::{AllocError, Global};

@@ -21,9 +21,11 @@ either_stops true c e = inl refl
 either_stops false c e = inr e
 
 in_order : (p : Program) (b : In) → InOrder p b
-in_order p b [] fit others x y known g =
-    (subst (StmtKnown p b) (sym is) known, λ k f. subst (λ (z : List Todo). Fits p b z x.vars x.scope [])
-    (sym (acts_are.stmts (length x.vars) x.next [] k).none) (at k f)) where
+in_order p b [] fit others x y known g = (
+  subst (StmtKnown p b) (sym is) known,
+  λ k f. subst (λ (z : List Todo). Fits p b z x.vars x.scope [])
+      (sym (acts_are.stmts (length x.vars) x.next [] k).none) (at k f),
+) where
   is : y ≡ x
   is = same_before x y (subst (λ (z : Plan Before). Gives p z (Ok y)) (forms_are.stmts b x).none g)
 
@@ -34,7 +36,7 @@ in_order p b [] fit others x y known g =
   at k (inr f) = subst (λ (z : Before). Fits p b k z.vars z.scope []) is f
 in_order p b (s ∷ ss) fit others x y known g =
     let c = then_came (stmt_types b s x) (stmts_type b ss) y
-        (subst (λ (z : Plan Before). Gives p z (Ok y)) ((forms_are.stmts b x).more s ss) g) in
+    (subst (λ (z : Plan Before). Gives p z (Ok y)) ((forms_are.stmts b x).more s ss) g) in
     let one = fit s first x c.first known (others x.vars) c.gave in
     let rest = in_order p b ss (λ z m. fit z (later m)) others c.first y one.known c.then in
     (rest.0, λ k f. joined k c.first one (rest.1 k) f) where
@@ -42,7 +44,7 @@ in_order p b (s ∷ ss) fit others x y known g =
           ((all_stop ss ≡ true) ⊎ Fits p b k y.vars y.scope [] → Fits p b
           (stmts_acts (length m.vars) m.next ss k) m.vars m.scope [])
           → (all_stop (s ∷ ss) ≡ true) ⊎ Fits p b k y.vars y.scope [] → Fits p b
-              (stmts_acts (length x.vars) x.next (s ∷ ss) k) x.vars x.scope []
+          (stmts_acts (length x.vars) x.next (s ∷ ss) k) x.vars x.scope []
       joined k m one rest (inr f) = one.fits ss k (inr (rest (inr f)))
       joined k m one rest (inl e) = at (either_stops (stops s) (all_stop ss) e) where
         at : (stops s ≡ true) ⊎ (all_stop ss ≡ true) → Fits p b
@@ -51,6 +53,13 @@ in_order p b (s ∷ ss) fit others x y known g =
         at (inr w) = one.fits ss k (inr (rest (inl w)))
 
 pub statements_fit : StatementsFit
-statements_fit p b deep formed =
-    (record { prints = prints p b deep formed; prints_text = prints_text p b deep formed; returns =
-    returns p b deep formed }, local_fits p b deep formed, in_order p b)
+statements_fit p b deep formed = (
+  record {
+    prints = prints p b deep formed;
+    prints_text = prints_text p b deep formed;
+    returns =
+        returns p b deep formed;
+  },
+  local_fits p b deep formed,
+  in_order p b,
+)

@@ -86,7 +86,7 @@ module _ (p : Program) (b : In) (h : Here) (m : Body) (c : Header) (calls : Call
   none_go : (done : List Var) (s : Scope) (r : ℕ) (qs : List ℕ) (passed : Passed) → c.vars ≡ done ++ [] →
       ScopeKnown p h s → PutFor top s done qs
       → (let a : Result Passed Refusal = Ok passed in let z : Result Passed Refusal = Ok
-          (record { paths = r ∷ qs; scope = s }) in a ≡ z)
+      (record { paths = r ∷ qs; scope = s }) in a ≡ z)
       → ArgsGo [] [] s r qs passed
   none_go done s r qs passed is k put e = subst (ArgsGo [] [] s r qs) (sym (same e)) (record {
     args = [];
@@ -127,9 +127,9 @@ module _ (p : Program) (b : In) (h : Here) (m : Body) (c : Header) (calls : Call
   one_goes : (x : Var) (xs : List Var) (e : Expr) (es : List Expr) (s : Scope) (r : ℕ) (qs : List ℕ) (passed : Passed)
       (t : Typed) (q : ℕ) (u : Scope)
       → GoesTo p b h (acts (length h.vars) e) s (λ ops. ops) t → (k : ParamKnown m c x t.scope (r ∷ qs)) →
-          Below p t.scope t.ty (put_in t.scope from (r ∷ qs) x.ty)
+      Below p t.scope t.ty (put_in t.scope from (r ∷ qs) x.ty)
       → ArgMoved p h t (put_in t.scope from (r ∷ qs) x.ty) q u → ArgsGo xs es u r (qs ++ q ∷ []) passed → ArgsGo
-          (x ∷ xs) (e ∷ es) s r qs passed
+      (x ∷ xs) (e ∷ es) s r qs passed
   one_goes x xs e es s r qs passed t q u g k below a rest = record {
     args = opd (put_in t.scope from (r ∷ qs) x.ty) (Some q) ∷ rest.args;
     paths = q ∷ rest.paths;
@@ -143,7 +143,7 @@ module _ (p : Program) (b : In) (h : Here) (m : Body) (c : Header) (calls : Call
     fit = one (sym (ap (λ (l : List ℕ). put_in passed.scope from (r ∷ l) x.ty)
         (rest.split ∙ append_assoc qs (q ∷ []) rest.paths)
         ∙ k.settled passed.scope (q ∷ rest.paths)
-            (grown_of (fresher_joined a.grown rest.grown)) rest.known.scope.binds)) refl rest.fit;
+        (grown_of (fresher_joined a.grown rest.grown)) rest.known.scope.binds)) refl rest.fit;
     fits = λ w ops f. g.fits (args_acts (length h.vars) es w) ops
         (not_void t.ty (not_void_below p t.scope t.ty _ below))
         (moves (a.moves ops) (rest.fits w (opd (put_in t.scope from (r ∷ qs) x.ty) (Some q) ∷ ops) f));
@@ -160,7 +160,7 @@ module _ (p : Program) (b : In) (h : Here) (m : Body) (c : Header) (calls : Call
   pub args_go : (es : List Expr) → AllFit p b h es → (done xs : List Var) (s : Scope) (r : ℕ) (qs : List ℕ)
       (passed : Passed) → c.vars ≡ done ++ xs → length xs ≡ length es
       → ScopeKnown p h s → AsDeep top s 0 r → PutFor top s done qs → Gives p
-          (args_typed h from xs (typed_args h es) (r ∷ qs) s) (Ok passed) → ArgsGo xs es s r qs passed
+      (args_typed h from xs (typed_args h es) (r ∷ qs) s) (Ok passed) → ArgsGo xs es s r qs passed
   args_go [] fit done [] s r qs passed is n k d put g = none_go done s r qs passed is k put g
   args_go [] fit done (x ∷ xs) s r qs passed is n k d put g = absurd (no n) where
     no : suc (length xs) ≡ 0 → ⊥
@@ -170,32 +170,32 @@ module _ (p : Program) (b : In) (h : Here) (m : Body) (c : Header) (calls : Call
     no e = cc
   args_go (e ∷ es) fit done (x ∷ xs) s r qs passed is n k d put g =
       let came = then_came (expr_types h e s)
-          (λ t. ask (IsBelow t.scope t.ty (put_in t.scope from (r ∷ qs) x.ty)) (λ ok. wants ok (mismatch h e.at)
+      (λ t. ask (IsBelow t.scope t.ty (put_in t.scope from (r ∷ qs) x.ty)) (λ ok. wants ok (mismatch h e.at)
       (args_typed h from xs (typed_args h es) ((r ∷ qs) ++ (arg_passed from (r ∷ qs) x t).path ∷ [])
-          (arg_passed from (r ∷ qs) x t).scope))) passed g in
+      (arg_passed from (r ∷ qs) x t).scope))) passed g in
       behind came.first
       (λ u q k2 d2 put2 g2. args_go es (λ z i. fit z (later i)) (done ++ x ∷ []) xs u r (qs ++ q ∷ []) passed
-          (is ∙ sym (append_assoc done (x ∷ []) xs)) (ap pred n) k2 d2 put2 g2)
+      (is ∙ sym (append_assoc done (x ∷ []) xs)) (ap pred n) k2 d2 put2 g2)
       (fit e first s came.first k came.gave) (answered h e came.then.0 _ _ passed came.then.1 came.then.2) where
         behind : (t : Typed)
             → ((u : Scope) (q : ℕ) → ScopeKnown p h u → AsDeep top u 0 r → PutFor top u (done ++ x ∷ []) (qs ++ q ∷ [])
             → Gives p (args_typed h from xs (typed_args h es) (r ∷ (qs ++ q ∷ [])) u) (Ok passed) → ArgsGo xs es u r
-                (qs ++ q ∷ []) passed)
+            (qs ++ q ∷ []) passed)
             → GoesTo p b h (acts (length h.vars) e) s (λ ops. ops) t
             → Below p t.scope t.ty (put_in t.scope from (r ∷ qs) x.ty) × Gives p
-                (args_typed h from xs (typed_args h es) ((r ∷ qs) ++ (arg_passed from (r ∷ qs) x t).path ∷ [])
-                (arg_passed from (r ∷ qs) x t).scope) (Ok passed)
+            (args_typed h from xs (typed_args h es) ((r ∷ qs) ++ (arg_passed from (r ∷ qs) x t).path ∷ [])
+            (arg_passed from (r ∷ qs) x t).scope) (Ok passed)
             → ArgsGo (x ∷ xs) (e ∷ es) s r qs passed
         behind t again go w =
             let at : BindsFit t.scope = go.known.scope.scope.binds in
             let pk = calls.param done xs x t.scope r qs is at (deep_grown (grown_of go.grown) at d)
-                (put_grown (grown_of go.grown) at put) in
+            (put_grown (grown_of go.grown) at put) in
             let a = arg_moved p h t (put_in t.scope from (r ∷ qs) x.ty) go.known w.0 pk.known.fits in
             let binds : BindsFit (arg_passed from (r ∷ qs) x t).scope = a.known.scope.binds in
             let g2 = fresher_joined go.grown a.grown in
             one_goes x xs e es s r qs passed t (arg_passed from (r ∷ qs) x t).path
-                (arg_passed from (r ∷ qs) x t).scope go pk w.0 a
+            (arg_passed from (r ∷ qs) x t).scope go pk w.0 a
             (again (arg_passed from (r ∷ qs) x t).scope (arg_passed from (r ∷ qs) x t).path a.known
-                (deep_grown (grown_of g2) binds d)
+            (deep_grown (grown_of g2) binds d)
             (put_behind x (arg_passed from (r ∷ qs) x t).path (put_grown (grown_of g2) binds put) a.path.bound_in
-                (arg_deep x t.scope _ _ (r ∷ qs) pk a.grown binds a.path)) w.1)
+            (arg_deep x t.scope _ _ (r ∷ qs) pk a.grown binds a.path)) w.1)

@@ -92,26 +92,26 @@ module _ (p : Program) (b : In) (h : Here) (deep : Shallow p) (formed : WellForm
   number_fits at z s t good g =
       goes_as (λ k. (acts_are.exprs at true n k).number z)
       (literal_goes (Number z) ty.Int s t good number refl
-          (gave p (plain ty.Int s) t (asked (expr at (node.Int z)) s t _ ((forms_are.exprs h at s).number z) g)))
+      (gave p (plain ty.Int s) t (asked (expr at (node.Int z)) s t _ ((forms_are.exprs h at s).number z) g)))
 
   truth_fits : (at : Place) (z : Bool) → ExprFits p b h (expr at (node.Bool z))
   truth_fits at z s t good g =
       goes_as (λ k. (acts_are.exprs at true n k).truth z)
       (literal_goes (Truth z) ty.Bool s t good truth refl
-          (gave p (plain ty.Bool s) t (asked (expr at (node.Bool z)) s t _ ((forms_are.exprs h at s).truth z) g)))
+      (gave p (plain ty.Bool s) t (asked (expr at (node.Bool z)) s t _ ((forms_are.exprs h at s).truth z) g)))
 
   null_fits : (at : Place) → ExprFits p b h (expr at node.Null)
   null_fits at s t good g =
       goes_as (λ k. (acts_are.exprs at true n k).null)
       (literal_goes Null ty.Null s t good null refl
-          (gave p (plain ty.Null s) t (asked (expr at node.Null) s t _ (forms_are.exprs h at s).null g)))
+      (gave p (plain ty.Null s) t (asked (expr at node.Null) s t _ (forms_are.exprs h at s).null g)))
 
   this_fits : (at : Place) → ExprFits p b h (expr at node.This)
   this_fits at s t good g =
       let known = path_goes 0 s good (this refl) in
       goes_as (λ k. (acts_are.exprs at true n k).this)
       (subst (GoesTo p b h (λ k. todo n This ∷ k) s as_they_are)
-          (sym (gave p (of_path 0 s) t (asked (expr at node.This) s t _ (forms_are.exprs h at s).this g)))
+      (sym (gave p (of_path 0 s) t (asked (expr at node.This) s t _ (forms_are.exprs h at s).this g)))
       (record { known = known; grown = none_more; fits = λ k ops w f. act refl (takes_this known.type.fits) f }))
 
   -- a variable, as a path or with its declared type
@@ -119,9 +119,9 @@ module _ (p : Program) (b : In) (h : Here) (deep : Shallow p) (formed : WellForm
       → ExprKnown p h (cond c (of_path v.path s) (plain v.ty s))
   var_known v s good m true e = path_goes v.path s good
       (variable refl v m refl (both v.fixed (is_class v.ty) e).0 (both v.fixed (is_class v.ty) e).1) where
-    both : (x y : Bool) → (x && y) ≡ true → (x ≡ true) × (y ≡ true)
-    both true y e = (refl, e)
-    both false y e = cc
+        both : (x y : Bool) → (x && y) ≡ true → (x ≡ true) × (y ≡ true)
+        both true y e = (refl, e)
+        both false y e = cc
   var_known v s good m false e = plain_known p h v.ty s good (declared_known p h s v good m)
 
   var_goes : (x : Name) (v : Var) (s : Scope) → ScopeKnown p h s → var_named (record { list = h.vars }) x ≡ Some v
@@ -134,7 +134,7 @@ module _ (p : Program) (b : In) (h : Here) (deep : Shallow p) (formed : WellForm
         (o ∷ ops) → Fits p b (todo n (Read x) ∷ k) h.vars s ops
     reads o is fits k ops f =
         act refl (read x v named (subst (λ (z : Opd). TypeFits s z.ty) (sym is) fits) (good.plain v m))
-            (subst (λ (z : Opd). Fits p b k h.vars s (z ∷ ops)) (sym is) f)
+        (subst (λ (z : Opd). Fits p b k h.vars s (z ∷ ops)) (sym is) f)
 
     by : (c : Bool) → (v.fixed && is_class v.ty) ≡ c → GoesTo p b h (λ k. todo n (Read x) ∷ k) s as_they_are
         (cond c (of_path v.path s) (plain v.ty s))
@@ -161,27 +161,27 @@ module _ (p : Program) (b : In) (h : Here) (deep : Shallow p) (formed : WellForm
   var_fits at x s t good g = goes_as (λ k. (acts_are.exprs at true n k).var x)
       (found (var_named (record { list = h.vars }) x) refl
       (asked (expr at (node.Var x)) s t _ ((forms_are.exprs h at s).var x) g)) where
-    found : (o : Option Var) → var_named (record { list = h.vars }) x ≡ o → Gives p (var_gives h at x s o) (Ok t) →
-        GoesTo p b h (λ k. todo n (Read x) ∷ k) s as_they_are t
-    found None e w = absurd (no w) where
-      no : Gives p (var_gives h at x s None) (Ok t) → ⊥
-      no w = cc
-    found (Some v) e w = subst (GoesTo p b h (λ k. todo n (Read x) ∷ k) s as_they_are)
-        (sym (gave p (var_typed v s) t w)) (var_goes x v s good e)
+        found : (o : Option Var) → var_named (record { list = h.vars }) x ≡ o → Gives p (var_gives h at x s o) (Ok t) →
+            GoesTo p b h (λ k. todo n (Read x) ∷ k) s as_they_are t
+        found None e w = absurd (no w) where
+          no : Gives p (var_gives h at x s None) (Ok t) → ⊥
+          no w = cc
+        found (Some v) e w = subst (GoesTo p b h (λ k. todo n (Read x) ∷ k) s as_they_are)
+            (sym (gave p (var_typed v s) t w)) (var_goes x v s good e)
 
   -- ---- unary operators
 
   invert_fits : (at : Place) (e : Expr) → ExprFits p b h e → ExprFits p b h (expr at (node.Not e))
   invert_fits at e fit s t good g =
       let c = then_came (expr_types h e s) _ t
-          (asked (expr at (node.Not e)) s t _ ((forms_are.exprs h at s).invert e) g) in
+      (asked (expr at (node.Not e)) s t _ ((forms_are.exprs h at s).invert e) g) in
       let w = wanted (is_bool c.first.ty) _ _ t c.then in
       let one = fit s c.first good c.gave in
       goes_as (λ k. (acts_are.exprs at true n k).invert e)
       (subst (GoesTo p b h (λ k. acts n e (todo n Invert ∷ k)) s as_they_are)
-          (sym (gave p (plain ty.Bool c.first.scope) t w.then))
+      (sym (gave p (plain ty.Bool c.first.scope) t w.then))
       (goes_behind (subst (λ (u : Ty). is_void u ≡ false)
-          (sym (bool_is p b h deep formed c.first.ty w.test)) refl) one (inverted c.first w.test one.known))) where
+      (sym (bool_is p b h deep formed c.first.ty w.test)) refl) one (inverted c.first w.test one.known))) where
         inverted : (x : Typed) → is_bool x.ty ≡ true → ExprKnown p h x → GoesTo p b h (λ k. todo n Invert ∷ k) x.scope
             (λ ops. opd x.ty x.path ∷ ops) (plain ty.Bool x.scope)
         inverted x e known = record {
@@ -201,14 +201,14 @@ module _ (p : Program) (b : In) (h : Here) (deep : Shallow p) (formed : WellForm
   negate_fits : (at : Place) (e : Expr) → ExprFits p b h e → ExprFits p b h (expr at (node.Neg e))
   negate_fits at e fit s t good g =
       let c = then_came (expr_types h e s) _ t
-          (asked (expr at (node.Neg e)) s t _ ((forms_are.exprs h at s).negate e) g) in
+      (asked (expr at (node.Neg e)) s t _ ((forms_are.exprs h at s).negate e) g) in
       let w = wanted (is_int c.first.ty) _ _ t c.then in
       let one = fit s c.first good c.gave in
       goes_as (λ k. (acts_are.exprs at true n k).negate e)
       (subst (GoesTo p b h (λ k. acts n e (todo n Negate ∷ k)) s as_they_are)
-          (sym (gave p (plain ty.Int c.first.scope) t w.then))
+      (sym (gave p (plain ty.Int c.first.scope) t w.then))
       (goes_behind (subst (λ (u : Ty). is_void u ≡ false) (sym (int_is c.first.ty w.test)) refl) one
-          (negated c.first w.test one.known))) where
+      (negated c.first w.test one.known))) where
         negated : (x : Typed) → is_int x.ty ≡ true → ExprKnown p h x → GoesTo p b h (λ k. todo n Negate ∷ k) x.scope
             (λ ops. opd x.ty x.path ∷ ops) (plain ty.Int x.scope)
         negated x e known = record {
@@ -226,33 +226,33 @@ module _ (p : Program) (b : In) (h : Here) (deep : Shallow p) (formed : WellForm
   parts_go : (whole at : Place) (ss : List Suffix) → ((x : Suffix) → Among ss x → SuffixTold x) → (r t : Typed) →
       ExprKnown p h r
       → Gives p (suffixes_typed whole at (typed_parts h ss) r) (Ok t) → GoesTo p b h (parts_acts ss true n) r.scope
-          (λ ops. opd r.ty r.path ∷ ops) t
+      (λ ops. opd r.ty r.path ∷ ops) t
   parts_go whole at [] fit r t k g = stays_known p b h deep formed r t (ok_same t r g) k
   parts_go whole at (x ∷ []) fit r t k g =
       let c = then_came (part_types h x at r) (suffixes_typed whole whole []) t g in
       subst (GoesTo p b h (suffix_acts x true n) r.scope (λ ops. opd r.ty r.path ∷ ops))
-          (sym (ok_same t c.first c.then))
+      (sym (ok_same t c.first c.then))
       (part_goes p b h deep formed (out-Suffix x).name (out-Suffix x).args (fit x first) at r c.first k c.gave)
   parts_go whole at (x ∷ (z ∷ zs)) fit r t k g =
       let c = then_came (part_types h x at r) (suffixes_typed whole whole (typed_parts h (z ∷ zs))) t g in
       let one = part_goes p b h deep formed (out-Suffix x).name (out-Suffix x).args
-          (fit x first) at r c.first k c.gave in
+      (fit x first) at r c.first k c.gave in
       let d = then_came (part_types h z whole c.first) (suffixes_typed whole whole (typed_parts h zs)) t c.then in
       goes_behind (receiver_not_void p b h deep formed _ _ whole c.first d.first d.gave) one
-          (parts_go whole whole (z ∷ zs) (λ y m. fit y (later m)) c.first t one.known c.then)
+      (parts_go whole whole (z ∷ zs) (λ y m. fit y (later m)) c.first t one.known c.then)
 
   post_fits : (at : Place) (e : Expr) (ss : List Suffix) → ExprFits p b h e →
       ((x : Suffix) → Among ss x → SuffixTold x) → ExprFits p b h (expr at (node.Post e ss))
   post_fits at e ss fit told s t good g =
       let c = then_came (expr_types h e s) (suffixes_typed at e.at (typed_parts h ss)) t
-          (asked (expr at (node.Post e ss)) s t _ ((forms_are.exprs h at s).post e ss) g) in
+      (asked (expr at (node.Post e ss)) s t _ ((forms_are.exprs h at s).post e ss) g) in
       let one = fit s c.first good c.gave in
       let rest = parts_go at e.at ss told c.first t one.known c.then in
       goes_as (λ k. (acts_are.exprs at true n k).post e ss) (joined ss c.first c.then one rest) where
         joined : (ss : List Suffix) (r : Typed) → Gives p (suffixes_typed at e.at (typed_parts h ss) r) (Ok t) →
             GoesTo p b h (acts n e) s as_they_are r
             → GoesTo p b h (parts_acts ss true n) r.scope (λ ops. opd r.ty r.path ∷ ops) t → GoesTo p b h
-                (λ k. acts n e (parts_acts ss true n k)) s as_they_are t
+            (λ k. acts n e (parts_acts ss true n k)) s as_they_are t
         joined [] r g one rest = subst (GoesTo p b h (acts n e) s as_they_are) (sym (ok_same t r g)) one
         joined (z ∷ zs) r g one rest =
             let d = then_came (part_types h z e.at r) (suffixes_typed at at (typed_parts h zs)) t g in
@@ -262,14 +262,14 @@ module _ (p : Program) (b : In) (h : Here) (deep : Shallow p) (formed : WellForm
       ((l : Link) → Among ls l → ExprFits p b h l.right) → ExprFits p b h (expr at (node.Chain level e ls))
   chain_fits at level e ls fit told s t good g =
       let c = then_came (expr_types h e s) (λ x. links_typed h e.at x (typed_links h ls)) t
-          (asked (expr at (node.Chain level e ls)) s t _ ((forms_are.exprs h at s).chain level e ls) g) in
+      (asked (expr at (node.Chain level e ls)) s t _ ((forms_are.exprs h at s).chain level e ls) g) in
       let one = fit s c.first good c.gave in
       goes_as (λ k. (acts_are.exprs at true n k).chain level e ls)
-          (joined ls c.first c.then one (links_go p b h deep formed e.at ls told c.first t one.known c.then)) where
+      (joined ls c.first c.then one (links_go p b h deep formed e.at ls told c.first t one.known c.then)) where
         joined : (ls : List Link) (r : Typed) → Gives p (links_typed h e.at r (typed_links h ls)) (Ok t) →
             GoesTo p b h (acts n e) s as_they_are r
             → GoesTo p b h (links_acts n ls) r.scope (λ ops. opd r.ty r.path ∷ ops) t → GoesTo p b h
-                (λ k. acts n e (links_acts n ls k)) s as_they_are t
+            (λ k. acts n e (links_acts n ls k)) s as_they_are t
         joined [] r g one rest = subst (GoesTo p b h (acts n e) s as_they_are) (sym (ok_same t r g)) one
         joined (z ∷ zs) r g one rest = goes_behind (first_kept p b h deep formed e.at z zs r t g) one rest
 
@@ -315,7 +315,7 @@ module _ (p : Program) (b : In) (h : Here) (deep : Shallow p) (formed : WellForm
       (others.view at v e.0 e.1)
   node_told others (Node-F.Chain level e ls) at =
       subst (λ m. ExprFits p b h (expr at m)) (sym (node.rolls-Chain level e.0 (map (λ l. l.0) ls)))
-          (chain_fits at level e.0 (map (λ l. l.0) ls) e.1 (told_each ls))
+      (chain_fits at level e.0 (map (λ l. l.0) ls) e.1 (told_each ls))
 
   abbrev ToldSuffix : Type 0
   ToldSuffix = Suffix-F ((m : Node) × NodeTold m) ((e : Expr) × ExprFits p b h e) ((l : Link) × LinkTold l)

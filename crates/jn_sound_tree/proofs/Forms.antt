@@ -73,7 +73,7 @@ path_reached p h x known cl = at x.path refl where
         moves = λ ops. subst (λ (o : Option ℕ). Moves p (typing x.scope (opd x.ty o ∷ ops))
             (typing (bind q x.ty ∷ x.scope) (opd x.ty (Some q) ∷ ops))) (sym e)
             (named x.ty x.ty q (omega arith) good.scope.binds.1 known.type.fits
-                (below_itself x.ty (class_is x.ty cl)) same);
+            (below_itself x.ty (class_is x.ty cl)) same);
       }
 
 -- ---- answers
@@ -112,18 +112,22 @@ field_typed p h deep formed f at x y known g =
     let w = wanted (is_class x.ty) _ _ y g in
     let c = found_was w.then.0 _ (field_gives f x) y w.then.2 in
     read c.given w.test (subst (λ (o : Option FoundField). Means p (OfField x.scope x.ty f.name) o) c.is w.then.1)
-        c.then where
+    c.then where
       answered : (c : FoundField) → is_class x.ty ≡ true → IsFoundField p x.scope x.ty f.name c → (m : Bool) → Answers
           (Masked (mask_names p) (masks_of x.ty) f.name) m
           → Gives p (cond m (refuse (of_class rule.E19 (first_bound x) f f.name))
-              (note (MemberMark c.class) (gives (plain (field_type c (path_of x.ty x)) (path_of x.ty x).scope)))) (Ok y)
+          (note (MemberMark c.class) (gives (plain (field_type c (path_of x.ty x)) (path_of x.ty x).scope)))) (Ok y)
           → FieldTyped p h f.name x y
       answered c cl i true m e = absurd (not_ok y _ e)
       answered c cl i false m e =
           let r = path_reached p h x known cl in
           let found : IsFoundField p (path_of x.ty x).scope x.ty f.name c =
-          record { bound = i.bound; at = found_grown x.ty (grown_of r.grown) r.known.scope.binds known.type.fits i.at;
-              type = i.type; class = i.class } in
+          record {
+            bound = i.bound;
+            at = found_grown x.ty (grown_of r.grown) r.known.scope.binds known.type.fits i.at;
+            type = i.type;
+            class = i.class;
+          } in
           record {
             c = c;
             q = (path_of x.ty x).path;
@@ -151,7 +155,7 @@ not_void_below p s _ _ (classes a m) e = cc
 -- the type under which it gets its fresh path
 passed_below : (p : Program) (s : Scope) (t u : Ty) → Below p s t u → TypeFits s t → TypeFits s u
     → Below p s t (type_passed t u) × TypeFits s (type_passed t u) × Below p s (type_passed t u) u ×
-        ((type_passed t u ≡ ty.Null) → ⊥)
+    ((type_passed t u ≡ ty.Null) → ⊥)
 passed_below p s _ _ ints f g = (ints, f, ints, (λ e. cc))
 passed_below p s _ _ booleans f g = (booleans, f, booleans, (λ e. cc))
 passed_below p s _ _ (nulls {ys = ys} {n = n}) f g = (nulls, g, below_itself (ty.Class ys n) tt, (λ e. cc))
@@ -165,8 +169,11 @@ path_above p s q _ _ f k booleans n a = a
 path_above p s q _ _ f k nulls n a = absurd (n refl)
 path_above p s q _ _ f k (classes {xs = xs} {ys = ys} {m = m} {n = o} b w) n a =
     let one = k.atoms tt in
-    record { bound_in = a.bound_in; depth = λ y i. a.depth one.one one.among ∙ sym
-        (below_keeps_depth p s (ty.Class xs m) (ty.Class ys o) one.one y f k (classes b w) one.among i) }
+    record {
+      bound_in = a.bound_in;
+      depth = λ y i. a.depth one.one one.among ∙ sym
+          (below_keeps_depth p s (ty.Class xs m) (ty.Class ys o) one.one y f k (classes b w) one.among i);
+    }
 
 -- an argument is named, and then in its parameter's type
 pub record ArgMoved (p : Program) (h : Here) (t : Typed) (want : Ty) (q : ℕ) (s : Scope) : Type 0 where
@@ -201,7 +208,7 @@ arg_moved p h t want known below fits = at t.path refl where
       let q : ℕ = next_path t.scope in
       let k = passed_below p t.scope t.ty want below known.type.fits fits in
       let good : ScopeKnown p h (bind q (type_passed t.ty want) ∷ t.scope) = scope_bind p h t.scope
-          (type_passed t.ty want) known.scope k.1 in
+      (type_passed t.ty want) known.scope k.1 in
       let binds : BindsFit (bind q (type_passed t.ty want) ∷ t.scope) = good.scope.binds in
       record {
         known = good;
@@ -241,32 +248,32 @@ call_is_typed p h deep formed f es at x y known g =
     let w = wanted (is_class x.ty) _ _ y g in
     let c = found_was w.then.0 _ (method_gives h f es x) y w.then.2 in
     called c.given w.test (subst (λ (o : Option Body). Means p (OfMethod x.scope x.ty f.name) o) c.is w.then.1) c.then
-        where
-      none_was : (go : Plan Typed) (o : Option Name) → Gives p (unmasked x f go o) (Ok y) → (o ≡ None) × Gives p go
-          (Ok y)
-      none_was go None e = (refl, e)
-      none_was go (Some z) e = absurd (not_ok y _ e)
+  where
+    none_was : (go : Plan Typed) (o : Option Name) → Gives p (unmasked x f go o) (Ok y) → (o ≡ None) × Gives p go
+        (Ok y)
+    none_was go None e = (refl, e)
+    none_was go (Some z) e = absurd (not_ok y _ e)
 
-      called : (b : Body) → is_class x.ty ≡ true → IsMethodOf p x.scope x.ty f.name b → Gives p
-          (method_gives h f es x b) (Ok y) → CallTyped p h f.name es x y
-      called b cl i e =
-          let r = path_reached p h x known cl in
-          let u = none_was (then_do (header_typed b) (method_with h f es x b)) e.0 e.2 in
-          let hd = then_came (header_typed b) (method_with h f es x b) y u.1 in
-          let m = wanted (as_many hd.first es) _ _ y hd.then in
-          let came = then_came (call_typed h hd.first es (path_of x.ty x)) (result_gives hd.first) y m.then in
-          let is : IsHeader p b hd.first = (headers_are_the_meanings p b hd.first).0 hd.gave in
-          record {
-            body = b;
-            header = hd.first;
-            here = i;
-            is_header = is;
-            fits = headers_fit p b.class f.name b.method hd.first deep formed
-                (declared_in_universe p b.class i.body.at.decl i.body.at.stands) i.body.at is;
-            reached = r;
-            free = none_masked p x.ty e.0 u.0 e.1;
-            as_many = eqb-true (length hd.first.vars) (length es) m.test;
-            passed = came.first;
-            args = came.gave;
-            is = gave p _ y came.then;
-          }
+    called : (b : Body) → is_class x.ty ≡ true → IsMethodOf p x.scope x.ty f.name b → Gives p
+        (method_gives h f es x b) (Ok y) → CallTyped p h f.name es x y
+    called b cl i e =
+        let r = path_reached p h x known cl in
+        let u = none_was (then_do (header_typed b) (method_with h f es x b)) e.0 e.2 in
+        let hd = then_came (header_typed b) (method_with h f es x b) y u.1 in
+        let m = wanted (as_many hd.first es) _ _ y hd.then in
+        let came = then_came (call_typed h hd.first es (path_of x.ty x)) (result_gives hd.first) y m.then in
+        let is : IsHeader p b hd.first = (headers_are_the_meanings p b hd.first).0 hd.gave in
+        record {
+          body = b;
+          header = hd.first;
+          here = i;
+          is_header = is;
+          fits = headers_fit p b.class f.name b.method hd.first deep formed
+              (declared_in_universe p b.class i.body.at.decl i.body.at.stands) i.body.at is;
+          reached = r;
+          free = none_masked p x.ty e.0 u.0 e.1;
+          as_many = eqb-true (length hd.first.vars) (length es) m.test;
+          passed = came.first;
+          args = came.gave;
+          is = gave p _ y came.then;
+        }

@@ -68,7 +68,7 @@ scope_more : (at : Site) (x : Var) → scope_of
     (site_with at.class at.method (at.vars ++ x ∷ [])) ≡ var_bind x ∷ scope_of at
 scope_more at x =
     ap (λ (bs : List Bind). reverse (this_bind (class_of (spot_at at role.Value)) ∷ bs))
-        (map-append var_bind at.vars (x ∷ []))
+    (map-append var_bind at.vars (x ∷ []))
     ∙ reverse-append (this_bind (class_of (spot_at at role.Value)) ∷ map var_bind at.vars) (var_bind x ∷ [])
 
 module _ (p : Program) (b : In) (deep : Shallow p) (formed : WellFormed p) where
@@ -108,8 +108,12 @@ module _ (p : Program) (b : In) (deep : Shallow p) (formed : WellFormed p) where
             (sym (next_small x.scope v (subst (λ (i : ℕ). i < 256) (sym is) small))) (numbered q n.bind n.among n.is);
       };
       alike = alike;
-      covers = record { this = behind 0 known.covers.this; only = λ q n. only q n.bind n.among n.is; all = λ w m.
-          all w (among_old w m) };
+      covers = record {
+        this = behind 0 known.covers.this;
+        only = λ q n. only q n.bind n.among n.is;
+        all = λ w m.
+            all w (among_old w m);
+      };
       some = omega arith;
       older = λ w m. older w (among_old w m);
       params = omega (arith, known.params, length-append x.vars (v ∷ []));
@@ -163,15 +167,18 @@ local_fits p b deep formed fixed t n e termed x y small known others g =
     let a = asked p b deep formed (stmt.Local fixed t n e) x y _ ((forms_are.stmts b x).local fixed t n e) g in
     let r = took a.0 (local_typed b x fixed n e) y a.2 in
     behind r.given (subst (λ (z : Result Ty Refusal). Means p (OfType (site_here (here b x)) t) z) r.is a.1)
-        (noted p (atom_marks r.given) _ (Ok y) r.then) where
+    (noted p (atom_marks r.given) _ (Ok y) r.then) where
       site : Site
       site = site_here (here_in b x.vars)
 
       goes : (v : Var) → v ≡ var n.name x.next fixed v.ty → TypeIs p site t v.ty → (w : Typed) → GoesTo p b
           (here_in b x.vars) (acts (length x.vars) e) x.scope as_they_are w
           → Below p w.scope w.ty v.ty → StmtGoes p b (stmt.Local fixed t n e) x (with_local x v)
-      goes v is typeis w one below = record { known = after; fits = λ ss k f. fits ss k
-          (passed (Stmt-F.Local fixed t n e) (stmt.Local fixed t n e) (stmt.rolls-Local fixed t n e) refl f) } where
+      goes v is typeis w one below = record {
+        known = after;
+        fits = λ ss k f. fits ss k
+            (passed (Stmt-F.Local fixed t n e) (stmt.Local fixed t n e) (stmt.rolls-Local fixed t n e) refl f);
+      } where
         path : v.path ≡ x.next
         path = ap (λ (z : Var). z.path) is
 
@@ -211,11 +218,11 @@ local_fits p b deep formed fixed t n e termed x y small known others g =
             → Fits p b (stmts_acts (length x.vars) x.next (stmt.Local fixed t n e ∷ ss) k) x.vars x.scope []
         fits ss k f =
             subst (λ (z : List Todo). Fits p b z x.vars x.scope [])
-                (sym ((acts_are.stmts (length x.vars) x.next ss k).local fixed t n e))
+            (sym ((acts_are.stmts (length x.vars) x.next ss k).local fixed t n e))
             (one.fits _ [] (not_void w.ty (not_void_below p w.scope w.ty v.ty below))
             (rest (stmts_acts (suc (length x.vars)) (suc x.next) ss k)
-                (subst (λ (i : ℕ). Fits p b (stmts_acts i (suc x.next) ss k) (x.vars ++ v ∷ [])
-                (var_bind v ∷ x.scope) []) long f)))
+            (subst (λ (i : ℕ). Fits p b (stmts_acts i (suc x.next) ss k) (x.vars ++ v ∷ [])
+            (var_bind v ∷ x.scope) []) long f)))
 
       behind : (u : Ty) → Means p (OfType (site_here (here b x)) t) (Ok u) → Gives p
           (local_with b x n e (var n.name x.next fixed (declared_type (site_here (here b x)) u))) (Ok y)
@@ -224,8 +231,12 @@ local_fits p b deep formed fixed t n e termed x y small known others g =
           let v : Var = var n.name x.next fixed (declared_type (site_here (here b x)) u) in
           let c = then_came (typed b x e x.scope) _ y g in
           let o = answered p b deep formed (Below p c.first.scope c.first.ty v.ty) c.then.0 _
-              (with_local x v) y c.then.1 c.then.2 in
+          (with_local x v) y c.then.1 c.then.2 in
           let one = by_tree p b (here_in b x.vars) deep formed others e x.scope c.first known.scope c.gave in
           subst (StmtGoes p b (stmt.Local fixed t n e) x) (sym o.1)
-          (goes v refl (record { given = u; resolved = m; normal =
-              (type_subst_is (scope_of site) same_path u (declared_type site u)).1 refl }) c.first one o.0)
+          (goes v refl (record {
+            given = u;
+            resolved = m;
+            normal =
+                (type_subst_is (scope_of site) same_path u (declared_type site u)).1 refl;
+          }) c.first one o.0)

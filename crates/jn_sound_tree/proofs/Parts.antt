@@ -76,9 +76,13 @@ goes_as {p} {b} {h} {s = s} {before = before} e g = record {
 pub goes_behind : {p : Program} {b : In} {h : Here} {x y : List Todo → List Todo} {s : Scope} {before : List Opd →
     List Opd} {r t : Typed} → is_void r.ty ≡ false
     → GoesTo p b h x s before r → GoesTo p b h y r.scope (λ ops. opd r.ty r.path ∷ ops) t → GoesTo p b h
-        (λ k. x (y k)) s before t
-goes_behind v g l = record { known = l.known; grown = fresher_joined g.grown l.grown; fits = λ k ops w f.
-    g.fits _ ops v (l.fits k ops w f) }
+    (λ k. x (y k)) s before t
+goes_behind v g l = record {
+  known = l.known;
+  grown = fresher_joined g.grown l.grown;
+  fits = λ k ops w f.
+      g.fits _ ops v (l.fits k ops w f);
+}
 
 module _ (p : Program) (b : In) (h : Here) (deep : Shallow p) (formed : WellFormed p) where
   abbrev n : ℕ
@@ -128,10 +132,14 @@ module _ (p : Program) (b : In) (h : Here) (deep : Shallow p) (formed : WellForm
       (args_go p b h w.body w.header calls es fit [] w.header.vars (path_of r.ty r).scope
       (path_of r.ty r).path [] w.passed refl
       (w.as_many ∙ length-map es (typed_expr h)) w.reached.known
-          (calls.receiver (path_of r.ty r).scope r.ty f.name (path_of r.ty r).path
-      (record { bound = w.here.bound; at = found_grown r.ty
-          (grown_of w.reached.grown) w.reached.known.scope.binds known.type.fits w.here.at; body = w.here.body })
-          w.reached.path) put_none w.args) where
+      (calls.receiver (path_of r.ty r).scope r.ty f.name (path_of r.ty r).path
+      (record {
+        bound = w.here.bound;
+        at = found_grown r.ty
+            (grown_of w.reached.grown) w.reached.known.scope.binds known.type.fits w.here.at;
+        body = w.here.body;
+      })
+      w.reached.path) put_none w.args) where
         calls : CallsOf p w.body w.header
         calls = call_types_fit p w.body w.header w.fits
 
@@ -152,36 +160,42 @@ module _ (p : Program) (b : In) (h : Here) (deep : Shallow p) (formed : WellForm
         behind a = subst (CallGoes does r)
             (sym (w.is ∙ ap (λ (ps : List ℕ). plain
             (put_in w.passed.scope from ps w.header.result) w.passed.scope) a.is)) (record {
-          known = plain_known p h result w.passed.scope a.known type;
-          grown = fresher_joined w.reached.grown a.grown;
-          path = refl;
-          fits = λ keeps k ops v rest. moves (w.reached.moves ops)
-              (a.fits (todo n (Call f.name (length es) keeps) ∷ k) (opd r.ty (Some q) ∷ ops)
-              (act refl (call f.name (length es) keeps r.ty q a.all a.args c
-              (record { at = found_grown r.ty
-                  (grown_of (fresher_joined w.reached.grown a.grown)) a.known.scope.binds known.type.fits w.here.at;
-                  callee = record { body = w.here.body; header = w.is_header } })
-              w.free (all_taken a.args (opd r.ty (Some q) ∷ ops) (length es) a.count)
+              known = plain_known p h result w.passed.scope a.known type;
+              grown = fresher_joined w.reached.grown a.grown;
+              path = refl;
+              fits = λ keeps k ops v rest. moves (w.reached.moves ops)
+                  (a.fits (todo n (Call f.name (length es) keeps) ∷ k) (opd r.ty (Some q) ∷ ops)
+                  (act refl (call f.name (length es) keeps r.ty q a.all a.args c
+                  (record {
+                    at = found_grown r.ty
+                        (grown_of (fresher_joined w.reached.grown a.grown)) a.known.scope.binds known.type.fits w.here.at;
+                    callee = record { body = w.here.body; header = w.is_header };
+                  })
+                  w.free (all_taken a.args (opd r.ty (Some q) ∷ ops) (length es) a.count)
                   (subst (ArgsFit w.passed.scope from (q ∷ a.all) w.header.vars a.args) (sym a.split) a.fit)
                   (λ e. v (put_void w.passed.scope _ w.header.result e)) type.fits) rest));
-        }) where
-          result : Ty
-          result = put_in w.passed.scope from (q ∷ a.all) w.header.result
+            }) where
+              result : Ty
+              result = put_in w.passed.scope from (q ∷ a.all) w.header.result
 
-          type_by : (o : Option TypeTerm) → w.body.method.result ≡ o → TypeKnown w.passed.scope result
-          type_by (Some t) e =
-              calls.result t w.passed.scope q a.all e a.known.scope.binds
+              type_by : (o : Option TypeTerm) → w.body.method.result ≡ o → TypeKnown w.passed.scope result
+              type_by (Some t) e =
+                  calls.result t w.passed.scope q a.all e a.known.scope.binds
                   (deep_grown (grown_of a.grown) a.known.scope.binds
                   (calls.receiver (path_of r.ty r).scope r.ty f.name q
-              (record { bound = w.here.bound; at = found_grown r.ty
-                  (grown_of w.reached.grown) w.reached.known.scope.binds known.type.fits w.here.at; body =
-                  w.here.body }) w.reached.path)) a.put
-          type_by None e =
-              subst (λ (u : Ty). TypeKnown w.passed.scope (put_in w.passed.scope from (q ∷ a.all) u))
+                  (record {
+                    bound = w.here.bound;
+                    at = found_grown r.ty
+                        (grown_of w.reached.grown) w.reached.known.scope.binds known.type.fits w.here.at;
+                    body =
+                        w.here.body;
+                  }) w.reached.path)) a.put
+              type_by None e =
+                  subst (λ (u : Ty). TypeKnown w.passed.scope (put_in w.passed.scope from (q ∷ a.all) u))
                   (sym (w.fits.void e)) (plain_type w.passed.scope ty.Void refl)
 
-          type : TypeKnown w.passed.scope result
-          type = type_by w.body.method.result refl
+              type : TypeKnown w.passed.scope result
+              type = type_by w.body.method.result refl
 
   -- a value that is kept is an operand
   kept_goes : {does : Bool → List Todo → List Todo} {r t : Typed} → CallGoes does r t → GoesTo p b h
@@ -321,7 +335,7 @@ module _ (p : Program) (b : In) (h : Here) (deep : Shallow p) (formed : WellForm
     fits = λ k ops v f. subst (λ (u : Ty). Fits p b (todo n (Decide and e) ∷ k) h.vars x.scope (opd u x.path ∷ ops))
         (sym (bool_is x.ty c))
         (decide and e x.path refl (g.fits k ops (subst (λ (u : Ty). is_void u ≡ false) (sym (bool_is y.ty d)) refl)
-            (taken_bool y d (bare y.path refl) k ops f)) (unseen_fits g.grown g.known.scope.scope.binds f));
+        (taken_bool y d (bare y.path refl) k ops f)) (unseen_fits g.grown g.known.scope.scope.binds f));
   } where
     bare : (o : Option ℕ) → y.path ≡ o → y.path ≡ None
     bare None w = w
@@ -332,12 +346,12 @@ module _ (p : Program) (b : In) (h : Here) (deep : Shallow p) (formed : WellForm
         → Fits p b k h.vars y.scope (opd y.ty y.path ∷ ops)
     taken_bool y d w k ops f =
         subst (λ (o : Option ℕ). Fits p b k h.vars y.scope (opd y.ty o ∷ ops)) (sym w)
-            (subst (λ (u : Ty). Fits p b k h.vars y.scope (opd u None ∷ ops)) (sym (bool_is y.ty d)) f)
+        (subst (λ (u : Ty). Fits p b k h.vars y.scope (opd u None ∷ ops)) (sym (bool_is y.ty d)) f)
 
   operated : (o : Op) (e : Expr) (x y : Typed) → Operates o x.ty y.ty → is_void y.ty ≡ false → GoesTo p b h
       (acts n e) x.scope as_they_are y
       → GoesTo p b h (λ k. acts n e (todo n (Operate o) ∷ k)) x.scope (λ ops. opd x.ty x.path ∷ ops)
-          (plain (operator_type o) y.scope)
+      (plain (operator_type o) y.scope)
   operated o e x y w v g = record {
     known = plain_known p h (operator_type o) y.scope g.known.scope (result_plain o y.scope);
     grown = g.grown;
@@ -390,11 +404,11 @@ module _ (p : Program) (b : In) (h : Here) (deep : Shallow p) (formed : WellForm
       let v = wanted (takes l.op c.first.ty) _ _ t c.then in
       let u = wanted (takes_both l.op x.ty c.first.ty) _ _ t v.then in
       let z = then_came (gives (plain (operator_type l.op) c.first.scope))
-          (λ z. links_typed h at z (typed_links h ls)) t u.then in
+      (λ z. links_typed h at z (typed_links h ls)) t u.then in
       let one = subst (LinkGoes l.op l.right x) (sym (gave p _ z.first z.gave))
-          (link_goes l.op l.right x c.first w.test v.test u.test (fit l first x.scope c.first k.scope c.gave)) in
+      (link_goes l.op l.right x c.first w.test v.test u.test (fit l first x.scope c.first k.scope c.gave)) in
       goes_behind (subst (λ (y : Typed). is_void y.ty ≡ false) (sym (gave p _ z.first z.gave)) (result_kept l.op)) one
-          (links_go at ls (λ y m. fit y (later m)) z.first t one.known z.then)
+      (links_go at ls (λ y m. fit y (later m)) z.first t one.known z.then)
 
   -- with an operator, the value before it is not void
   pub first_kept : (at : Place) (l : Link) (ls : List Link) (x t : Typed) → Gives p

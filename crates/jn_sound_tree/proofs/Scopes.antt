@@ -70,8 +70,11 @@ unseen_fits (fresh_more {b = c} l g) f r = unseen_fits g f.0 (moves (unseen c.ty
 -- ---- what is as deep stays so
 
 pub deep_grown : {h s t : Scope} {q r : ℕ} → Grown s t → BindsFit t → AsDeep h s q r → AsDeep h t q r
-deep_grown {r = r} g f d = record { bound_in = grown_binds g r d.bound_in; depth = ap length
-    (bound_grown g f r d.bound_in) ∙ d.depth }
+deep_grown {r = r} g f d = record {
+  bound_in = grown_binds g r d.bound_in;
+  depth = ap length
+      (bound_grown g f r d.bound_in) ∙ d.depth;
+}
 
 pub put_grown : {h s t : Scope} {xs : List Var} {qs : List ℕ} → Grown s t → BindsFit t → PutFor h s xs qs →
     PutFor h t xs qs
@@ -154,5 +157,7 @@ mentioned_there p h s q k m =
 pub declared_known : (p : Program) (h : Here) (s : Scope) (v : Var) → ScopeKnown p h s → Among h.vars v →
     TypeKnown s v.ty
 declared_known p h s v k m =
-    for_known k.scope (record { fits = fits_whole (var_among p (site_here h) role.Value k.site v m) k.site.binds;
-        named = k.site.named v m })
+    for_known k.scope (record {
+      fits = fits_whole (var_among p (site_here h) role.Value k.site v m) k.site.binds;
+      named = k.site.named v m;
+    })

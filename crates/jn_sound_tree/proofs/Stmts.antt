@@ -38,8 +38,14 @@ use Rattle.jn_sound_tree.proofs.Exprs.{by_tree}
 
 pub narrowed_itself : (s : Scope) → Narrowed s s
 narrowed_itself [] = narrow_none
-narrowed_itself (b ∷ s) = kept (record { path = refl; atoms = refl; masks = λ i m. m; kind = refl; plain = λ e.
-    refl }) (narrowed_itself s)
+narrowed_itself (b ∷ s) = kept (record {
+  path = refl;
+  atoms = refl;
+  masks = λ i m. m;
+  kind = refl;
+  plain = λ e.
+      refl;
+}) (narrowed_itself s)
 
 pub narrowed_fresh : {s t : Scope} → Fresher s t → Narrowed t s
 narrowed_fresh {s = s} fresh_none = narrowed_itself s
@@ -74,7 +80,7 @@ module _ (p : Program) (b : In) (deep : Shallow p) (formed : WellFormed p) where
   -- the statement s leaves all as it was, and has these acts
   stays : (s : Stmt) (x y : Before) → StmtKnown p b x → y ≡ x
       → ((ss : List Stmt) (k : List Todo) → (stops s ≡ true) ⊎ Fits p b
-          (stmts_acts (length x.vars) x.next ss k) x.vars x.scope []
+      (stmts_acts (length x.vars) x.next ss k) x.vars x.scope []
       → Fits p b (stmts_acts (length x.vars) x.next (s ∷ ss) k) x.vars x.scope []) → StmtGoes p b s x y
   stays s x y known e f = subst (StmtGoes p b s x) (sym e) (record { known = known; fits = f })
 
@@ -103,30 +109,30 @@ module _ (p : Program) (b : In) (deep : Shallow p) (formed : WellFormed p) where
   pub prints : (e : Expr) (at : Place) → StmtFits p b (stmt.Print e at)
   prints e at x y known others g =
       let c = then_came (typed b x e x.scope) _ y
-          (asked (stmt.Print e at) x y _ ((forms_are.stmts b x).prints e at) g) in
+      (asked (stmt.Print e at) x y _ ((forms_are.stmts b x).prints e at) g) in
       let w = wanted (is_int c.first.ty || is_bool c.first.ty) _ _ y c.then in
       let one = by_tree p b (here_in b x.vars) deep formed others e x.scope c.first known.scope c.gave in
       stays (stmt.Print e at) x y known (same_before x y w.then)
-          (λ ss k f. goes c.first w.test one ss k
-          (passed (Stmt-F.Print e at) (stmt.Print e at) (stmt.rolls-Print e at) refl f)) where
+      (λ ss k f. goes c.first w.test one ss k
+      (passed (Stmt-F.Print e at) (stmt.Print e at) (stmt.rolls-Print e at) refl f)) where
         goes : (t : Typed) → (is_int t.ty || is_bool t.ty) ≡ true → GoesTo p b (here_in b x.vars)
             (acts (length x.vars) e) x.scope as_they_are t
             → (ss : List Stmt) (k : List Todo) → Fits p b (stmts_acts (length x.vars) x.next ss k) x.vars x.scope [] →
-                Fits p b (stmts_acts (length x.vars) x.next (stmt.Print e at ∷ ss) k) x.vars x.scope []
+            Fits p b (stmts_acts (length x.vars) x.next (stmt.Print e at ∷ ss) k) x.vars x.scope []
         goes t w one ss k f =
             subst (λ (z : List Todo). Fits p b z x.vars x.scope [])
-                (sym ((acts_are.stmts (length x.vars) x.next ss k).prints e at))
+            (sym ((acts_are.stmts (length x.vars) x.next ss k).prints e at))
             (one.fits _ [] (printed_kept t.ty w)
-                (printed (length x.vars) x.vars t.ty t.path t.scope _ [] refl w (ended x [] known one.grown f)))
+            (printed (length x.vars) x.vars t.ty t.path t.scope _ [] refl w (ended x [] known one.grown f)))
 
   pub prints_text : (t : ℕ) (u : Text) (at : Place) → slice_get p.texts t ≡ Some u → StmtFits p b (stmt.PrintText t at)
   prints_text t u at e x y known others g =
       stays (stmt.PrintText t at) x y known
-          (same_before x y (asked (stmt.PrintText t at) x y _ ((forms_are.stmts b x).prints_text t at) g))
+      (same_before x y (asked (stmt.PrintText t at) x y _ ((forms_are.stmts b x).prints_text t at) g))
       (λ ss k f. subst (λ (z : List Todo). Fits p b z x.vars x.scope [])
-          (sym ((acts_are.stmts (length x.vars) x.next ss k).prints_text t at))
+      (sym ((acts_are.stmts (length x.vars) x.next ss k).prints_text t at))
       (act refl (print_text t u e) (passed (Stmt-F.PrintText t at) (stmt.PrintText t at)
-          (stmt.rolls-PrintText t at) refl f)))
+      (stmt.rolls-PrintText t at) refl f)))
 
   -- ---- return
 
@@ -144,31 +150,31 @@ module _ (p : Program) (b : In) (deep : Shallow p) (formed : WellFormed p) where
   returns_one : (e : Expr) (at : Place) → StmtFits p b (stmt.Return (Some e) at)
   returns_one e at x y known others g =
       let c = then_came (typed b x e x.scope) _ y
-          (asked (stmt.Return (Some e) at) x y _ ((forms_are.stmts b x).returns (Some e) at) g) in
+      (asked (stmt.Return (Some e) at) x y _ ((forms_are.stmts b x).returns (Some e) at) g) in
       let w = wanted (not (is_void b.result)) _ _ y c.then in
       let a = answered (Below p c.first.scope c.first.ty b.result) w.then.0 _ x y w.then.1 w.then.2 in
       let one = by_tree p b (here_in b x.vars) deep formed others e x.scope c.first known.scope c.gave in
       stays (stmt.Return (Some e) at) x y known a.1
-          (λ ss k f. goes c.first (not_true (is_void b.result) w.test) a.0 one ss k) where
+      (λ ss k f. goes c.first (not_true (is_void b.result) w.test) a.0 one ss k) where
         goes : (t : Typed) → is_void b.result ≡ false → Below p t.scope t.ty b.result → GoesTo p b (here_in b x.vars)
             (acts (length x.vars) e) x.scope as_they_are t
             → (ss : List Stmt) (k : List Todo) → Fits p b
-                (stmts_acts (length x.vars) x.next (stmt.Return (Some e) at ∷ ss) k) x.vars x.scope []
+            (stmts_acts (length x.vars) x.next (stmt.Return (Some e) at ∷ ss) k) x.vars x.scope []
         goes t v below one ss k =
             subst (λ (z : List Todo). Fits p b z x.vars x.scope [])
-                (sym ((acts_are.stmts (length x.vars) x.next ss k).returns e at))
+            (sym ((acts_are.stmts (length x.vars) x.next ss k).returns e at))
             (one.fits _ [] (not_void t.ty (not_void_below p t.scope t.ty b.result below))
             (moves (wider t.ty b.result t.path below
-                (fits_grown (grown_of one.grown) one.known.scope.scope.binds known.result.fits) same)
-                (return t.path refl v)))
+            (fits_grown (grown_of one.grown) one.known.scope.scope.binds known.result.fits) same)
+            (return t.path refl v)))
 
   returns_none : (at : Place) → StmtFits p b (stmt.Return None at)
   returns_none at x y known others g =
       let w = wanted (is_void b.result) _ _ y
-          (asked (stmt.Return None at) x y _ ((forms_are.stmts b x).returns None at) g) in
+      (asked (stmt.Return None at) x y _ ((forms_are.stmts b x).returns None at) g) in
       stays (stmt.Return None at) x y known (same_before x y w.then)
       (λ ss k f. subst (λ (z : List Todo). Fits p b z x.vars x.scope [])
-          (sym ((acts_are.stmts (length x.vars) x.next ss k).returns_none at)) (leave refl w.test))
+      (sym ((acts_are.stmts (length x.vars) x.next ss k).returns_none at)) (leave refl w.test))
 
   pub returns : (e : Option Expr) (at : Place) → StmtFits p b (stmt.Return e at)
   returns None at = returns_none at

@@ -54,7 +54,7 @@ abbrev pub LocalFits : Program → In → Type 0
 LocalFits p b = (fixed : Bool) (t : TypeTerm) (n : Named) (e : Expr) → TypeWellFormed t → (x y : Before) →
     x.next < 256 → StmtKnown p b x
     → OtherForms p b (here_in b x.vars) → Gives p (stmt_types b (stmt.Local fixed t n e) x) (Ok y) → StmtGoes p b
-        (stmt.Local fixed t n e) x y
+    (stmt.Local fixed t n e) x y
 
 -- the statements of a block, one after the other, where each of them fits
 abbrev pub InOrder : Program → In → Type 0
@@ -62,7 +62,7 @@ InOrder p b = (ss : List Stmt) → ((s : Stmt) → Among ss s → StmtFits p b s
     ((vs : List Var) → OtherForms p b (here_in b vs))
     → (x y : Before) → StmtKnown p b x → Gives p (stmts_type b ss x) (Ok y)
     → StmtKnown p b y × ((k : List Todo) → (all_stop ss ≡ true) ⊎ Fits p b k y.vars y.scope [] → Fits p b
-        (stmts_acts (length x.vars) x.next ss k) x.vars x.scope [])
+    (stmts_acts (length x.vars) x.next ss k) x.vars x.scope [])
 
 -- THESE STATEMENTS FIT WHERE THE RULES ACCEPT THEM, in a program of the forms of a source whose paths have at most
 -- 255 names.

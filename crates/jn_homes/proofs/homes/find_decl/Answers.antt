@@ -1,8 +1,8 @@
 use Rattle.std.proofs.Common.{rules}
 use Rattle.std.proofs.Math.ListN.{drop_of_length-le}
-use Rattle.jn_header.proofs.TwiceSteps.{at_index}
-use Rattle.jn_header.proofs.Housing.{searched_next, searched_all, other_number}
-use Rattle.jn_header.proofs.homes.find_decl.Goals as goal
+use Rattle.jn_homes.proofs.Places.{at_index}
+use Rattle.jn_homes.proofs.Housing.{searched_next, searched_all, other_number}
+use Rattle.jn_homes.proofs.homes.find_decl.Goals as goal
 
 pub loop-d-preserved : goal.loop-d-preserved
 loop-d-preserved c =

@@ -3,10 +3,10 @@ use Rattle.std.proofs.Math.ListN.{drop_of_length-le}
 use Rattle.jn_base.specs.declared.tree.Name.{Name}
 use Rattle.jn_base.specs.declared.tree.Member.{Member}
 use Rattle.jn_base.specs.Paths.{nested}
-use Rattle.jn_header.specs.Homes.{OnWay}
-use Rattle.jn_header.proofs.TwiceSteps.{at_get}
-use Rattle.jn_header.proofs.Housing.{undeclared_here, declared_here}
-use Rattle.jn_header.proofs.homes.inner_at.Goals as goal
+use Rattle.jn_homes.specs.Homes.{OnWay}
+use Rattle.jn_homes.proofs.Places.{at_get}
+use Rattle.jn_homes.proofs.Housing.{undeclared_here, declared_here}
+use Rattle.jn_homes.proofs.homes.inner_at.Goals as goal
 
 pub returns-in-None : goal.returns-in-None
 returns-in-None c =

@@ -15,8 +15,8 @@ use Rattle.jn_base.specs.declared.tree.Member.TheVariants as member
 use Rattle.jn_base.specs.declared.tree.Member.TheVariants.{outs-Inner, outs-Slot, outs-Body}
 use Rattle.jn_base.specs.Paths.{Path, StandsAt, Declared, nested, and_nested}
 use Rattle.jn_base.proofs.NameTests.{in_cons, in_none, first}
-use Rattle.jn_header.specs.Homes.{Finds, OnWay}
-use Rattle.jn_header.proofs.TwiceSteps.{at_index}
+use Rattle.jn_homes.specs.Homes.{Finds, OnWay}
+use Rattle.jn_homes.proofs.Places.{at_index}
 use Rattle.jn_base.specs.Members.{IsHome}
 use Rattle.jn_base.specs.Duplicates.{duplicates}
 use Rattle.jn_base.proofs.Unique.{one_decl}

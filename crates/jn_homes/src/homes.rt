@@ -1,10 +1,8 @@
-//! Homes: where a path of the universe stands in the text, and the declaration at a declared path.
-
 ghost use Rattle.std.specs.Prelude.{◌≡◌, [], ◌∷◌, reverse, option_copied};
 ghost use Rattle.jn_base.specs.Paths.{nested};
 ghost use Rattle.jn_base.specs.Duplicates.{duplicates};
 ghost use Rattle.jn_base.specs.Members.{IsHome};
-ghost use Rattle.jn_header.specs.Homes.{Finds, HomeIs, DeclIs, OnWay};
+ghost use Rattle.jn_homes.specs.Homes.{Finds, HomeIs, DeclIs, OnWay};
 
 use jn_base::path::Path;
 use jn_base::tree::{Decl, Member, Name, Place, Program};
@@ -12,10 +10,9 @@ use jn_base::tree::{Decl, Member, Name, Place, Program};
 /// The home of a path: the place of the name in the declaration of its longest declared front. A path
 /// whose first name isn't declared has none.
 ///
-/// No name stands twice in the program, so that a path has one declaration at most.
+/// It is told of a program in which no name stands twice, so that a path has one declaration at most.
 pub fn home_of(p: &Program, path: &Path) -> Option<Place>
-    requires { duplicates p.now ≡ [] }
-    ensures { HomeIs p.now (reverse path.now.names) result }
+    ensures { duplicates p.now ≡ [] → HomeIs p.now (reverse path.now.names) result }
 {
     match path.names.as_slice() {
         [] => None,
@@ -28,9 +25,8 @@ pub fn home_of(p: &Program, path: &Path) -> Option<Place>
 
 /// From the declaration of a front of the path by the names that are left, as far as they are declared.
 fn go_down(p: &Program, path: &Path, top: &Decl, left: &[Name]) -> Place
-    requires once { duplicates p.now ≡ [] }
-    requires way { OnWay p.now (reverse path.now.names) top.now left.now }
-    ensures { IsHome p.now (reverse path.now.names) result }
+    requires { OnWay p.now (reverse path.now.names) top.now left.now }
+    ensures { duplicates p.now ≡ [] → IsHome p.now (reverse path.now.names) result }
 {
     let mut decl = top;
     for name in left {

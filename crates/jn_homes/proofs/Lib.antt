@@ -1,0 +1,2 @@
+pub mod Housing
+pub mod Places
