@@ -26,8 +26,8 @@ use Rattle.jn_table.proofs.Shown.{classes_at, number_path, shown_one}
 use Rattle.jn_table.proofs.Sorted.{in_order}
 use Rattle.jn_bounds.proofs.Known.{numbered_known}
 use Rattle.jn_bounds.proofs.Turned.{turned_same}
-use Rattle.jn_sem.specs.Sets.{Views, AnchorSeen, eval, Inside, InAtom, InAtoms}
-use Rattle.jn_sem.specs.Slots.{no_views, this_viewed}
+use Rattle.jn_sem.specs.Sets.{Views, no_views, AnchorSeen, eval, Inside, InAtom, InAtoms}
+use Rattle.jn_sem.specs.Slots.{this_viewed}
 use Rattle.jn_share.specs.Atoms.{HasNames, ViewsBy, FrontIs, InEach}
 
 -- ---- names of three lists

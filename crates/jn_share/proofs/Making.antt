@@ -29,6 +29,7 @@ use Rattle.jn_share.specs.declared.rows.GroupRow.{GroupRow}
 use Rattle.jn_share.specs.declared.rows.Partner.{Partner}
 use Rattle.jn_share.specs.Groups.{HasGroup, HaveOneGroup, HasCounterpart, IsCounterpart, AreGroups, GroupsGive, RefusedOr}
 use Rattle.jn_share.specs.Listing.{PassesOr}
+use Rattle.jn_share.specs.Homes.{HomesTo}
 use Rattle.jn_share.specs.Pairing.{IsAt, ArePairs}
 use Rattle.jn_share.specs.Rows.{LinkFirsts, IsGroupRow, GroupRowsTo}
 use Rattle.jn_share.proofs.PairsFound.{same_number}
@@ -95,8 +96,8 @@ module _ (p : Program) (t : Table) (f : IsFilled p t) where
   -- ---- the rows
 
   pub are_groups : (firsts : List ℕ) (groups : Groups) → ((a : ℕ) → slice_index firsts a ≤ a) → LinkFirsts p t.known.items firsts → GroupRowsTo p t.known.items firsts (length t.known.items) groups.rows.items
-      → AreGroups p t.known.items groups
-  are_groups firsts groups lowest link rows = record { whole = f.whole.whole; low = low; related = related; counterparts = counterparts } where
+      → HomesTo p t.known.items (length t.known.items) groups.homes.items → AreGroups p t.known.items groups
+  are_groups firsts groups lowest link rows homes = record { whole = f.whole.whole; low = low; related = related; counterparts = counterparts; homes = homes } where
     Row : ClassId → Path → Type 0
     Row a A = (row : GroupRow) × (slice_get groups.rows.items a.0 ≡ Some row) × IsGroupRow p t.known.items firsts a.0 A row
 

@@ -21,10 +21,10 @@ use Rattle.jn_share.proofs.PairsFound.{same_number, same_path}
 
 -- ---- the first that is like a class
 
-module _ (p : Program) (known : List ShownPath) (Same : Path → Path → Type 0) (among : List ℕ) (V : Path) where
-  -- none of the first n is alike
+module _ (p : Program) (known : List ShownPath) (among : List ℕ) (N : Path → Type 0) where
+  -- N holds of the classes of the first n numbers
   abbrev pub UnlikeTo : ℕ → Type 0
-  UnlikeTo n = (k : ℕ) (X : Path) → k < n → IsAt known (get_or among k 0) X → IsClass p X → NotAlike p Same X V
+  UnlikeTo n = (k : ℕ) (X : Path) → k < n → IsAt known (get_or among k 0) X → IsClass p X → N X
 
   at_zero : (k j : ℕ) → k < length among → get_or among k j ≡ j → get_or among k 0 ≡ j
   at_zero k j l e = reread among k l ∙ e where
@@ -35,34 +35,34 @@ module _ (p : Program) (known : List ShownPath) (Same : Path → Path → Type 0
 
   -- where the number at i isn't below r, each number of the list below r was passed
   pub passed_all : IsStrictlyIncreasing among → (i r : ℕ) → i < length among → r ≤ get_or among i 0 → UnlikeTo i → (j : ℕ) (X : Path) → Contains among j → j < r
-      → IsAt known j X → IsClass p X → NotAlike p Same X V
+      → IsAt known j X → IsClass p X → N X
   passed_all up i r l m none j X c b at k = by_place (cases_lt c.0 i) where
     here : get_or among c.0 0 ≡ j
     here = at_zero c.0 j c.1 c.2
 
-    by_place : (c.0 < i) ⊎ (i ≤ c.0) → NotAlike p Same X V
+    by_place : (c.0 < i) ⊎ (i ≤ c.0) → N X
     by_place (inl before) = none c.0 X before (subst (λ (n : ℕ). IsAt known n X) (sym here) at) k
     by_place (inr past) = by_order (cases_lt i c.0) where
-      by_order : (i < c.0) ⊎ (c.0 ≤ i) → NotAlike p Same X V
+      by_order : (i < c.0) ⊎ (c.0 ≤ i) → N X
       by_order (inl later) = absurd (omega (arith, AllPairs-from_increasing among up i c.0 0 later c.1, here, m, b))
       by_order (inr same) =
           let e : c.0 ≡ i = omega arith in
           absurd (omega (arith, ap (λ (n : ℕ). get_or among n 0) e, here, m, b))
 
-  pub passed_end : (i r : ℕ) → length among ≤ i → UnlikeTo i → (j : ℕ) (X : Path) → Contains among j → j < r → IsAt known j X → IsClass p X → NotAlike p Same X V
+  pub passed_end : (i r : ℕ) → length among ≤ i → UnlikeTo i → (j : ℕ) (X : Path) → Contains among j → j < r → IsAt known j X → IsClass p X → N X
   passed_end i r past none j X c b at k =
       none c.0 X (omega (arith, c.1, past)) (subst (λ (n : ℕ). IsAt known n X) (sym (at_zero c.0 j c.1 c.2)) at) k
 
-  pub unlike_more : (i : ℕ) → ((X : Path) → IsAt known (get_or among i 0) X → IsClass p X → NotAlike p Same X V) → UnlikeTo i → UnlikeTo (i + 1)
+  pub unlike_more : (i : ℕ) → ((X : Path) → IsAt known (get_or among i 0) X → IsClass p X → N X) → UnlikeTo i → UnlikeTo (i + 1)
   unlike_more i h none k X l at c = by_place (cases_lt k i) where
-    by_place : (k < i) ⊎ (i ≤ k) → NotAlike p Same X V
+    by_place : (k < i) ⊎ (i ≤ k) → N X
     by_place (inl b) = none k X b at c
     by_place (inr b) =
         let q : k ≡ i = omega arith in
         h X (subst (λ (n : ℕ). IsAt known (get_or among n 0) X) q at) c
 
-  pub itself_like : (v : ℕ) → IsAt known v V → IsClass p V → IsLike p known Same v V
-  itself_like v at c = record { path = V; at = at; class = c; like = inl refl }
+pub itself_like : (p : Program) (known : List ShownPath) (Same : Path → Path → Type 0) (V : Path) (v : ℕ) → IsAt known v V → IsClass p V → IsLike p known Same v V
+itself_like p known Same V v at c = record { path = V; at = at; class = c; like = inl refl }
 
 -- ---- a step keeps together what nothing may tell apart
 

@@ -11,8 +11,8 @@ use Rattle.jn_table.specs.declared.class.ClassId.{ClassId}
 use Rattle.jn_table.specs.declared.table.Table.{Table}
 use Rattle.jn_table.specs.Rows.{IsNumber}
 use Rattle.jn_table.specs.Tables.{IsFilled}
-use Rattle.jn_sem.specs.Sets.{Views, AnchorSeen, eval, InAtoms}
-use Rattle.jn_sem.specs.Slots.{no_views, this_viewed}
+use Rattle.jn_sem.specs.Sets.{Views, no_views, AnchorSeen, eval, InAtoms}
+use Rattle.jn_sem.specs.Slots.{this_viewed}
 
 -- the path of the number has these names, the outermost first
 abbrev pub HasNames : List ShownPath → List Name → ClassId → Type 0

@@ -1,5 +1,5 @@
 -- Of which program groups are, and what their calls say.
-use Rattle.std.specs.Prelude.{◌≡◌, ◌↔◌, ◌<◌, ◌≤◌, ℕ, List, [], ◌∷◌, Contains, Option, Some, None, slice_get, Bool, IsTrue, Result, Ok, Err}
+use Rattle.std.specs.Prelude.{◌≡◌, ◌↔◌, ◌<◌, ◌≤◌, ℕ, List, [], ◌∷◌, length, Contains, Option, Some, None, slice_get, Bool, IsTrue, Result, Ok, Err}
 use Rattle.jn_base.specs.declared.tree.Name.{Name}
 use Rattle.jn_base.specs.declared.tree.Program.{Program}
 use Rattle.jn_base.specs.declared.path.Path.{Path as ShownPath}
@@ -14,6 +14,7 @@ use Rattle.jn_share.specs.declared.fault.ShareFault.{ShareFault}
 use Rattle.jn_share.specs.declared.fault.ShareFault.TheVariants.{Refused, Memory}
 use Rattle.jn_share.specs.declared.rows.GroupRow.{GroupRow}
 use Rattle.jn_share.specs.declared.groups.Groups.{Groups}
+use Rattle.jn_share.specs.Homes.{HomesTo}
 
 -- the row of the number has this group, by its first number
 pub record HasGroup (rows : List GroupRow) (id : ClassId) (group : ℕ) : Type 0 where
@@ -46,6 +47,7 @@ pub record AreGroups (p : Program) (known : List ShownPath) (groups : Groups) : 
   pub related : (a b : ClassId) (A B : Path) → IsNumber known a A → IsNumber known b B → HaveOneGroup groups.rows.items a b ↔ Related p A B
   pub counterparts : (a family class : ClassId) (A : Path) → IsNumber known a A
       → HasCounterpart groups.rows.items a family class ↔ IsCounterpart p known A family class
+  pub homes : HomesTo p known (length known) groups.homes.items
 
 -- the first n numbers have the first number of their group
 abbrev pub StartsOf : List GroupRow → List ℕ → ℕ → Type 0

@@ -1,7 +1,13 @@
 pub mod Atoms
+pub mod Counting
+pub mod Declaring
+pub mod Firsts
 pub mod Groups
+pub mod Homes
+pub mod Keys
 pub mod Limits
 pub mod Listing
+pub mod Members
 pub mod Pairing
 pub mod Parting
 pub mod Parts

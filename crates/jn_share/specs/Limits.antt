@@ -7,6 +7,7 @@ use Rattle.jn_base.specs.declared.refusal.Limit.{Limit}
 use Rattle.jn_base.specs.declared.refusal.Limit.TheVariants as limit
 use Rattle.jn_base.specs.declared.refusal.Refusal.{Refusal}
 use Rattle.jn_base.specs.declared.refusal.Rule.TheVariants as rule
+use Rattle.jn_base.specs.Limits.{greatest}
 use Rattle.jn_base.specs.Paths.{Path}
 use Rattle.jn_base.specs.Supers.{Member}
 use Rattle.jn_base.specs.Universe.{InUniverse}
@@ -32,6 +33,13 @@ pub data IsEntry (p : Program) : Entry → Type 0 where
   field : (R : Path) (f : Name) → InUniverse p R → HasField p R f → IsEntry p (of_field R f)
   counterpart : (R S : Path) → Related p R S → (R ≡ S → ⊥) → IsEntry p (of_counterpart R S)
 
+-- the path to which an entry belongs
+abbrev pub path_of : Entry → Path
+path_of (of_member R C) = R
+path_of (of_method R m) = R
+path_of (of_field R f) = R
+path_of (of_counterpart R S) = R
+
 -- more than n different things are so
 pub record MoreThan {A : Type 0} (n : ℕ) (Is : A → Type 0) : Type 0 where
   pub list : List A
@@ -39,19 +47,13 @@ pub record MoreThan {A : Type 0} (n : ℕ) (Is : A → Type 0) : Type 0 where
   pub once : (i j : ℕ) (a : A) → slice_get list i ≡ Some a → slice_get list j ≡ Some a → i ≡ j
   pub more : n < length list
 
-abbrev pub MOST_ENTRIES : ℕ
-MOST_ENTRIES = 1048576
-
-abbrev pub MOST_SLOTS : ℕ
-MOST_SLOTS = 250
-
 abbrev pub TooManyEntries : Program → Type 0
-TooManyEntries p = MoreThan MOST_ENTRIES (IsEntry p)
+TooManyEntries p = MoreThan (greatest limit.Entries) (IsEntry p)
 
 -- a class whose group has too many slots
 pub record TooManySlots (p : Program) (V : Path) : Type 0 where
   pub class : IsClass p V
-  pub more : MoreThan MOST_SLOTS (SlotOfGroup p V)
+  pub more : MoreThan (greatest limit.Slots) (SlotOfGroup p V)
 
 abbrev pub over_limit : Limit → Place → Refusal
 over_limit l at = record { rule = rule.E04; at = at; class = None; member = None; limit = Some l }

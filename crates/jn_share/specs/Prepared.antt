@@ -15,9 +15,10 @@ use Rattle.jn_table.specs.declared.field_types.FieldTy.{FieldTy}
 use Rattle.jn_table.specs.declared.field_types.FieldTypes.{FieldTypes}
 use Rattle.jn_table.specs.declared.table.Table.{Table}
 use Rattle.jn_table.specs.Rows.{IsNumber, IsRow}
+use Rattle.jn_table.specs.Tables.{IsFilled}
 use Rattle.jn_sem.specs.Sharing.{family_of}
 use Rattle.jn_share.specs.Pairing.{IsAt}
-use Rattle.jn_share.specs.Slots.{IsTyped, SlotsAsked}
+use Rattle.jn_share.specs.Slots.{IsTyped, AreFieldTypes, SlotsAsked}
 use Rattle.jn_share.specs.declared.groups.Groups.{Groups}
 use Rattle.jn_share.specs.declared.prepared.Prepared.{Prepared}
 
@@ -29,10 +30,6 @@ FamilyAt known families k V X = (n : ℕ) × (slice_get families k ≡ Some n) �
 
 abbrev pub FamiliesTo : List ShownPath → ℕ → List ℕ → Type 0
 FamiliesTo known m families = (k : ℕ) (V : Path) (X : Name) → k < m → IsAt known k V → family_of V ≡ Some X → FamilyAt known families k V X
-
--- the numbers of each family
-abbrev pub InFamily : Graph → ℕ → ℕ → Type 0
-InFamily classes n k = HasEdge classes n k
 
 -- ---- declarations
 
@@ -61,3 +58,12 @@ pub record IsPrepared (p : Program) (t : Table) (types : List FieldTy) (all : Pr
 -- of each program that asks for slots, and of which this is prepared, T holds
 abbrev pub SaysAsked : Table → Groups → FieldTypes → Prepared → (Program → Type 0) → Type 0
 SaysAsked t g types all T = (p : Program) → SlotsAsked p t g types → IsPrepared p t types.list.items all → T p
+
+-- the numbers are those of the declarations of the fields of the number's class
+abbrev pub DeclsRight : Table → List FieldTy → ℕ → List ℕ → Type 0
+DeclsRight t types k decls = (p : Program) (V : Path) (row : Row) → IsFilled p t → AreFieldTypes p t.known.items types → IsAt t.known.items k V
+    → IsRow p t.known.items V row → AreDecls p t.known.items types V row.fields.items decls
+
+-- the first n rows are
+abbrev pub DeclsTo : Table → List FieldTy → ℕ → List (Vec ℕ Global) → Type 0
+DeclsTo t types n rows = (k : ℕ) → k < n → (row : Vec ℕ Global) × (slice_get rows k ≡ Some row) × DeclsRight t types k row.items

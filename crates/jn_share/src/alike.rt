@@ -12,8 +12,8 @@ ghost use Rattle.jn_share.specs.Parts.{IsThis, OfThis, EntryFor, SaysTwo, DeclsO
 use crate::groups::Groups;
 use crate::parting::covers;
 use crate::prepared::Prepared;
+use jn_base::compare::same_names;
 use jn_base::types::{Anchor, Atom, Ty};
-use jn_bounds::same;
 use jn_table::{ClassId, FieldTy, FieldTypes, Table};
 use sqlite_items::at;
 
@@ -150,7 +150,7 @@ fn same_fields(
 }
 
 /// The numbers of the declarations of the fields of the number, none where there are none.
-fn decls_of(all: &Prepared, v: ClassId) -> &[usize]
+pub fn decls_of(all: &Prepared, v: ClassId) -> &[usize]
     ensures { DeclsGiven all.now.decls.items v.0 result.now }
 {
     match at(&all.decls, v.0 as usize) {
@@ -174,7 +174,7 @@ pub fn alike(
     ensures yes { IsTrue result → SaysTwo t.now g.now types.now all.now v w (λ p V W. Alike p (SamePart t.now.known.items parts.now) V W) }
     ensures no { result ≡ false → SaysTwo t.now g.now types.now all.now v w (λ p V W. NotAlike p (SamePart t.now.known.items parts.now) V W) }
 {
-    if !same(&t.row(v).fields, &t.row(w).fields) {
+    if !same_names(&t.row(v).fields, &t.row(w).fields) {
         return false;
     }
     let dvs = decls_of(all, v);

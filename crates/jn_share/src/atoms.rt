@@ -10,9 +10,9 @@ ghost use Rattle.jn_sem.specs.Sets.{Inside, InAtom, InAtoms, InType};
 ghost use Rattle.jn_sem.specs.Sharing.{IsClass};
 ghost use Rattle.jn_share.specs.Atoms.{HasNames, FrontTold, SaysAt, SaysOf, InEach};
 
+use jn_base::compare::same_names;
 use jn_base::tree::{Kind, Name};
 use jn_base::types::{Anchor, Atom, Ty};
-use jn_bounds::same;
 use jn_table::{ClassId, Table};
 use sqlite_items::at;
 
@@ -24,7 +24,7 @@ fn after<'a>(names: &'a [Name], first: &[Name]) -> Option<&'a [Name]>
     if names.len() < first.len() {
         return None;
     }
-    if !same(&names[..first.len()], first) {
+    if !same_names(&names[..first.len()], first) {
         return None;
     }
     Some(&names[first.len()..])
@@ -38,7 +38,7 @@ fn is_joined(names: &[Name], a: &[Name], b: &[Name], c: &[Name]) -> bool
         None => false,
         Some(rest) => match after(rest, b) {
             None => false,
-            Some(last) => same(last, c),
+            Some(last) => same_names(last, c),
         },
     }
 }

@@ -13,10 +13,11 @@ ghost use Rattle.jn_share.specs.Rows.{LinkFirsts};
 
 use crate::families::check;
 use crate::fault::ShareFault;
+use crate::homes::homes_of;
 use crate::listed::{ListedName, listed_names};
 use crate::pairs::pairs_of;
 use crate::rows::{GroupRow, Partner, rows_of};
-use jn_base::tree::Program;
+use jn_base::tree::{Place, Program};
 use jn_reach::class_firsts;
 use jn_table::{ClassId, Table};
 use sqlite_items::at;
@@ -26,6 +27,8 @@ use std::alloc::{AllocError, Global};
 #[derive(Drop)]
 pub struct Groups {
     rows: Vec<GroupRow>,
+    /// The home of each number.
+    homes: Vec<Option<Place>>,
 }
 
 /// The group of the number, where it has one.
@@ -81,13 +84,19 @@ fn firsts_of(alloc: Global, t: &Table, pairs: &[(usize, usize)]) -> Result<Vec<u
 }
 
 /// The groups of the listed names.
-fn groups_of(alloc: Global, t: &Table, names: &[ListedName]) -> Result<Groups, AllocError>
-    ensures { IfOk result (λ groups. (p : Program) → IsFilled p t.now → map listed_of names.now ≡ listed_names p → AreGroups p t.now.known.items groups) }
+fn groups_of(
+    alloc: Global,
+    p: &Program,
+    t: &Table,
+    names: &[ListedName],
+) -> Result<Groups, AllocError>
+    ensures { IfOk result (λ groups. IsFilled p.now t.now → map listed_of names.now ≡ listed_names p.now → AreGroups p.now t.now.known.items groups) }
 {
+    let homes = homes_of(alloc, p, t)?;
     let pairs = pairs_of(alloc, t, names)?;
     let firsts = firsts_of(alloc, t, &pairs)?;
     let rows = rows_of(alloc, t, &firsts)?;
-    Ok(Groups { rows })
+    Ok(Groups { rows, homes })
 }
 
 /// The first number of the group of the row, which is that of the number; the number itself where there is none.
@@ -113,7 +122,7 @@ impl Groups {
         match check(alloc, t, &names) {
             Err(fault) => Err(fault),
             Ok(()) => {
-                let groups = groups_of(alloc, t, &names)?;
+                let groups = groups_of(alloc, p, t, &names)?;
                 Ok(groups)
             }
         }

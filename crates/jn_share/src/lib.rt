@@ -13,10 +13,17 @@
 
 mod alike;
 mod atoms;
+mod declaring;
+mod entries;
 mod families;
 mod fault;
+mod field_first;
+mod firsts;
 mod groups;
+mod homes;
+mod keys;
 mod listed;
+mod members;
 mod pairs;
 mod parting;
 mod paths;

@@ -1,4 +1,11 @@
+ghost use Rattle.std.specs.Prelude.{◌≡◌, IfSome};
+ghost use Rattle.jn_base.specs.declared.refusal.Refusal.{Refusal};
+ghost use Rattle.jn_base.specs.declared.tree.Program.{Program};
+ghost use Rattle.jn_share.specs.Slots.{AreSlots};
+
 use jn_base::tree::Name;
+use jn_table::ClassId;
+use sqlite_items::at;
 
 /// The slot of a field.
 #[derive(Clone, Copy, Debug, PartialEq, Eq)]

@@ -1,5 +1,6 @@
 use Rattle.std.proofs.Common.{get_or, refl, inr, ◌≤◌, arith}
-use Rattle.jn_share.specs.Parting.{SamePart}
+use Rattle.jn_share.specs.Parting.{SamePart, NotAlike}
+use Rattle.jn_base.specs.Paths.{Path}
 use Rattle.jn_share.proofs.Covers.{path_there}
 use Rattle.jn_share.proofs.Steps.{passed_all, passed_end, unlike_more, itself_like}
 use Rattle.jn_share.proofs.refining.first_like.Goals as goal
@@ -8,8 +9,8 @@ pub returns-then-r-v-clause-is : goal.returns-then-r-v-clause-is
 returns-then-r-v-clause-is c = λ p V asked ready at k.
     let known = c.args.t.now.known.items in
     record {
-      is = itself_like p known (SamePart known c.args.parts.now) c.args.among.now V c.args.v at k;
-      first = passed_all p known (SamePart known c.args.parts.now) c.args.among.now V c.requires c.loop-r.r-index c.args.v c.loop-r-test.true c.if-r-v.true
+      is = itself_like p known (SamePart known c.args.parts.now) V c.args.v at k;
+      first = passed_all p known c.args.among.now (λ (X : Path). NotAlike p (SamePart known c.args.parts.now) X V) c.requires c.loop-r.r-index c.args.v c.loop-r-test.true c.if-r-v.true
           (c.loop-r.invariant p V asked ready at k);
     }
 
@@ -22,20 +23,20 @@ returns-then-is_like-clause-is c = λ p V asked ready at k.
     let le : r ≤ r = omega arith in
     record {
       is = record { path = R.0; at = R.1; class = a.0; like = inr a.1 };
-      first = passed_all p known (SamePart known c.args.parts.now) c.args.among.now V c.requires c.loop-r.r-index r c.loop-r-test.true le
+      first = passed_all p known c.args.among.now (λ (X : Path). NotAlike p (SamePart known c.args.parts.now) X V) c.requires c.loop-r.r-index r c.loop-r-test.true le
           (c.loop-r.invariant p V asked ready at k);
     }
 
 pub loop-r-preserved : goal.loop-r-preserved
 loop-r-preserved c = λ p V asked ready at k.
     let known = c.args.t.now.known.items in
-    unlike_more p known (SamePart known c.args.parts.now) c.args.among.now V c.loop-r.r-index
+    unlike_more p known c.args.among.now (λ (X : Path). NotAlike p (SamePart known c.args.parts.now) X V) c.loop-r.r-index
     (λ X x d. c.is_like.ensures.no c.if-is_like.false p V asked ready at k X x d) (c.loop-r.invariant p V asked ready at k)
 
 pub returns-clause-is : goal.returns-clause-is
 returns-clause-is c = λ p V asked ready at k.
     let known = c.args.t.now.known.items in
     record {
-      is = itself_like p known (SamePart known c.args.parts.now) c.args.among.now V c.args.v at k;
-      first = passed_end p known (SamePart known c.args.parts.now) c.args.among.now V c.loop-r.r-index c.args.v c.loop-r-test.false (c.loop-r.invariant p V asked ready at k);
+      is = itself_like p known (SamePart known c.args.parts.now) V c.args.v at k;
+      first = passed_end p known c.args.among.now (λ (X : Path). NotAlike p (SamePart known c.args.parts.now) X V) c.loop-r.r-index c.args.v c.loop-r-test.false (c.loop-r.invariant p V asked ready at k);
     }

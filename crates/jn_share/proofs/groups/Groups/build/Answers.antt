@@ -15,7 +15,7 @@ returns-in-Err-clause-refused c = λ f r w.
 pub returns-clause-gives : goal.returns-clause-gives
 returns-clause-gives c = λ f. (
   c.in-Ok.ensures c.args.p.now f (ap (map listed_of) c.deref.ensures.value ∙ c.in_ok-names.ensures),
-  c.in_ok-groups-in-Ok.ensures c.args.p.now f (ap (map listed_of) c.deref-in-Ok.ensures.value ∙ c.in_ok-names.ensures),
+  c.in_ok-groups-in-Ok.ensures f (ap (map listed_of) c.deref-in-Ok.ensures.value ∙ c.in_ok-names.ensures),
 )
 
 pub returns-clause-refused : goal.returns-clause-refused
