@@ -349,6 +349,7 @@ module _ (p : Program) (t : Table) (g : Groups) (types : FieldTypes) (asked : Sl
     slots_of id V a c = record {
       fields = λ f. (has_slot id.0 V w r f, λ h. let x = field_of id.0 V w r f h.1.0 h.1.1 in (w.are_fields.has f).1 (x.field, at_in w.row.items x.i x.field x.field_at, x.named));
       once = λ f m n x y. let e = same_entry id.0 V w r f x.0 y.0 x.1 y.1 in sym x.2 ∙ (ap (λ (z : FieldSlot). z.slot) e ∙ y.2);
+      entry = λ f d e x y. same_entry id.0 V w r f d e x y;
       below = λ f n size x y.
           let k = number_of id.0 V a c w f n x in
           let l = slice_get_within w.slots.items n (key k.first f) k.key_at in

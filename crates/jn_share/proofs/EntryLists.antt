@@ -42,7 +42,7 @@ count_sum m n a b (inr e) (inr h) = let x = e.0 in let y = e.1 in inr (omega ari
 
 -- ---- lists without doubles
 
-place : {A : Type 0} (xs : List A) (x : A) (c : Contains xs x) → slice_get xs c.0 ≡ Some x
+pub place : {A : Type 0} (xs : List A) (x : A) (c : Contains xs x) → slice_get xs c.0 ≡ Some x
 place xs x c = slice_get_read xs (length xs) c.0 x refl c.1 (sym c.2)
 
 map_at : {A B : Type 0} (f : A → B) (xs : List A) (i : ℕ) (y : B) → slice_get (map f xs) i ≡ Some y → (x : A) × (slice_get xs i ≡ Some x) × (f x ≡ y)

@@ -4,6 +4,8 @@ pub mod EntryLists
 pub mod EntryRows
 pub mod Numbered
 pub mod Exact
+pub mod Built
+pub mod Fewer
 pub mod FieldEntries
 pub mod FieldLists
 pub mod FirstSlots
@@ -24,6 +26,7 @@ pub mod Reading
 pub mod Refusing
 pub mod Relating
 pub mod SameFields
+pub mod SlotsTold
 pub mod Steps
 pub mod Walk
 pub mod Diffs

@@ -92,8 +92,8 @@ SlotRowsTo t keys starts rows n out = (k : ℕ) → k < n → (row : SlotRow) ×
 
 -- whether V, whose number is k, is a class whose group has more than 250 keys
 abbrev pub SaysOver : Table → List (Vec FieldKey Global) → List ℕ → ℕ → Bool → Type 0
-SaysOver t keys starts k told = (p : Program) (V : Path) (ks : List FieldKey) → IsFilled p t → IsAt t.known.items k V → KeysAt keys starts k ks
-    → IsTrue told ↔ (IsClass p V × (250 < length ks))
+SaysOver t keys starts k told = (p : Program) (V : Path) → IsFilled p t → IsAt t.known.items k V → (IsTrue told → IsClass p V)
+    × ((ks : List FieldKey) → KeysAt keys starts k ks → IsTrue told ↔ (IsClass p V × (250 < length ks)))
 
 -- none of the first n numbers is
 abbrev pub NoneOverTo : Table → List (Vec FieldKey Global) → List ℕ → ℕ → Type 0

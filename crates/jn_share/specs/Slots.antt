@@ -99,6 +99,7 @@ pub record AreSlotsOf (p : Program) (known : List ShownPath) (s : Slots) (id : C
   -- each of its fields has one slot number, and nothing else has one
   pub fields : (f : Name) → HasField p V f ↔ ((n : ℕ) × HasSlot s id f n)
   pub once : (f : Name) (m n : ℕ) → HasSlot s id f m → HasSlot s id f n → m ≡ n
+  pub entry : (f : Name) (d e : FieldSlot) → HasEntry s.rows.items id f d → HasEntry s.rows.items id f e → d ≡ e
   -- numbers are below the size less 1, and each of these is used
   pub below : (f : Name) (n size : ℕ) → HasSlot s id f n → HasSize s id size → suc n < size
   pub used : (n size : ℕ) → HasSize s id size → suc n < size → UsesSlot p known s V n
@@ -132,6 +133,16 @@ SlotsRefusedOr r (Err (Refused q)) = q ≡ r
 SlotsRefusedOr r (Err Memory) = Unit {0}
 
 -- ---- what the calls say
+
+-- the entry of the field, none where the row has none
+abbrev pub FindsEntry : List FieldSlot → Name → Option FieldSlot → Type 0
+FindsEntry entries f (Some e) = Contains entries e × (e.field ≡ f)
+FindsEntry entries f None = (e : FieldSlot) → Contains entries e → e.field ≡ f → ⊥
+
+-- the entry of the field of the number, none where it has none
+abbrev pub EntryTold : List SlotRow → ClassId → Name → Option FieldSlot → Type 0
+EntryTold rows id f (Some e) = HasEntry rows id f e
+EntryTold rows id f None = (e : FieldSlot) → HasEntry rows id f e → ⊥
 
 -- the slot number of the field, none where there is no such field
 abbrev pub SlotTold : Slots → ClassId → Name → Option ℕ → Type 0

@@ -111,6 +111,7 @@ fn start_of(row: &GroupRow, k: usize) -> usize
 }
 
 impl Groups {
+    ghost use Rattle.jn_base.specs.declared.tree.Place.{Place as APlace};
     ghost use Rattle.jn_share.specs.Groups.{SaysRelated, SaysCounterpart, GroupsGive, RefusedOr};
 
     /// The groups of a program by a table in which its universe is filled, or the refusal of the first listed name that is refused.
@@ -146,6 +147,16 @@ impl Groups {
         ensures { SaysCounterpart self.now a family result }
     {
         counterpart(&self.rows, a, family)
+    }
+
+    /// The home of a number; the start of the file where it has none.
+    pub fn home(&self, k: usize) -> Place
+        ensures { (at : APlace) → slice_get self.now.homes.items k ≡ Some (Some at) → result ≡ at }
+    {
+        match at(&self.homes, k) {
+            Some(Some(home)) => *home,
+            _ => Place { line: 1, column: 1 },
+        }
     }
 
     /// For each number the first one of its group; the number itself where it has none.
