@@ -1,8 +1,8 @@
 -- The slot numbers of all classes are right.
-use Rattle.std.proofs.Common.{◌≡◌, ◌<◌, ◌≤◌, ◌+◌, ◌↔◌, ◌⊎◌, inl, inr, ℕ, zero, suc, List, [], ◌∷◌, length, Contains, Some, None, Option, slice_get, get_or, Bool, true, refl, sym, ap, ◌∙◌, subst, arith}
+use Rattle.std.proofs.Common.{◌≡◌, ◌<◌, ◌≤◌, ◌↔◌, ◌⊎◌, inl, inr, ℕ, zero, suc, List, [], ◌∷◌, length, Contains, Some, slice_get, refl, sym, ap, ◌∙◌, subst, arith}
 use Rattle.std.specs.declared.vec.Vec.{Vec}
 use Rattle.std.specs.declared.alloc.Global.{Global}
-use Rattle.std.proofs.lemmas.Option.{slice_get_read, slice_get_within, slice_get-get_or}
+use Rattle.std.proofs.lemmas.Option.{slice_get_read, slice_get_within}
 use Rattle.jn_reach.specs.Each.{Each, none, more}
 use Rattle.jn_reach.proofs.Eachs.{Each-at, Each-back, Each-length}
 use Rattle.jn_reach.proofs.Searches.{same_some}
@@ -11,7 +11,7 @@ use Rattle.jn_base.specs.declared.tree.Kind.{Kind}
 use Rattle.jn_base.specs.declared.tree.Kind.TheVariants as kind
 use Rattle.jn_base.specs.declared.tree.Program.{Program}
 use Rattle.jn_base.specs.Paths.{Path}
-use Rattle.jn_base.specs.ClassOrder.{class_cmp, Before, IsFirst}
+use Rattle.jn_base.specs.ClassOrder.{class_cmp, IsFirst}
 use Rattle.jn_table.specs.declared.class.ClassId.{ClassId}
 use Rattle.jn_table.specs.declared.class.Row.{Row}
 use Rattle.jn_table.specs.declared.field_types.FieldTypes.{FieldTypes}
@@ -19,7 +19,7 @@ use Rattle.jn_table.specs.declared.table.Table.{Table}
 use Rattle.jn_table.specs.Rows.{IsNumber, IsRow}
 use Rattle.jn_table.proofs.Shown.{place_of_number}
 use Rattle.jn_table.proofs.Sorted.{in_order}
-use Rattle.jn_bounds.proofs.Known.{numbered_known}
+use Rattle.jn_share.proofs.Numbered.{numbered_known}
 use Rattle.jn_sem.specs.Values.{HasField}
 use Rattle.jn_sem.specs.Sharing.{IsClass, Related}
 use Rattle.jn_sem.specs.Slots.{OneSlot, FieldHangs, Slot, IsSlot, SlotOfGroup, IsSize}
@@ -34,7 +34,7 @@ use Rattle.jn_share.specs.declared.slots.FieldSlot.{FieldSlot}
 use Rattle.jn_share.specs.declared.slots.SlotRow.{SlotRow}
 use Rattle.jn_share.specs.declared.slots.Slots.{Slots}
 use Rattle.jn_share.specs.Firsts.{IsFirstSlot, AreFieldFirsts, FirstsTo}
-use Rattle.jn_share.specs.Keys.{key, IsOnce, OnceEach, IsOwnKey, IsKeyOf, AreKeys, SlotFor, SlotRowFor, KeysFor, KeysAt, FieldsAt, SlotRowsTo}
+use Rattle.jn_share.specs.Keys.{key, IsOnce, OnceEach, IsKeyOf, AreKeys, SlotFor, SlotRowFor, KeysFor, KeysAt, FieldsAt, SlotRowsTo}
 use Rattle.jn_share.specs.Members.{AreGroupMembers}
 use Rattle.jn_share.specs.Pairing.{IsAt}
 use Rattle.jn_share.specs.Slots.{SlotsAsked, HasEntry, HasSlot, HasSize, IsHanging, HaveOneSlot, UsesSlot, AreSlotsOf, AreSlots}

@@ -1,10 +1,9 @@
 -- The limits are checked, and what is built is right.
-use Rattle.std.proofs.Common.{◌≡◌, ◌<◌, ◌≤◌, ◌↔◌, ◌⊎◌, inl, inr, ℕ, suc, List, [], length, Contains, Some, None, Option, slice_get, Bool, true, false, IsTrue, refl, sym, ap, ◌∙◌, subst, arith, Result, Ok, Err}
+use Rattle.std.proofs.Common.{◌≡◌, ◌<◌, ◌≤◌, ◌↔◌, ◌⊎◌, inl, inr, ℕ, suc, List, [], length, Contains, Some, None, Option, slice_get, true, false, IsTrue, refl, sym, ap, ◌∙◌, subst, arith, Result, Ok, Err}
 use Rattle.std.specs.declared.vec.Vec.{Vec}
 use Rattle.std.specs.declared.alloc.Global.{Global}
 use Rattle.std.proofs.lemmas.Bool.{cases_lt}
 use Rattle.std.proofs.lemmas.Option.{slice_get_within}
-use Rattle.jn_reach.proofs.Searches.{same_some}
 use Rattle.jn_base.specs.declared.tree.Place.{Place}
 use Rattle.jn_base.specs.declared.tree.Program.{Program}
 use Rattle.jn_base.specs.declared.refusal.Limit.TheVariants as limit
@@ -28,7 +27,6 @@ use Rattle.jn_table.proofs.Sorted.{in_order}
 use Rattle.jn_table.proofs.Shown.{numbers_before}
 use Rattle.jn_homes.specs.Homes.{HomeIs}
 use Rattle.jn_sem.specs.Sharing.{IsClass}
-use Rattle.jn_sem.specs.Slots.{SlotOfGroup}
 use Rattle.jn_share.specs.declared.fault.ShareFault.{ShareFault}
 use Rattle.jn_share.specs.declared.fault.ShareFault.TheVariants.{Refused, Memory}
 use Rattle.jn_share.specs.declared.field_first.FieldFirst.{FieldFirst}
@@ -38,17 +36,14 @@ use Rattle.jn_share.specs.declared.members.GroupMembers.{GroupMembers}
 use Rattle.jn_share.specs.declared.slots.Slots.{Slots}
 use Rattle.jn_share.specs.Counting.{CountIs, Counts, IsEntryTo}
 use Rattle.jn_share.specs.Firsts.{FirstsTo}
-use Rattle.jn_share.specs.Groups.{AreGroups}
 use Rattle.jn_share.specs.Keys.{KeysFor, SaysOver, NoneOverTo, SlotRowsTo}
-use Rattle.jn_share.specs.Limits.{Entry, IsEntry, member, method, field, counterpart, path_of, MoreThan, TooManyEntries, TooManySlots, LimitRefused, entries, slots, LimitsPass, over_limit, start_of_file}
+use Rattle.jn_share.specs.Limits.{Entry, IsEntry, member, method, field, counterpart, path_of, TooManyEntries, TooManySlots, LimitRefused, entries, slots, LimitsPass, over_limit}
 use Rattle.jn_share.specs.Listing.{IsFault}
 use Rattle.jn_share.specs.Members.{AreGroupMembers}
 use Rattle.jn_share.specs.Pairing.{IsAt}
 use Rattle.jn_share.specs.Slots.{SlotsAsked, SlotsGive, SlotsRefusedOr, AreSlots}
 use Rattle.jn_share.proofs.Assembled.{ClassAt, class_at, keys_of_class, size_is, are_slots}
-use Rattle.jn_share.proofs.Covers.{path_there}
 use Rattle.jn_share.proofs.Fewer.{no_longer}
-use Rattle.jn_share.proofs.PairsFound.{same_path}
 
 -- ---- entries
 

@@ -1,26 +1,24 @@
 -- The types of fields at two views, class by class.
-use Rattle.std.proofs.Common.{◌≡◌, ◌<◌, ◌≤◌, ◌+◌, ◌↔◌, ◌⊎◌, inl, inr, ℕ, zero, suc, List, [], ◌∷◌, length, get_or, map, Contains, Some, None, Option, slice_get, Bool, IsTrue, true, false, refl, sym, ap, ◌∙◌, subst, arith}
+use Rattle.std.proofs.Common.{◌≡◌, ◌<◌, ◌≤◌, ◌+◌, ◌↔◌, ◌⊎◌, inl, inr, ℕ, zero, suc, List, [], ◌∷◌, length, get_or, map, Some, None, slice_get, Bool, IsTrue, true, false, refl, sym, ap, ◌∙◌, subst, arith}
 use Rattle.std.proofs.lemmas.Bool.{cases_lt}
 use Rattle.std.proofs.lemmas.Option.{slice_get_read, slice_get_within}
-use Rattle.jn_reach.proofs.Searches.{iff_true, iff_false, not_when, same_some}
+use Rattle.jn_reach.proofs.Searches.{iff_false, not_when, same_some}
 use Rattle.jn_base.specs.declared.tree.Name.{Name}
 use Rattle.jn_base.specs.declared.tree.Program.{Program}
 use Rattle.jn_base.specs.declared.path.Path.{Path as ShownPath}
 use Rattle.jn_base.specs.declared.types.Ty.{Ty}
 use Rattle.jn_base.specs.Paths.{Path, shown}
-use Rattle.jn_base.specs.ClassOrder.{class_cmp}
 use Rattle.jn_table.specs.declared.class.ClassId.{ClassId}
 use Rattle.jn_table.specs.declared.table.Table.{Table}
 use Rattle.jn_table.specs.Rows.{IsNumber}
 use Rattle.jn_table.specs.Tables.{IsFilled}
-use Rattle.jn_table.proofs.Shown.{number_path, shown_at}
 use Rattle.jn_sem.specs.Sets.{InType}
 use Rattle.jn_sem.specs.Sharing.{IsClass, family_of, Counterpart}
 use Rattle.jn_sem.specs.Slots.{this_viewed, ClassAt, MatchAt}
 use Rattle.jn_share.specs.declared.groups.Groups.{Groups}
 use Rattle.jn_share.specs.Groups.{AreGroups, CounterpartIs}
 use Rattle.jn_share.specs.Pairing.{IsAt}
-use Rattle.jn_share.specs.Parting.{SamePart, Covers, Uncovered}
+use Rattle.jn_share.specs.Parting.{SamePart, Uncovered}
 use Rattle.jn_share.specs.Parts.{HavePart, HasTwin, CoversOf}
 use Rattle.jn_share.proofs.PairsFound.{same_number}
 

@@ -1,5 +1,5 @@
 -- Telling classes apart step by step finds Diff.
-use Rattle.std.proofs.Common.{◌≡◌, ◌↔◌, ◌⊎◌, inl, inr, Some, refl, sym, ap, ◌∙◌, subst}
+use Rattle.std.proofs.Common.{◌≡◌, ◌↔◌, ◌⊎◌, inl, inr, sym, ap, ◌∙◌, subst}
 use Rattle.jn_reach.specs.Derived.{Derived, seed, rule}
 use Rattle.jn_reach.proofs.Searches.{same_some}
 use Rattle.jn_base.specs.declared.tree.Name.{Name}
@@ -8,7 +8,7 @@ use Rattle.jn_base.specs.declared.types.Ty.{Ty}
 use Rattle.jn_base.specs.Paths.{Path}
 use Rattle.jn_base.specs.Members.{FieldDecls}
 use Rattle.jn_sem.specs.Values.{HasField}
-use Rattle.jn_sem.specs.Sharing.{IsClass, family_of, in_family, Related, Counterpart, HangsOnThis}
+use Rattle.jn_sem.specs.Sharing.{IsClass, family_of, in_family, Related, HangsOnThis}
 use Rattle.jn_sem.specs.Slots.{ClassAt, MatchAt, Compared, compared, BothHave, BothHang, IsApart, only_one, only_other, MakesTwo, declared_apart, unmatched, unmatched_back, fields_apart, MakesTwoBy, Diff, OneSlot}
 use Rattle.jn_sem.specs.LawsOfSlots.{FieldsPass}
 use Rattle.jn_sem.proofs.SharedLaws.{sharing_laws}

@@ -1,32 +1,25 @@
 -- The entries of a program, counted.
-use Rattle.std.proofs.Common.{◌≡◌, ◌<◌, ◌≤◌, ◌+◌, ◌↔◌, ◌⊎◌, inl, inr, ℕ, zero, suc, List, [], ◌∷◌, ◌++◌, length, map, Contains, Some, None, Option, slice_get, get_or, Bool, IsTrue, true, false, refl, sym, ap, ◌∙◌, subst, arith}
-use Rattle.std.specs.List.Sorted.{IsStrictlyIncreasing, IsStrictlySortedBy}
+use Rattle.std.proofs.Common.{◌≡◌, ◌<◌, ◌≤◌, ◌+◌, ◌↔◌, ◌⊎◌, inl, inr, ℕ, zero, suc, List, [], ◌∷◌, ◌++◌, length, map, Contains, Some, slice_get, get_or, refl, sym, ap, ◌∙◌, subst, arith}
+use Rattle.std.specs.List.Sorted.{IsStrictlyIncreasing}
 use Rattle.std.proofs.lemmas.Bool.{cases_lt}
 use Rattle.std.proofs.lemmas.List.{length-append, length-map}
 use Rattle.std.proofs.lemmas.List.Elements.{Contains-append_left, Contains-append_right, Contains-append_cases}
 use Rattle.std.proofs.lemmas.List.Kept.{AllPairs-from_increasing}
 use Rattle.std.proofs.lemmas.Option.{slice_get_read, slice_get_within, slice_get-get_or}
-use Rattle.jn_reach.specs.Each.{Each}
-use Rattle.jn_reach.proofs.Eachs.{Each-length}
 use Rattle.jn_reach.proofs.Searches.{same_some}
 use Rattle.jn_base.specs.declared.tree.Name.{Name}
 use Rattle.jn_base.specs.declared.tree.Program.{Program}
 use Rattle.jn_base.specs.declared.path.Path.{Path as ShownPath}
 use Rattle.jn_base.specs.Paths.{Path}
-use Rattle.jn_base.specs.Supers.{Member}
-use Rattle.jn_base.specs.Universe.{InUniverse}
 use Rattle.jn_base.specs.ClassOrder.{name_cmp}
-use Rattle.jn_base.proofs.NameTests.{in_cons, in_none, first, later}
-use Rattle.jn_table.specs.declared.class.Row.{Row}
+use Rattle.jn_base.proofs.NameTests.{in_cons, in_none, first}
 use Rattle.jn_table.specs.declared.table.Table.{Table}
-use Rattle.jn_table.specs.Rows.{IsRow, IsMember, AreNames, HasMethod}
+use Rattle.jn_table.specs.Rows.{AreNames}
 use Rattle.jn_table.specs.Tables.{IsFilled}
 use Rattle.jn_table.proofs.Sorted.{in_order, one_place}
-use Rattle.jn_sem.specs.Values.{HasField}
-use Rattle.jn_sem.specs.Sharing.{IsClass, Related}
-use Rattle.jn_share.specs.Counting.{CountIs, Counts, IsEntryOf, IsEntryTo, AmongOthers}
+use Rattle.jn_sem.specs.Sharing.{IsClass}
+use Rattle.jn_share.specs.Counting.{CountIs, Counts, AmongOthers}
 use Rattle.jn_share.specs.Keys.{IsOnce}
-use Rattle.jn_share.specs.Limits.{Entry, of_member, of_method, of_field, of_counterpart, IsEntry, member, method, field, counterpart, path_of, MoreThan}
 use Rattle.jn_share.specs.Pairing.{IsAt}
 use Rattle.jn_share.proofs.FieldRows.{less_itself}
 use Rattle.jn_share.proofs.KeyLists.{at_in, once_joined, once_none}

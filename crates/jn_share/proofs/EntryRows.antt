@@ -1,6 +1,5 @@
 -- The entries of a path are those of its row, and of its group where it is a class.
-use Rattle.std.proofs.Common.{◌≡◌, ◌<◌, ◌≤◌, ◌+◌, ◌↔◌, ◌⊎◌, inl, inr, ℕ, zero, suc, List, [], ◌∷◌, length, Contains, Some, None, Option, slice_get, refl, sym, ap, ◌∙◌, subst, arith}
-use Rattle.std.proofs.lemmas.Option.{slice_get_within}
+use Rattle.std.proofs.Common.{◌≡◌, ◌<◌, ◌≤◌, ◌+◌, ◌⊎◌, inl, inr, ℕ, List, [], length, Contains, refl, sym, ap, ◌∙◌, subst, arith}
 use Rattle.std.proofs.lemmas.Bool.{cases_lt}
 use Rattle.jn_reach.proofs.Eachs.{Each-length}
 use Rattle.jn_base.specs.declared.tree.Name.{Name}
@@ -10,12 +9,10 @@ use Rattle.jn_base.specs.Paths.{Path}
 use Rattle.jn_base.specs.Supers.{Member}
 use Rattle.jn_base.specs.Universe.{InUniverse}
 use Rattle.jn_table.specs.declared.class.Row.{Row}
-use Rattle.jn_table.specs.declared.class.ClassId.{ClassId}
 use Rattle.jn_table.specs.declared.table.Table.{Table}
 use Rattle.jn_table.specs.Rows.{IsRow, IsMember, HasMethod}
 use Rattle.jn_table.specs.Rows as rows
 use Rattle.jn_table.specs.Tables.{IsFilled}
-use Rattle.jn_sem.specs.Values.{HasField}
 use Rattle.jn_sem.specs.Sharing.{IsClass, Related}
 use Rattle.jn_sem.proofs.SharedLaws.{sharing_laws}
 use Rattle.jn_share.specs.declared.groups.Groups.{Groups}
@@ -26,7 +23,7 @@ use Rattle.jn_share.specs.Groups.{AreGroups}
 use Rattle.jn_share.specs.Limits.{Entry, of_member, of_method, of_field, of_counterpart, IsEntry, member, method, field, counterpart, path_of}
 use Rattle.jn_share.specs.Members.{AreGroupMembers, MembersAre}
 use Rattle.jn_share.specs.Pairing.{IsAt}
-use Rattle.jn_share.proofs.EntryLists.{count_sum, counts_joined, counts_same, counts_map, counts_names}
+use Rattle.jn_share.proofs.EntryLists.{counts_joined, counts_same, counts_map, counts_names}
 use Rattle.jn_base.proofs.NameTests.{in_none}
 use Rattle.jn_share.proofs.KeyLists.{once_none}
 use Rattle.jn_share.proofs.Grouped.{members_related}

@@ -1,5 +1,5 @@
 -- A list without doubles whose elements all stand in another one is no longer.
-use Rattle.std.proofs.Common.{◌≡◌, ◌<◌, ◌≤◌, ◌⊎◌, inl, inr, ℕ, zero, suc, List, [], ◌∷◌, length, Contains, Some, slice_get, refl, sym, ap, ◌∙◌, subst, arith}
+use Rattle.std.proofs.Common.{◌≡◌, ◌≤◌, ◌⊎◌, inl, inr, suc, List, [], ◌∷◌, length, Contains, refl, sym, ap, ◌∙◌, subst, arith}
 use Rattle.jn_base.proofs.NameTests.{in_cons, in_none, first, later}
 use Rattle.jn_share.specs.Keys.{IsOnce}
 use Rattle.jn_share.proofs.EntryLists.{place}

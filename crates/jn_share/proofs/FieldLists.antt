@@ -1,8 +1,5 @@
 -- The fields of two classes, place by place.
-use Rattle.std.proofs.Common.{◌≡◌, ◌<◌, ◌≤◌, ◌+◌, ◌↔◌, ◌⊎◌, inl, inr, ℕ, zero, suc, List, [], ◌∷◌, length, Contains, Some, None, Option, slice_get, get_or, Bool, IsTrue, true, false, refl, sym, ap, ◌∙◌, subst, arith}
-use Rattle.std.specs.declared.vec.Vec.{Vec}
-use Rattle.std.specs.declared.alloc.Global.{Global}
-use Rattle.std.specs.List.Sorted.{IsStrictlySortedBy}
+use Rattle.std.proofs.Common.{◌≡◌, ◌<◌, ◌≤◌, ◌+◌, ◌↔◌, ◌⊎◌, inl, inr, ℕ, zero, suc, List, [], ◌∷◌, length, Contains, Some, slice_get, get_or, Bool, IsTrue, true, false, refl, sym, ap, ◌∙◌, subst, arith}
 use Rattle.std.proofs.lemmas.Bool.{cases_lt}
 use Rattle.std.proofs.lemmas.Option.{slice_get_read, slice_get_within}
 use Rattle.jn_reach.specs.Each.{Each}
@@ -12,7 +9,7 @@ use Rattle.jn_base.specs.declared.tree.Name.{Name}
 use Rattle.jn_base.specs.declared.tree.Program.{Program}
 use Rattle.jn_base.specs.declared.path.Path.{Path as ShownPath}
 use Rattle.jn_base.specs.Paths.{Path}
-use Rattle.jn_base.specs.ClassOrder.{name_cmp, name_total}
+use Rattle.jn_base.specs.ClassOrder.{name_total}
 use Rattle.jn_base.specs.Atoms.{Among}
 use Rattle.jn_base.specs.Duplicates.{has_name}
 use Rattle.jn_base.proofs.NameTests.{has_from, has_in}
@@ -24,7 +21,7 @@ use Rattle.jn_sem.specs.Values.{HasField}
 use Rattle.jn_sem.specs.Slots.{IsApart, only_one, only_other}
 use Rattle.jn_sem.proofs.FindingLaws.{among_of, contains_of}
 use Rattle.jn_sem.proofs.NormalTypes.{sorted_once}
-use Rattle.jn_share.specs.Parting.{SameField, Alike, NotAlike, by_apart}
+use Rattle.jn_share.specs.Parting.{SameField}
 use Rattle.jn_share.specs.declared.prepared.Prepared.{Prepared}
 use Rattle.jn_share.specs.Pairing.{IsAt}
 use Rattle.jn_share.specs.Parts.{DeclsGiven}

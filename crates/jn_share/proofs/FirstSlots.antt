@@ -1,13 +1,11 @@
 -- The first class that has a field in one slot with a class.
-use Rattle.std.proofs.Common.{◌≡◌, ◌<◌, ◌≤◌, ◌+◌, ◌↔◌, ◌⊎◌, inl, inr, ℕ, zero, suc, List, [], ◌∷◌, length, Contains, Some, None, Option, slice_get, get_or, Bool, IsTrue, true, false, refl, sym, ap, ◌∙◌, subst, arith}
-use Rattle.std.proofs.lemmas.Option.{slice_get_read, slice_get_within, slice_get-get_or}
+use Rattle.std.proofs.Common.{◌≡◌, ◌<◌, inl, inr, ℕ, zero, suc, List, [], ◌∷◌, length, Contains, Some, None, Option, slice_get, get_or, refl, sym, ap, ◌∙◌, subst, arith}
+use Rattle.std.proofs.lemmas.Option.{slice_get-get_or}
 use Rattle.jn_reach.proofs.Eachs.{Each-at}
-use Rattle.jn_reach.proofs.Searches.{not_when, same_some}
 use Rattle.jn_base.specs.declared.tree.Name.{Name}
 use Rattle.jn_base.specs.declared.tree.Program.{Program}
-use Rattle.jn_base.specs.declared.path.Path.{Path as ShownPath}
 use Rattle.jn_base.specs.Paths.{Path}
-use Rattle.jn_base.specs.ClassOrder.{class_cmp, Before, IsFirst}
+use Rattle.jn_base.specs.ClassOrder.{class_cmp, Before}
 use Rattle.jn_table.specs.declared.class.ClassId.{ClassId}
 use Rattle.jn_table.specs.declared.class.Row.{Row}
 use Rattle.jn_table.specs.declared.field_types.FieldTypes.{FieldTypes}
@@ -17,21 +15,19 @@ use Rattle.jn_table.specs.Tables.{IsFilled}
 use Rattle.jn_table.proofs.Shown.{numbers_before}
 use Rattle.jn_table.proofs.Sorted.{in_order}
 use Rattle.jn_sem.specs.Values.{HasField}
-use Rattle.jn_sem.specs.Sharing.{IsClass, Related}
+use Rattle.jn_sem.specs.Sharing.{IsClass}
 use Rattle.jn_sem.specs.Slots.{OneSlot}
 use Rattle.jn_sem.specs.LawsOfSlots.{FieldsPass}
-use Rattle.jn_sem.proofs.SharedLaws.{sharing_laws}
 use Rattle.jn_sem.proofs.SlotLaws.{slot_laws}
 use Rattle.jn_share.specs.declared.prepared.Prepared.{Prepared}
 use Rattle.jn_share.specs.Firsts.{PlaceIs, DeclOf, HasOther, AreRelated, IsFirstSlot}
 use Rattle.jn_share.specs.Pairing.{IsAt}
-use Rattle.jn_share.specs.Parting.{SamePart, SameField, OtherField}
+use Rattle.jn_share.specs.Parting.{SamePart, SameField}
 use Rattle.jn_share.specs.Parts.{DeclsGiven}
-use Rattle.jn_share.specs.Prepared.{IsDecl, AreDecls, IsPrepared}
+use Rattle.jn_share.specs.Prepared.{IsDecl, IsPrepared}
 use Rattle.jn_share.specs.Refining.{AreSettled}
 use Rattle.jn_share.proofs.Diffs.{other_not, one_slot}
 use Rattle.jn_share.proofs.FieldLists.{field_in, ready_decls}
-use Rattle.jn_share.proofs.PairsFound.{same_path}
 use Rattle.jn_share.proofs.Steps.{same_joined, same_turned}
 
 -- ---- declarations by name

@@ -1,5 +1,5 @@
 -- The numbers of a group are those of the related classes.
-use Rattle.std.proofs.Common.{◌≡◌, ◌<◌, ◌≤◌, ◌+◌, ◌↔◌, ◌⊎◌, inl, inr, ℕ, zero, suc, List, [], ◌∷◌, ◌++◌, length, Contains, Some, None, Option, slice_get, refl, sym, ap, ◌∙◌, subst, arith}
+use Rattle.std.proofs.Common.{◌≡◌, ◌<◌, ◌≤◌, ◌+◌, ◌⊎◌, inl, inr, ℕ, zero, suc, List, [], ◌∷◌, ◌++◌, length, Contains, Some, slice_get, refl, sym, ap, ◌∙◌, subst, arith}
 use Rattle.std.specs.declared.vec.Vec.{Vec}
 use Rattle.std.specs.declared.alloc.Global.{Global}
 use Rattle.std.specs.List.Sorted.{IsStrictlyIncreasing}
@@ -9,18 +9,16 @@ use Rattle.jn_reach.specs.Graph.{Graph}
 use Rattle.jn_reach.specs.Pairs.{AreMembers}
 use Rattle.jn_reach.proofs.Searches.{same_some}
 use Rattle.jn_base.specs.declared.tree.Program.{Program}
-use Rattle.jn_base.specs.declared.path.Path.{Path as ShownPath}
 use Rattle.jn_base.specs.Paths.{Path}
 use Rattle.jn_table.specs.declared.class.ClassId.{ClassId}
 use Rattle.jn_table.specs.declared.table.Table.{Table}
-use Rattle.jn_table.specs.Tables.{IsFilled}
 use Rattle.jn_sem.specs.Sharing.{IsClass, Related}
 use Rattle.jn_sem.proofs.SharedLaws.{sharing_laws}
 use Rattle.jn_share.specs.declared.field_first.FieldFirst.{FieldFirst}
 use Rattle.jn_share.specs.declared.groups.Groups.{Groups}
 use Rattle.jn_share.specs.declared.members.GroupMembers.{GroupMembers}
 use Rattle.jn_share.specs.Firsts.{AreRelated, AreFieldFirsts, FirstsTo}
-use Rattle.jn_share.specs.Groups.{HasGroup, HaveOneGroup, AreGroups}
+use Rattle.jn_share.specs.Groups.{HasGroup, AreGroups}
 use Rattle.jn_share.specs.Members.{AreGroupMembers, MembersAre}
 use Rattle.jn_share.specs.Pairing.{IsAt}
 

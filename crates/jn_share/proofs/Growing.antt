@@ -1,5 +1,5 @@
 -- Parts grow from step to step, so that the steps end.
-use Rattle.std.proofs.Common.{◌≡◌, ◌<◌, ◌≤◌, ◌+◌, ◌-◌, ◌↔◌, ◌⊎◌, inl, inr, ℕ, zero, suc, List, [], ◌∷◌, ◌++◌, length, Contains, Some, None, Option, slice_get, get_or, take, refl, sym, ap, ◌∙◌, subst, arith}
+use Rattle.std.proofs.Common.{◌≡◌, ◌<◌, ◌≤◌, ◌+◌, ◌⊎◌, inl, inr, ℕ, zero, suc, List, [], ◌∷◌, ◌++◌, length, Contains, Some, None, slice_get, get_or, refl, sym, ap, ◌∙◌, subst, arith}
 use Rattle.std.specs.declared.vec.Vec.{Vec}
 use Rattle.std.specs.declared.alloc.Global.{Global}
 use Rattle.std.specs.List.Sorted.{IsStrictlyIncreasing}
@@ -23,7 +23,6 @@ use Rattle.jn_share.specs.declared.rows.GroupRow.{GroupRow}
 use Rattle.jn_share.specs.Groups.{AreGroups, StartsOf}
 use Rattle.jn_share.specs.Parting.{SamePart, KeepsOne}
 use Rattle.jn_share.specs.Refining.{AreLow, Grows, IsFirstLike, Refines, RefinesTo, slack_from}
-use Rattle.jn_share.proofs.Covers.{within_known}
 
 -- ---- the numbers of one part
 

@@ -1,19 +1,16 @@
 -- Classes in atoms, by the names of their paths.
-use Rattle.std.proofs.Common.{◌≡◌, ◌<◌, ◌≤◌, ◌-◌, ◌+◌, ◌↔◌, ℕ, zero, suc, List, [], ◌∷◌, ◌++◌, length, reverse, drop, map, slice_get, Some, None, Option, Contains, Bool, IsTrue, true, false, refl, sym, ap, ◌∙◌, subst, arith, append_assoc, ◌⊎◌, inl, inr, get_or}
+use Rattle.std.proofs.Common.{◌≡◌, ◌<◌, ◌≤◌, ◌+◌, ◌↔◌, ℕ, zero, suc, List, [], ◌∷◌, ◌++◌, length, reverse, drop, map, slice_get, Some, None, Contains, Bool, IsTrue, true, false, refl, sym, ap, ◌∙◌, subst, arith, append_assoc, ◌⊎◌, inl, inr, get_or}
 use Rattle.std.specs.List.{Any}
-use Rattle.std.proofs.lemmas.List.{append_cancel_left, append-nil, reverse-append, reverse-reverse, length-reverse, length-append}
+use Rattle.std.proofs.lemmas.List.{append_cancel_left, append-nil, reverse-append, reverse-reverse, length-reverse}
 use Rattle.std.proofs.lemmas.Bool.{cases_lt}
 use Rattle.std.proofs.lemmas.Option.{slice_get_read, slice_get_within}
-use Rattle.jn_reach.proofs.Searches.{iff_true, iff_false, not_when, same_some, none_all, NoneBefore}
+use Rattle.jn_reach.proofs.Searches.{iff_false, not_when, same_some}
 use Rattle.jn_base.specs.declared.tree.Name.{Name}
 use Rattle.jn_base.specs.declared.tree.Program.{Program}
 use Rattle.jn_base.specs.declared.path.Path.{Path as ShownPath}
-use Rattle.jn_base.specs.declared.types.Anchor.{Anchor}
-use Rattle.jn_base.specs.declared.types.Anchor.TheVariants.{Root, Up}
 use Rattle.jn_base.specs.declared.types.Atom.{Atom as ShownAtom}
-use Rattle.jn_base.specs.Paths.{Path, shown}
+use Rattle.jn_base.specs.Paths.{Path}
 use Rattle.jn_base.specs.Supers.{Sup}
-use Rattle.jn_base.specs.Universe.{InUniverse}
 use Rattle.jn_base.specs.Atoms.{Atom, atom_of, Among, first, later}
 use Rattle.jn_base.specs.ClassOrder.{class_cmp}
 use Rattle.jn_base.proofs.Reaching.{sup_in_universe}
@@ -22,13 +19,12 @@ use Rattle.jn_table.specs.declared.class.Row.{Row}
 use Rattle.jn_table.specs.declared.table.Table.{Table}
 use Rattle.jn_table.specs.Rows.{IsNumber, IsRow}
 use Rattle.jn_table.specs.Tables.{IsFilled}
-use Rattle.jn_table.proofs.Shown.{classes_at, number_path, shown_one}
+use Rattle.jn_table.proofs.Shown.{classes_at, number_path}
 use Rattle.jn_table.proofs.Sorted.{in_order}
-use Rattle.jn_bounds.proofs.Known.{numbered_known}
-use Rattle.jn_bounds.proofs.Turned.{turned_same}
-use Rattle.jn_sem.specs.Sets.{Views, no_views, AnchorSeen, eval, Inside, InAtom, InAtoms}
-use Rattle.jn_sem.specs.Slots.{this_viewed}
-use Rattle.jn_share.specs.Atoms.{HasNames, ViewsBy, FrontIs, InEach}
+use Rattle.jn_share.proofs.Numbered.{numbered_known}
+use Rattle.jn_share.proofs.Turned.{turned_same}
+use Rattle.jn_sem.specs.Sets.{Views, eval, Inside, InAtom}
+use Rattle.jn_share.specs.Atoms.{HasNames, FrontIs, InEach}
 
 -- ---- names of three lists
 

@@ -1,5 +1,5 @@
 -- The rows of slots, one after the other.
-use Rattle.std.proofs.Common.{◌≡◌, ◌<◌, ◌≤◌, ◌+◌, ◌↔◌, ◌⊎◌, inl, inr, ℕ, zero, suc, List, [], ◌∷◌, ◌++◌, length, Contains, Some, None, Option, slice_get, get_or, take, Bool, IsTrue, true, false, refl, sym, ap, ◌∙◌, subst, arith}
+use Rattle.std.proofs.Common.{◌≡◌, ◌<◌, ◌≤◌, ◌+◌, ◌↔◌, ◌⊎◌, inl, inr, ℕ, zero, suc, List, [], ◌∷◌, ◌++◌, length, Some, slice_get, get_or, take, Bool, IsTrue, true, false, refl, sym, ap, ◌∙◌, subst, arith}
 use Rattle.std.specs.Prelude.{nat_lt}
 use Rattle.std.specs.declared.vec.Vec.{Vec}
 use Rattle.std.specs.declared.alloc.Global.{Global}
@@ -10,7 +10,6 @@ use Rattle.jn_reach.specs.Each.{Each}
 use Rattle.jn_reach.specs.Graph.{Graph}
 use Rattle.jn_reach.proofs.Eachs.{Each-more}
 use Rattle.jn_reach.specs.Pairs.{AreMembers}
-use Rattle.jn_reach.proofs.Searches.{not_when}
 use Rattle.jn_table.specs.declared.table.Table.{Table}
 use Rattle.jn_share.specs.declared.field_first.FieldFirst.{FieldFirst}
 use Rattle.jn_share.specs.declared.keys.FieldKey.{FieldKey}

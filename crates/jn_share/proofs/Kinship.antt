@@ -1,5 +1,5 @@
 -- Families by their numbers; a class in a type that hangs on `this` is in the family of `this`.
-use Rattle.std.proofs.Common.{◌≡◌, ◌<◌, ◌≤◌, ℕ, zero, suc, List, [], ◌∷◌, ◌++◌, length, drop, Contains, Some, None, Option, slice_get, refl, sym, ap, ◌∙◌, subst, arith}
+use Rattle.std.proofs.Common.{◌≡◌, ◌<◌, ◌≤◌, ℕ, zero, suc, List, [], ◌∷◌, ◌++◌, length, drop, Contains, Some, None, slice_get, refl, sym, ap, ◌∙◌, subst, arith}
 use Rattle.std.specs.declared.vec.Vec.{Vec}
 use Rattle.std.specs.declared.alloc.Global.{Global}
 use Rattle.jn_reach.specs.Graph.{HasEdge}
@@ -23,8 +23,8 @@ use Rattle.jn_sem.specs.LawsOfSlots.{FieldsPass}
 use Rattle.jn_share.specs.declared.groups.Groups.{Groups}
 use Rattle.jn_share.specs.declared.prepared.Prepared.{Prepared}
 use Rattle.jn_share.specs.Pairing.{IsAt}
-use Rattle.jn_share.specs.Parting.{SamePart, Covers, Uncovered}
-use Rattle.jn_share.specs.Parts.{HangsIn, HasTwin, CoversOf}
+use Rattle.jn_share.specs.Parting.{SamePart, Covers}
+use Rattle.jn_share.specs.Parts.{HangsIn, CoversOf}
 use Rattle.jn_share.specs.Prepared.{IsPrepared}
 use Rattle.jn_share.specs.Slots.{SlotsAsked}
 use Rattle.jn_share.proofs.Covers.{no_such}

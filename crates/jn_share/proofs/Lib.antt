@@ -30,3 +30,4 @@ pub mod SlotsTold
 pub mod Steps
 pub mod Walk
 pub mod Diffs
+pub mod Turned

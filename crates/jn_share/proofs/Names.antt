@@ -6,7 +6,7 @@ use Rattle.jn_base.specs.declared.path.Path.{Path as ShownPath}
 use Rattle.jn_base.specs.Paths.{Path, shown}
 use Rattle.jn_reach.proofs.Searches.{same_some}
 use Rattle.jn_sem.specs.Sharing.{family_of, in_family}
-use Rattle.jn_bounds.proofs.Turned.{turned_first, turned_same}
+use Rattle.jn_share.proofs.Turned.{turned_first, turned_same}
 use Rattle.jn_share.specs.Pairing.{HaveOneFamily, AreInner, IsAt}
 
 pub last_family : (Q : Path) (X : Name) → family_of (Q ++ X ∷ []) ≡ Some X

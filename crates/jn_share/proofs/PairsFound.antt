@@ -19,7 +19,7 @@ use Rattle.jn_table.specs.Rows.{IsNumber}
 use Rattle.jn_table.specs.Tables.{IsFilled}
 use Rattle.jn_table.proofs.Shown.{path_number, number_path}
 use Rattle.jn_table.proofs.Sorted.{in_order}
-use Rattle.jn_bounds.proofs.Known.{kind_known}
+use Rattle.jn_share.proofs.Numbered.{kind_known}
 use Rattle.jn_sem.specs.Sharing.{IsClass, in_family}
 use Rattle.jn_sem.specs.NotFamily.{Listed}
 use Rattle.jn_reach.specs.Pairs.{IsPair, AreBelow}

@@ -1,23 +1,19 @@
 -- What is prepared is right.
-use Rattle.std.proofs.Common.{◌≡◌, ◌<◌, ◌≤◌, ◌+◌, ◌↔◌, ◌⊎◌, inl, inr, ℕ, zero, suc, List, [], ◌∷◌, ◌++◌, length, Contains, Some, None, Option, slice_get, get_or, refl, sym, ap, ◌∙◌, subst, arith}
-use Rattle.std.specs.List.{Any}
-use Rattle.std.specs.List.Sorted.{IsStrictlySortedBy}
+use Rattle.std.proofs.Common.{◌≡◌, ◌<◌, ◌≤◌, ◌+◌, ◌↔◌, ◌⊎◌, inl, inr, ℕ, zero, suc, List, [], ◌∷◌, ◌++◌, length, Contains, Some, None, Option, slice_get, refl, sym, ap, ◌∙◌, subst, arith}
 use Rattle.std.specs.declared.vec.Vec.{Vec}
 use Rattle.std.specs.declared.alloc.Global.{Global}
 use Rattle.std.proofs.lemmas.Bool.{cases_lt}
 use Rattle.std.proofs.lemmas.Option.{slice_get_read, slice_get_within}
 use Rattle.jn_reach.specs.Each.{Each, none, more}
-use Rattle.jn_reach.specs.Graph.{Graph, HasEdge, Lists}
+use Rattle.jn_reach.specs.Graph.{Graph, HasEdge}
 use Rattle.jn_reach.specs.Pairs.{AreMembers}
 use Rattle.jn_reach.proofs.Searches.{same_some}
 use Rattle.jn_base.specs.declared.tree.Name.{Name}
 use Rattle.jn_base.specs.declared.tree.Program.{Program}
 use Rattle.jn_base.specs.declared.path.Path.{Path as ShownPath}
 use Rattle.jn_base.specs.Paths.{Path, shown}
-use Rattle.jn_base.specs.ClassOrder.{class_cmp, name_cmp, name_total}
+use Rattle.jn_base.specs.ClassOrder.{class_cmp, name_total}
 use Rattle.jn_base.specs.Supers.{Sup}
-use Rattle.jn_base.specs.Atoms.{Among}
-use Rattle.jn_base.proofs.Reaching.{sup_in_universe}
 use Rattle.jn_table.specs.declared.class.ClassId.{ClassId}
 use Rattle.jn_table.specs.declared.class.Row.{Row}
 use Rattle.jn_table.specs.declared.field_types.FieldTy.{FieldTy}
@@ -25,19 +21,17 @@ use Rattle.jn_table.specs.declared.table.Table.{Table}
 use Rattle.jn_table.specs.Rows.{IsNumber, IsRow, IsUp, top, under}
 use Rattle.jn_table.specs.Tables.{IsFilled}
 use Rattle.jn_table.proofs.Before.{before_longer}
-use Rattle.jn_table.proofs.Shown.{classes_at, numbers_before, number_path, same_id}
+use Rattle.jn_table.proofs.Shown.{classes_at, numbers_before, same_id}
 use Rattle.jn_table.proofs.Sorted.{in_order}
 use Rattle.jn_sem.specs.Sharing.{family_of}
-use Rattle.jn_sem.specs.Values.{HasField}
 use Rattle.jn_sem.proofs.FindingLaws.{among_of, contains_of}
 use Rattle.jn_sem.proofs.NormalTypes.{sorted_once}
-use Rattle.jn_share.specs.Declaring.{StandsAtClass, AreOwn, OwnAmong, Wide, Noted, UnderName}
+use Rattle.jn_share.specs.Declaring.{AreOwn, OwnAmong, Noted, UnderName}
 use Rattle.jn_share.specs.Pairing.{IsAt}
-use Rattle.jn_share.specs.Prepared.{FamilyAt, FamiliesTo, IsDecl, AreDecls, DeclsRight, DeclsTo}
+use Rattle.jn_share.specs.Prepared.{FamilyAt, FamiliesTo, IsDecl, DeclsRight, DeclsTo}
 use Rattle.jn_share.specs.Refining.{AreLow}
-use Rattle.jn_share.specs.Slots.{IsTyped, IsTypeOf, AreFieldTypes}
+use Rattle.jn_share.specs.Slots.{IsTyped}
 use Rattle.jn_share.proofs.FieldLists.{in_field}
-use Rattle.jn_share.proofs.PairsFound.{one_number, same_path}
 
 -- ---- families
 

@@ -11,8 +11,8 @@ use Rattle.jn_base.specs.Members.{HasKind}
 use Rattle.jn_base.specs.Universe.{InUniverse}
 use Rattle.jn_base.proofs.FoundTwice.{mapped}
 use Rattle.jn_base.proofs.NameTests.{in_cons, in_none}
-use Rattle.jn_bounds.proofs.Known.{kind_known}
-use Rattle.jn_bounds.proofs.Turned.{at_index}
+use Rattle.jn_share.proofs.Numbered.{kind_known}
+use Rattle.jn_share.proofs.Turned.{at_index}
 use Rattle.jn_sem.specs.Sharing.{IsClass, family_of, in_family}
 use Rattle.jn_sem.specs.NotFamily.{sharing, Listed, IsStrictSuper, Lacks, no_super, no_class, IsNotFamily, AreFamilies, not_family, listed_names}
 use Rattle.jn_share.specs.declared.listed.InList.TheVariants as list

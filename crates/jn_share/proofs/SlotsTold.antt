@@ -1,18 +1,12 @@
 -- What the rows of slots answer.
-use Rattle.std.proofs.Common.{◌≡◌, ◌↔◌, ◌<◌, ℕ, List, [], Contains, Option, Some, None, slice_get, Bool, true, false, IsTrue, refl, sym, ap, ◌∙◌, subst, option_copied}
+use Rattle.std.proofs.Common.{◌≡◌, ℕ, List, Contains, Option, Some, None, slice_get, false, refl, sym, ap, ◌∙◌, subst}
 use Rattle.jn_reach.proofs.Searches.{same_some}
 use Rattle.jn_base.specs.declared.tree.Name.{Name}
-use Rattle.jn_base.specs.declared.tree.Program.{Program}
-use Rattle.jn_base.specs.declared.path.Path.{Path as ShownPath}
-use Rattle.jn_base.specs.Paths.{Path}
 use Rattle.jn_table.specs.declared.class.ClassId.{ClassId}
-use Rattle.jn_table.specs.Rows.{IsNumber}
-use Rattle.jn_sem.specs.Sharing.{IsClass}
-use Rattle.jn_sem.specs.Slots.{FieldHangs}
 use Rattle.jn_share.specs.declared.slots.FieldSlot.{FieldSlot}
 use Rattle.jn_share.specs.declared.slots.SlotRow.{SlotRow}
 use Rattle.jn_share.specs.declared.slots.Slots.{Slots}
-use Rattle.jn_share.specs.Slots.{HasEntry, HasSlot, IsHanging, AreSlots, FindsEntry, EntryTold, SlotTold, SaysNoSlot, SaysHangs}
+use Rattle.jn_share.specs.Slots.{HasEntry, FindsEntry, EntryTold, SlotTold, SaysNoSlot, SaysHangs}
 
 -- the entry of the row is that of the number
 pub row_told : (rows : List SlotRow) (id : ClassId) (f : Name) (row : SlotRow) → slice_get rows id.0 ≡ Some row → (entries : List FieldSlot) → entries ≡ row.fields.items

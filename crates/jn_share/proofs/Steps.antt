@@ -1,21 +1,19 @@
 -- The steps that tell classes apart.
-use Rattle.std.proofs.Common.{◌≡◌, ◌<◌, ◌≤◌, ◌+◌, ◌-◌, ◌↔◌, ◌⊎◌, inl, inr, ℕ, zero, suc, List, [], ◌∷◌, ◌++◌, length, Contains, Some, None, Option, slice_get, get_or, Bool, IsTrue, true, false, refl, sym, ap, ◌∙◌, subst, arith}
+use Rattle.std.proofs.Common.{◌≡◌, ◌<◌, ◌≤◌, ◌+◌, ◌⊎◌, inl, inr, ℕ, zero, suc, List, [], ◌∷◌, length, Contains, Some, slice_get, get_or, refl, sym, ap, ◌∙◌, subst, arith}
 use Rattle.std.specs.List.Sorted.{IsStrictlyIncreasing}
 use Rattle.std.proofs.lemmas.Bool.{cases_lt}
 use Rattle.std.proofs.lemmas.List.Kept.{AllPairs-from_increasing}
-use Rattle.std.proofs.lemmas.Option.{slice_get_read, slice_get_within}
-use Rattle.jn_reach.proofs.Searches.{not_when, same_some}
-use Rattle.jn_base.specs.declared.tree.Name.{Name}
+use Rattle.jn_reach.proofs.Searches.{same_some}
 use Rattle.jn_base.specs.declared.tree.Program.{Program}
 use Rattle.jn_base.specs.declared.path.Path.{Path as ShownPath}
-use Rattle.jn_base.specs.Paths.{Path, shown}
+use Rattle.jn_base.specs.Paths.{Path}
 use Rattle.jn_table.specs.declared.table.Table.{Table}
 use Rattle.jn_table.specs.Tables.{IsFilled}
-use Rattle.jn_sem.specs.Sharing.{IsClass, Related}
+use Rattle.jn_sem.specs.Sharing.{IsClass}
 use Rattle.jn_sem.specs.LawsOfSlots.{FieldsPass}
 use Rattle.jn_share.specs.Pairing.{IsAt}
-use Rattle.jn_share.specs.Parting.{SamePart, Alike, NotAlike, OneClass, KeepsOne, IsStable}
-use Rattle.jn_share.specs.Refining.{AreLow, Grows, IsLike, IsFirstLike, Refines, AreSettled}
+use Rattle.jn_share.specs.Parting.{SamePart, Alike, NotAlike, KeepsOne, IsStable}
+use Rattle.jn_share.specs.Refining.{IsLike, Refines}
 use Rattle.jn_share.proofs.Diffs.{alike_back, alike_on, unlike_on, unlike_never, one_turned}
 use Rattle.jn_share.proofs.PairsFound.{same_number, same_path}
 

@@ -1,5 +1,5 @@
 -- The slots of a group in their order, and the numbers of the fields of its classes.
-use Rattle.std.specs.Prelude.{◌≡◌, ◌<◌, ◌≤◌, ◌↔◌, ℕ, suc, List, [], ◌∷◌, ◌++◌, Contains, slice_get, Some, length, Bool, false, IsTrue}
+use Rattle.std.specs.Prelude.{◌≡◌, ◌<◌, ◌≤◌, ◌↔◌, ℕ, suc, List, [], ◌++◌, Contains, slice_get, Some, length, Bool, false, IsTrue}
 use Rattle.std.specs.declared.vec.Vec.{Vec}
 use Rattle.std.specs.declared.alloc.Global.{Global}
 use Rattle.jn_reach.specs.Each.{Each}

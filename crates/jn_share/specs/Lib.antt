@@ -15,3 +15,4 @@ pub mod Prepared
 pub mod Refining
 pub mod Rows
 pub mod Slots
+pub mod Trails

@@ -1,5 +1,5 @@
 -- What is asked of two classes while they are told apart.
-use Rattle.std.specs.Prelude.{◌≡◌, ◌<◌, ◌≤◌, ◌↔◌, ℕ, List, [], ◌∷◌, Contains, slice_get, Some, Bool, false, IsTrue}
+use Rattle.std.specs.Prelude.{◌≡◌, ◌↔◌, ℕ, List, [], ◌∷◌, Contains, slice_get, Some, Bool, IsTrue}
 use Rattle.std.specs.declared.vec.Vec.{Vec}
 use Rattle.std.specs.declared.alloc.Global.{Global}
 use Rattle.jn_base.specs.declared.tree.Name.{Name}
@@ -24,8 +24,8 @@ use Rattle.jn_share.specs.declared.groups.Groups.{Groups}
 use Rattle.jn_share.specs.declared.prepared.Prepared.{Prepared}
 use Rattle.jn_share.specs.Groups.{AreGroups}
 use Rattle.jn_share.specs.Pairing.{IsAt}
-use Rattle.jn_share.specs.Parting.{SamePart, Covers, Uncovered, SameField, OtherField, Alike, NotAlike}
-use Rattle.jn_share.specs.Prepared.{IsDecl, AreDecls, IsPrepared}
+use Rattle.jn_share.specs.Parting.{SamePart}
+use Rattle.jn_share.specs.Prepared.{IsDecl, IsPrepared}
 use Rattle.jn_share.specs.Slots.{IsTyped, SlotsAsked}
 
 -- both numbers have one part

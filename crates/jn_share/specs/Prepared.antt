@@ -1,15 +1,14 @@
 -- What is read off the table and the field types before slots are looked for.
-use Rattle.std.specs.Prelude.{◌≡◌, ◌<◌, ◌↔◌, ℕ, List, [], ◌∷◌, Contains, Any, slice_get, Some}
+use Rattle.std.specs.Prelude.{◌≡◌, ◌<◌, ℕ, List, [], ◌∷◌, slice_get, Some}
 use Rattle.std.specs.declared.vec.Vec.{Vec}
 use Rattle.std.specs.declared.alloc.Global.{Global}
 use Rattle.jn_reach.specs.Each.{Each}
-use Rattle.jn_reach.specs.Graph.{Graph, HasEdge}
+use Rattle.jn_reach.specs.Graph.{HasEdge}
 use Rattle.jn_base.specs.declared.tree.Name.{Name}
 use Rattle.jn_base.specs.declared.tree.Program.{Program}
 use Rattle.jn_base.specs.declared.path.Path.{Path as ShownPath}
 use Rattle.jn_base.specs.Paths.{Path}
 use Rattle.jn_base.specs.Members.{FieldDecls}
-use Rattle.jn_table.specs.declared.class.ClassId.{ClassId}
 use Rattle.jn_table.specs.declared.class.Row.{Row}
 use Rattle.jn_table.specs.declared.field_types.FieldTy.{FieldTy}
 use Rattle.jn_table.specs.declared.field_types.FieldTypes.{FieldTypes}

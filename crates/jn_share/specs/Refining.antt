@@ -5,7 +5,7 @@ use Rattle.jn_base.specs.declared.path.Path.{Path as ShownPath}
 use Rattle.jn_base.specs.Paths.{Path}
 use Rattle.jn_table.specs.declared.field_types.FieldTypes.{FieldTypes}
 use Rattle.jn_table.specs.declared.table.Table.{Table}
-use Rattle.jn_sem.specs.Sharing.{IsClass, Related}
+use Rattle.jn_sem.specs.Sharing.{IsClass}
 use Rattle.jn_share.specs.declared.groups.Groups.{Groups}
 use Rattle.jn_share.specs.declared.prepared.Prepared.{Prepared}
 use Rattle.jn_share.specs.Pairing.{IsAt}

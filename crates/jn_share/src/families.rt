@@ -7,10 +7,10 @@ ghost use Rattle.jn_share.specs.Listing.{listed_of, IsFault, PassesOr, SaysStric
 use crate::fault::ShareFault;
 use crate::listed::{InList, ListedName};
 use crate::paths::{family, family_of, in_family};
+use crate::trail::Trail;
 use jn_base::path::Path;
 use jn_base::refusal::{Refusal, Rule};
 use jn_base::tree::Name;
-use jn_bounds::Bound;
 use jn_table::Table;
 use sqlite_items::Items;
 use std::alloc::{AllocError, Global};
@@ -20,7 +20,7 @@ fn is_strict_super(
     alloc: Global,
     t: &Table,
     names: &[Name],
-    above: &Bound,
+    above: &Trail,
 ) -> Result<bool, AllocError>
     ensures { IfOk result (SaysStrict t.now names.now above.now) }
 {

@@ -31,8 +31,9 @@ mod prepared;
 mod refining;
 mod rows;
 mod slots;
+mod trail;
 
-pub use atoms::{in_atom, in_type};
+pub use atoms::{in_atom, in_atoms, in_type};
 pub use fault::ShareFault;
 pub use groups::Groups;
 pub use slots::Slots;

@@ -2,9 +2,9 @@ ghost use Rattle.std.specs.Prelude.{◌≡◌, ◌∷◌, map, IfOk, OnOk};
 ghost use Rattle.jn_sem.specs.NotFamily.{in_list, own_listed, listed_by, listed_in_member, listed_in_decl, listed_names};
 ghost use Rattle.jn_share.specs.Listing.{listing_of, listed_of, AddsListed};
 
+use crate::trail::Trail;
 use jn_base::path::Path;
 use jn_base::tree::{Decl, Member, Name, Named, Program};
-use jn_bounds::Bound;
 use std::alloc::{AllocError, Global};
 
 /// The two lists of names of families.
@@ -23,7 +23,7 @@ pub struct ListedName {
 }
 
 /// The path of a declaration in a namespace.
-fn inner(alloc: Global, namespace: &Bound, name: Name) -> Result<Bound, AllocError>
+fn inner(alloc: Global, namespace: &Trail, name: Name) -> Result<Trail, AllocError>
     ensures { IfOk result (λ path. path ≡ name ∷ namespace.now) }
 {
     let mut path = namespace.without(alloc, 0)?;
@@ -34,7 +34,7 @@ fn inner(alloc: Global, namespace: &Bound, name: Name) -> Result<Bound, AllocErr
 /// Adds the names of a list of the declaration at a path.
 fn add_names(
     alloc: Global,
-    class: &Bound,
+    class: &Trail,
     list: InList,
     names: &[Named],
     out: &mut Vec<ListedName>,
@@ -55,7 +55,7 @@ fn add_names(
 /// Adds the names that a declaration lists itself: those that it adapts at the top level, else those that it shares.
 fn add_own(
     alloc: Global,
-    namespace: &Bound,
+    namespace: &Trail,
     d: &Decl,
     out: &mut Vec<ListedName>,
 ) -> Result<(), AllocError>
@@ -72,7 +72,7 @@ fn add_own(
 #[cycle(listed)]
 fn add_member(
     alloc: Global,
-    class: &Bound,
+    class: &Trail,
     m: &Member,
     out: &mut Vec<ListedName>,
 ) -> Result<(), AllocError>
@@ -89,7 +89,7 @@ fn add_member(
 #[cycle(listed)]
 fn add_members(
     alloc: Global,
-    class: &Bound,
+    class: &Trail,
     members: &[Member],
     out: &mut Vec<ListedName>,
 ) -> Result<(), AllocError>
@@ -105,7 +105,7 @@ fn add_members(
 #[cycle(listed)]
 fn add_decl(
     alloc: Global,
-    namespace: &Bound,
+    namespace: &Trail,
     d: &Decl,
     out: &mut Vec<ListedName>,
 ) -> Result<(), AllocError>
@@ -119,7 +119,7 @@ fn add_decl(
 /// Adds the listed names of declarations in a namespace.
 fn add_decls(
     alloc: Global,
-    namespace: &Bound,
+    namespace: &Trail,
     decls: &[Decl],
     out: &mut Vec<ListedName>,
 ) -> Result<(), AllocError>
@@ -135,7 +135,7 @@ fn add_decls(
 pub fn listed_names(alloc: Global, p: &Program) -> Result<Vec<ListedName>, AllocError>
     ensures { IfOk result (λ all. map listed_of all.items ≡ listed_names p.now) }
 {
-    let root = Bound::root(alloc);
+    let root = Trail::root(alloc);
     let mut all = Vec::new(alloc);
     add_decls(alloc, &root, p.decls.as_slice(), &mut all)?;
     Ok(all)

@@ -3,27 +3,27 @@ ghost use Rattle.jn_base.specs.declared.tree.Name.{Name as AName};
 ghost use Rattle.jn_sem.specs.Sharing.{family_of, in_family};
 ghost use Rattle.jn_share.specs.Pairing.{HaveOneFamily, AreInner};
 
+use crate::trail::Trail;
 use jn_base::compare::{is_name, same_names};
 use jn_base::tree::Name;
-use jn_bounds::Bound;
 use sqlite_items::at;
 use std::alloc::{AllocError, Global};
 
 /// The path of the family with this name.
-pub fn family(alloc: Global, name: Name) -> Result<Bound, AllocError>
+pub fn family(alloc: Global, name: Name) -> Result<Trail, AllocError>
     ensures { IfOk result (λ path. path ≡ name ∷ []) }
 {
-    let mut path = Bound::root(alloc);
+    let mut path = Trail::root(alloc);
     path.push(name)?;
     Ok(path)
 }
 
 /// The path of the family of a path: of its outermost name.
-pub fn family_of(alloc: Global, names: &[Name]) -> Result<Bound, AllocError>
+pub fn family_of(alloc: Global, names: &[Name]) -> Result<Trail, AllocError>
     ensures { IfOk result (λ path. (X : AName) → family_of (reverse names.now) ≡ Some X → path ≡ X ∷ []) }
 {
     match at(names, 0) {
-        None => Ok(Bound::root(alloc)),
+        None => Ok(Trail::root(alloc)),
         Some(name) => family(alloc, *name),
     }
 }
@@ -37,10 +37,10 @@ fn behind_first(names: &[Name]) -> &[Name]
 }
 
 /// The path in another family.
-pub fn in_family(alloc: Global, names: &[Name], family: Name) -> Result<Bound, AllocError>
+pub fn in_family(alloc: Global, names: &[Name], family: Name) -> Result<Trail, AllocError>
     ensures { IfOk result (λ path. path ≡ in_family family (reverse names.now)) }
 {
-    let mut path = Bound::root(alloc);
+    let mut path = Trail::root(alloc);
     if names.is_empty() {
         return Ok(path);
     }

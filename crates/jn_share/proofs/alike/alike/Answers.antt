@@ -1,6 +1,6 @@
 use Rattle.std.proofs.Common.{List, sym, subst}
 use Rattle.jn_base.specs.declared.tree.Name.{Name}
-use Rattle.jn_share.specs.Parting.{SamePart, by_apart}
+use Rattle.jn_share.specs.Parting.{by_apart}
 use Rattle.jn_share.specs.Prepared.{AreDecls}
 use Rattle.jn_share.proofs.FieldLists.{rows_apart, rows_same, same_has, ready_decls, long_decls, field_in}
 use Rattle.jn_share.proofs.alike.alike.Goals as goal

@@ -1,4 +1,4 @@
-use Rattle.std.proofs.Common.{List, Some, sym, ap, ◌∙◌, slice_get, ℕ}
+use Rattle.std.proofs.Common.{List, sym, ap, ◌∙◌, slice_get}
 use Rattle.jn_table.specs.declared.field_types.FieldTy.{FieldTy}
 use Rattle.jn_share.proofs.SameFields.{entry_for, no_entry}
 use Rattle.jn_share.proofs.alike.same_field.Goals as goal

@@ -1,4 +1,4 @@
-use Rattle.std.proofs.Common.{◌≡◌, ◌<◌, ℕ, List, length, Some, slice_get}
+use Rattle.std.proofs.Common.{List}
 use Rattle.jn_base.specs.declared.tree.Name.{Name}
 use Rattle.jn_share.specs.Parts.{SaysTwo}
 use Rattle.jn_share.specs.Parting.{SamePart}

@@ -1,4 +1,4 @@
-use Rattle.jn_share.proofs.Inside.{in_front, no_front}
+use Rattle.jn_share.proofs.Inside.{in_front}
 use Rattle.jn_share.proofs.atoms.in_atom.Goals as goal
 
 pub returns-in-Some : goal.returns-in-Some

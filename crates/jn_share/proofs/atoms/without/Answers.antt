@@ -1,5 +1,5 @@
 use Rattle.std.proofs.Common.{◌∙◌, ap, reverse, take, ℕ}
-use Rattle.jn_bounds.proofs.Turned.{kept_any}
+use Rattle.jn_share.proofs.Turned.{kept_any}
 use Rattle.jn_share.proofs.atoms.without.Goals as goal
 
 pub returns : goal.returns

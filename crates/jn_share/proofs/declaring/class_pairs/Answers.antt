@@ -1,4 +1,4 @@
-use Rattle.std.proofs.Common.{sym, subst, arith, ◌<◌, ◌+◌, ℕ, List}
+use Rattle.std.proofs.Common.{sym, subst, arith, ◌<◌, ◌+◌, ℕ}
 use Rattle.std.specs.declared.vec.Vec.{Vec}
 use Rattle.std.specs.declared.alloc.Global.{Global}
 use Rattle.jn_share.proofs.FieldEntries.{PairsTo, pairs_more, pairs_skip, pairs_all}

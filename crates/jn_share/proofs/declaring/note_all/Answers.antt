@@ -1,7 +1,7 @@
-use Rattle.std.proofs.Common.{List, ℕ, take, sym, subst, ◌∙◌, refl}
+use Rattle.std.proofs.Common.{List, ℕ, take, sym, subst, ◌∙◌}
 use Rattle.std.proofs.lemmas.List.{take_all}
 use Rattle.jn_share.specs.Declaring.{Noted}
-use Rattle.jn_share.proofs.FieldEntries.{noted_start, any_default}
+use Rattle.jn_share.proofs.FieldEntries.{any_default}
 use Rattle.jn_share.proofs.Walk.{take_one}
 use Rattle.jn_share.proofs.declaring.note_all.Goals as goal
 

@@ -1,4 +1,4 @@
-use Rattle.std.proofs.Common.{◌≡◌, List, ◌∷◌, ◌++◌, [], ℕ, take, sym, subst, ◌+◌}
+use Rattle.std.proofs.Common.{take, sym, subst, ◌+◌}
 use Rattle.jn_base.specs.declared.tree.Name.{Name}
 use Rattle.jn_reach.specs.Each.{Each}
 use Rattle.jn_reach.proofs.Eachs.{Each-none, Each-more}

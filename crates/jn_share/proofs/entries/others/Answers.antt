@@ -1,6 +1,4 @@
 use Rattle.std.proofs.Common.{subst, sym, get_or, ℕ, ◌+◌}
-use Rattle.jn_base.specs.Paths.{Path}
-use Rattle.jn_table.specs.Tables.{IsFilled}
 use Rattle.jn_reach.proofs.Searches.{not_when}
 use Rattle.jn_share.specs.Counting.{Counts, AmongOthers}
 use Rattle.jn_share.proofs.EntryLists.{FirstOf, others_start, others_skip, others_more, others_all}

@@ -1,11 +1,6 @@
 use Rattle.std.proofs.Common.{◌∙◌}
-use Rattle.jn_base.specs.Paths.{Path}
-use Rattle.jn_base.specs.declared.tree.Program.{Program}
-use Rattle.jn_table.specs.Tables.{IsFilled}
 use Rattle.jn_reach.proofs.Searches.{not_when}
-use Rattle.jn_share.specs.Pairing.{IsAt}
-use Rattle.jn_share.specs.Counting.{Counts}
-use Rattle.jn_share.proofs.EntryRows.{RowEntry, row_counts, package_counts, class_counts, group_others}
+use Rattle.jn_share.proofs.EntryRows.{row_counts, package_counts, class_counts, group_others}
 use Rattle.jn_share.proofs.Numbered.{numbered_known}
 use Rattle.jn_share.proofs.entries.row_entries.Goals as goal
 

@@ -1,4 +1,3 @@
-use Rattle.std.proofs.Common.{sym, subst}
 use Rattle.jn_share.proofs.FirstSlots.{no_decl, decl_found}
 use Rattle.jn_share.proofs.firsts.decl_of.Goals as goal
 

@@ -1,4 +1,4 @@
-use Rattle.std.proofs.Common.{◌≡◌, ℕ, sym, subst}
+use Rattle.std.proofs.Common.{◌≡◌, sym, subst}
 use Rattle.jn_share.proofs.FieldRows.{hangs_is}
 use Rattle.jn_share.specs.Prepared.{IsDecl}
 use Rattle.jn_share.proofs.firsts.field_first.Goals as goal

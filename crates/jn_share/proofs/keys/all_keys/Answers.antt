@@ -1,8 +1,6 @@
-use Rattle.std.proofs.Common.{◌+◌, List, ℕ, take, sym, subst}
+use Rattle.std.proofs.Common.{List, ℕ, subst}
 use Rattle.std.specs.declared.vec.Vec.{Vec}
 use Rattle.std.specs.declared.alloc.Global.{Global}
-use Rattle.jn_reach.specs.Each.{Each}
-use Rattle.jn_reach.specs.Graph.{Graph}
 use Rattle.jn_reach.proofs.Eachs.{Each-none}
 use Rattle.jn_share.specs.declared.keys.FieldKey.{FieldKey}
 use Rattle.jn_share.specs.Keys.{AreKeys}

@@ -3,7 +3,7 @@ use Rattle.jn_reach.proofs.Searches.{iff_true, iff_false}
 use Rattle.jn_base.specs.declared.tree.Kind.{Kind}
 use Rattle.jn_base.specs.declared.tree.Kind.TheVariants as kind
 use Rattle.jn_table.specs.declared.class.ClassId.{ClassId}
-use Rattle.jn_bounds.proofs.Known.{numbered_known}
+use Rattle.jn_share.proofs.Numbered.{numbered_known}
 use Rattle.jn_share.proofs.pairs.is_class.Goals as goal
 
 pub returns-in-Class : goal.returns-in-Class

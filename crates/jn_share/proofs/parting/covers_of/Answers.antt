@@ -1,9 +1,5 @@
-use Rattle.std.proofs.Common.{◌≡◌, get_or, refl}
-use Rattle.jn_base.specs.Paths.{Path}
+use Rattle.std.proofs.Common.{get_or, refl}
 use Rattle.jn_reach.proofs.Searches.{not_when}
-use Rattle.jn_share.specs.Pairing.{IsAt}
-use Rattle.jn_sem.specs.Slots.{ClassAt}
-use Rattle.jn_share.specs.Parts.{HasTwin}
 use Rattle.jn_share.proofs.Covers.{path_there, uncovered_at, covers_more, covers_all}
 use Rattle.jn_share.proofs.parting.covers_of.Goals as goal
 use Rattle.jn_share.proofs.parting.covers_of.Goals.{else-class_in-via-then-class_in+else-not-has_twin, else-class_in-via-else-class_in}

@@ -1,5 +1,5 @@
 use Rattle.std.proofs.Common.{ap, reverse}
-use Rattle.jn_bounds.proofs.Turned.{turned_same}
+use Rattle.jn_share.proofs.Turned.{turned_same}
 use Rattle.jn_share.proofs.paths.one_path.Goals as goal
 
 pub returns : goal.returns

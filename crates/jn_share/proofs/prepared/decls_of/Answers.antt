@@ -1,5 +1,4 @@
-use Rattle.std.proofs.Common.{◌<◌, ◌≤◌, length, sym, subst, arith, ap, ℕ}
-use Rattle.jn_table.specs.declared.field_types.FieldTy.{FieldTy}
+use Rattle.std.proofs.Common.{length, sym, subst, arith, ap}
 use Rattle.jn_share.specs.Declaring.{Wide}
 use Rattle.jn_share.proofs.Growing.{long_push}
 use Rattle.jn_share.proofs.Preparing.{decls_push}

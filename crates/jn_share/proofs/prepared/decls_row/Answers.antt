@@ -1,7 +1,6 @@
-use Rattle.std.proofs.Common.{List, ℕ, sym, subst}
-use Rattle.jn_base.specs.declared.tree.Name.{Name}
+use Rattle.std.proofs.Common.{List, ℕ, subst}
 use Rattle.jn_reach.specs.Each.{Each}
-use Rattle.jn_share.specs.Declaring.{OwnAmong, UnderName}
+use Rattle.jn_share.specs.Declaring.{UnderName}
 use Rattle.jn_share.proofs.Preparing.{decls_right}
 use Rattle.jn_share.proofs.prepared.decls_row.Goals as goal
 

@@ -1,4 +1,4 @@
-use Rattle.std.proofs.Common.{◌<◌, ◌≤◌, length, sym, arith}
+use Rattle.std.proofs.Common.{sym, arith}
 use Rattle.std.proofs.lemmas.Option.{slice_get_within}
 use Rattle.jn_share.proofs.Preparing.{top_family, next_family, no_up}
 use Rattle.jn_share.proofs.prepared.family_number.Goals as goal

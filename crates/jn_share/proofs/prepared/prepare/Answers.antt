@@ -1,4 +1,4 @@
-use Rattle.std.proofs.Common.{List, ℕ, length, sym, subst}
+use Rattle.std.proofs.Common.{List, ℕ, length, subst}
 use Rattle.std.proofs.lemmas.Option.{slice_get_within}
 use Rattle.jn_base.specs.Paths.{shown}
 use Rattle.jn_reach.specs.Pairs.{AreMembers}

@@ -1,4 +1,4 @@
-use Rattle.std.proofs.Common.{get_or, refl, inr, ◌≤◌, arith}
+use Rattle.std.proofs.Common.{get_or, inr, ◌≤◌, arith}
 use Rattle.jn_share.specs.Parting.{SamePart, NotAlike}
 use Rattle.jn_base.specs.Paths.{Path}
 use Rattle.jn_share.proofs.Covers.{path_there}

@@ -1,4 +1,3 @@
-use Rattle.std.proofs.Common.{ℕ}
 use Rattle.jn_share.specs.Parting.{SamePart}
 use Rattle.jn_share.proofs.Growing.{its_members, part_grows, part_within, part_first, part_sorted}
 use Rattle.jn_share.proofs.refining.next_part.Goals as goal

@@ -1,6 +1,5 @@
-use Rattle.std.proofs.Common.{◌≡◌, ◌<◌, List, ℕ, length, subst, sym, ap, ◌∙◌, ◌≤◌, arith}
+use Rattle.std.proofs.Common.{◌≡◌, ◌<◌, List, ℕ, length, subst, sym, ap, ◌∙◌}
 use Rattle.jn_reach.proofs.Searches.{not_when}
-use Rattle.jn_share.specs.Parting.{SamePart, IsStable}
 use Rattle.jn_share.specs.Refining.{Grows, Refines, RefinesTo}
 use Rattle.jn_share.proofs.Growing.{slack_falls, starts_keep, class_row}
 use Rattle.jn_share.proofs.Steps.{step_keeps, step_stable}

@@ -1,4 +1,4 @@
-use Rattle.std.proofs.Common.{sym, ◌∙◌, ap, option_copied, List, slice_get}
+use Rattle.std.proofs.Common.{sym, option_copied}
 use Rattle.jn_share.proofs.SlotsTold.{row_told}
 use Rattle.jn_share.proofs.slots.entry_at.Goals as goal
 

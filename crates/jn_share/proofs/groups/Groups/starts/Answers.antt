@@ -1,4 +1,4 @@
-use Rattle.std.proofs.Common.{◌≡◌, ◌<◌, length, List, subst, sym, ap, arith, get_or}
+use Rattle.std.proofs.Common.{◌≡◌, ◌<◌, length, List, subst, ap, arith, get_or}
 use Rattle.jn_share.specs.declared.rows.GroupRow.{GroupRow}
 use Rattle.jn_share.proofs.Growing.{long_push, low_push, starts_push}
 use Rattle.jn_share.proofs.groups.Groups.starts.Goals as goal

@@ -1,4 +1,4 @@
-use Rattle.std.proofs.Common.{◌≡◌, List, Vec, Global, Err, Ok, subst, sym, refl, arith, length}
+use Rattle.std.proofs.Common.{List, Vec, Global, Err, Ok, subst, sym, refl, arith, length}
 use Rattle.jn_base.specs.declared.refusal.Limit.TheVariants as limit
 use Rattle.jn_share.specs.declared.field_first.FieldFirst.{FieldFirst}
 use Rattle.jn_share.specs.declared.keys.FieldKey.{FieldKey}
