@@ -53,9 +53,16 @@ use Rattle.jn_laws.proofs.StoredValues.{slots_take_values}
 use Rattle.jn_sound.proofs.Laws.{Laws, ParamsSo, header_params}
 use Rattle.jn_sound.proofs.Entered.{Arguments, grow, alone}
 use Rattle.jn_sound.proofs.Known.{declared_among}
-use Rattle.jn_sound.specs.Sound.{ThisFits}
+use Rattle.jn_sound.specs.Sound.{ThisFits, sides_of}
 use Rattle.jn_base.proofs.Reaching.{sup_in_universe}
-use Rattle.jn_base.proofs.SuperLaws.{sup_level}
+use Rattle.jn_base.proofs.SuperLaws.{sup_level, sup_joined}
+use Rattle.jn_base.specs.Members.{MethodAt}
+use Rattle.jn_base.specs.declared.tree.Constraint.{Constraint}
+use Rattle.jn_rules.specs.Plans.{Pledge}
+use Rattle.jn_rules.specs.Questions.{ConstraintGives, header_site}
+use Rattle.jn_sem.specs.Holds.{HoldsAt}
+use Rattle.jn_laws.specs.Surely.{Surely}
+use Rattle.std.specs.Prelude.{Contains, Ok}
 use Rattle.jn_sem.specs.State.{Variable, declared_vars}
 use Rattle.jn_member_laws.specs.LawsOfHeaders.{HeaderFits}
 use Rattle.jn_member_laws.proofs.OneHeaders.{headers_fit}
@@ -79,15 +86,18 @@ value_among (v ∷ vs) [] y m = elim m [ ]
 value_among (v ∷ vs) (x ∷ xs) _ first = first
 value_among (v ∷ vs) (x ∷ xs) y (later m) = later (value_among vs xs y m)
 
-entry : (p : Program) → WithinOf p → TreePasses p
-    → (h : Heap) (V : Path) (m : Name) (b : Body) (x : Header) (o : ℕ) (args : List Value) → IsBody p V m b →
-    IsHeader p b x → RefersTo p h o V
+entry_at : (p : Program) → WithinOf p → TreePasses p
+    → (h : Heap) (V : Path) (m : Name) (b : Body) (x : Header) (o : ℕ) (args : List Value) → Sup p V b.class
+    → MethodAt p b.class m b.method
+    → ((c : Constraint) (k : Pledge) → Contains b.method.sharing c
+    → ConstraintGives p (header_site b.class b.method.name.name) c (Ok k) → Surely (HoldsAt p V (sides_of p k)))
+    → IsHeader p b x → RefersTo p h o V
     → ((g : Name) → HasField p V g → HasValue p h o V g) → length args ≡ length x.vars
     → has_null_path (with_values x.vars args) ≡ false → ((y : Value) → Among args y → IsReal p h y)
     → AreIn p (frame_of (record { class = b.class; method = b.method; vars = x.vars }) (Reference o V) args) h
     → InScope p h (frame_of (record { class = b.class; method = b.method; vars = x.vars })
     (Reference o V) args) no_views x.vars (at_start b x).scope
-entry p w ok h V m b x o args ib ih r filled e nn real ai =
+entry_at p w ok h V m b x o args super at constraints ih r filled e nn real ai =
     subst (λ (l : List Var). InScope p h g no_views l (scope_of (site_in b l))) named
     (grow all given [] all refl (alone all given this class.universe long)) where
       g : Frame
@@ -102,18 +112,15 @@ entry p w ok h V m b x o args ib ih r filled e nn real ai =
       class : IsClass p V
       class = r.related.other
 
-      super : Sup p V b.class
-      super = ib.least.among.super
-
       fits : HeaderFits p b x
-      fits = headers_fit p b.class m b.method x w.shallow w.formed (sup_in_universe super class.universe) ib.at ih
+      fits = headers_fit p b.class m b.method x w.shallow w.formed (sup_in_universe super class.universe) at ih
 
       params : ParamsSo x.vars
       params = (header_params p b x ih).0
 
       few : length x.vars ≤ 15
       few =
-          let l = w.limits.params b.class m b.method ib.at in let c = (header_params p b x ih).1 in omega (arith, l, c)
+          let l = w.limits.params b.class m b.method at in let c = (header_params p b x ih).1 in omega (arith, l, c)
 
       of_var : (T : Var → Type 0) → ((y : Var) → Among x.vars y → T y) → (y : Variable)
           → Among (with_values x.vars args) y → T y.var
@@ -141,24 +148,51 @@ entry p w ok h V m b x o args ib ih r filled e nn real ai =
         real = r;
         super = super;
         filled = filled;
-        constraints =
-            λ c k n i no. ok.bodies.headers.constraints V (
-              m,
-              (
-                b,
-                record {
-                  class = class;
-                  body = ib;
-                  constraint = c;
-                  among = n;
-                  pledge = k;
-                  is = i;
-                  fails =
-                      no;
-                },
-              ),
-            );
+        constraints = constraints;
       }
+
+entry : (p : Program) → WithinOf p → TreePasses p
+    → (h : Heap) (V : Path) (m : Name) (b : Body) (x : Header) (o : ℕ) (args : List Value) → IsBody p V m b →
+    IsHeader p b x → RefersTo p h o V
+    → ((g : Name) → HasField p V g → HasValue p h o V g) → length args ≡ length x.vars
+    → has_null_path (with_values x.vars args) ≡ false → ((y : Value) → Among args y → IsReal p h y)
+    → AreIn p (frame_of (record { class = b.class; method = b.method; vars = x.vars }) (Reference o V) args) h
+    → InScope p h (frame_of (record { class = b.class; method = b.method; vars = x.vars })
+    (Reference o V) args) no_views x.vars (at_start b x).scope
+entry p w ok h V m b x o args ib ih r filled e nn real ai =
+    entry_at p w ok h V m b x o args ib.least.among.super ib.at
+    (λ c k n i no. ok.bodies.headers.constraints V (
+      m,
+      (
+        b,
+        record {
+          class = r.related.other;
+          body = ib;
+          constraint = c;
+          among = n;
+          pledge = k;
+          is = i;
+          fails = no;
+        },
+      ),
+    )) ih r filled e nn real ai
+
+-- where it has no constraint, the body of a class above
+entry_above : (p : Program) → WithinOf p → TreePasses p
+    → (h : Heap) (V B : Path) (m : Name) (b : Body) (x : Header) (o : ℕ) (args : List Value) → IsBody p B m b → Sup p V B
+    → b.method.sharing ≡ [] → IsHeader p b x → RefersTo p h o V
+    → ((g : Name) → HasField p V g → HasValue p h o V g) → length args ≡ length x.vars
+    → has_null_path (with_values x.vars args) ≡ false → ((y : Value) → Among args y → IsReal p h y)
+    → AreIn p (frame_of (record { class = b.class; method = b.method; vars = x.vars }) (Reference o V) args) h
+    → InScope p h (frame_of (record { class = b.class; method = b.method; vars = x.vars })
+    (Reference o V) args) no_views x.vars (at_start b x).scope
+entry_above p w ok h V B m b x o args ib higher none ih r filled e nn real ai =
+    entry_at p w ok h V m b x o args (sup_joined higher ib.least.among.super) ib.at
+    (λ c k n i. absurd (nothing c (subst (λ (l : List Constraint). Contains l c) none n))) ih r filled e nn real ai where
+      nothing : (c : Constraint) → Contains [] c → ⊥
+      nothing c n = no_less n.0 n.1 where
+        no_less : (i : ℕ) → i < 0 → ⊥
+        no_less i l = omega (arith, l)
 
 -- ---- all of them
 
@@ -218,6 +252,8 @@ laws p w ok n = record {
   param_once = λ b x i. (header_params p b x i).0.once;
   target_family = target p;
   loop_fits = n.loop_fits;
+  entry_above = λ h V B m b x o args ib higher none ih r filled e nn real ai.
+      entry_above p w ok h V B m b x o args ib higher none ih r filled e nn real ai;
   entry = λ h V m b x o args ib ih r filled e nn real ai. entry p w ok h V m b x o args ib ih r filled e nn real ai;
   body_fits = n.body_fits;
 } where

@@ -96,23 +96,26 @@ no_path q e = cc
 
 -- ---- the call
 
-call_enters : {p : Program} {h : Heap} {f : Frame} {x : Header} {vs : List Var} {s : Scope} {before ops : List Opd}
+pub call_with : {p : Program} {h : Heap} {f : Frame} {x : Header} {vs : List Var} {s : Scope} {before ops : List Opd}
     {w : Views} → Laws p → HeapFits p h
-    → (k : List Todo) (name : Name) (keeps : Bool) (q : ℕ) (qs : List ℕ) (args : List Opd) (c : Callee)
+    → (k : List Todo) (keeps : Bool) (q : ℕ) (qs : List ℕ) (args : List Opd) (c : Callee)
     → ArgsFit s (replaced_paths c.vars) (q ∷ qs) c.vars args qs → (is_void c.result ≡ true → keeps ≡ false) →
     TypeFits s (subst_type s (swapped (replaced_paths c.vars) (q ∷ qs)) c.result)
     → Stands p h f x vs s before w → (values others : List Value) → PairsFit p h s
     (all_views (cut (length vs) f) w) args values
     → OperandsFit p h s (all_views (cut (length vs) f) w) ops others → (o : ℕ) (V : Path) → all_views
-    (cut (length vs) f) w q ≡ Some V → RefersTo p h o V
-    → ((g : Name) → HasField p V g → HasValue p h o V g) → (b : Body) (y : Header) → IsBody p V name b →
-    IsHeader p b y → Alike c.vars y.vars → y.result ≡ c.result
+    (cut (length vs) f) w q ≡ Some V → (b : Body) (y : Header) → IsHeader p b y
+    → Alike c.vars y.vars → y.result ≡ c.result
+    → (has_null_path (frame_of (record { class = b.class; method = b.method; vars = y.vars })
+    (Reference o V) values).vars ≡ false
+    → AreIn p (frame_of (record { class = b.class; method = b.method; vars = y.vars }) (Reference o V) values) h
+    → Begun p h (frame_of (record { class = b.class; method = b.method; vars = y.vars }) (Reference o V) values))
     → CallsAt p h f x vs k (typing s
     (with_result keeps (subst_type s (swapped (replaced_paths c.vars) (q ∷ qs)) c.result) ops))
     (record { class = b.class; method = b.method; vars = y.vars }) (Reference o V ∷ values)
     (waiting keeps (now (length vs) k f) others) h
-call_enters {p} {h} {f} {x} {vs} {s} {before} {ops} {w} n hf k name keeps q qs args c af kf tf a values others pf of o
-    V own r filled b y ib ih al same =
+call_with {p} {h} {f} {x} {vs} {s} {before} {ops} {w} n hf k keeps q qs args c af kf tf a values others pf of o
+    V own b y ih al same begins =
     record {
       later = (heap_laws.heaps p).itself h;
       heap = hf;
@@ -146,36 +149,8 @@ call_enters {p} {h} {f} {x} {vs} {s} {before} {ops} {w} n hf k name keeps q qs a
       waits : Frame
       waits = waiting keeps (now (length vs) k f) others
 
-      count : length b.method.params ≤ length y.vars
-      count = omega (arith, n.param_count b y ih)
-
       whole : take (length b.method.params) (with_values y.vars values) ≡ with_values y.vars values
       whole = ap (λ (i : ℕ). take i (with_values y.vars values)) (sym (n.param_count b y ih)) ∙ take_values y.vars values
-
-      begins : has_null_path new.vars ≡ false → AreIn p new h → Begun p h new
-      begins nn ai = record {
-        heap = hf;
-        view = V;
-        name = name;
-        class = r.related.other;
-        is_body = ib;
-        header = y;
-        todo = refl;
-        stands = record {
-          fresh = no_views;
-          stands = record {
-            is_header = ih;
-            params = take_whole y.vars (length b.method.params) (n.param_count b y ih);
-            all_params = count;
-            in_scope =
-                subst (λ (X : List Variable). InScope p h (record new { vars = X }) no_views y.vars (at_start b y).scope)
-                (sym (take_values y.vars values))
-                (n.entry h V name b y o values ib ih r filled (count_args c.vars y.vars args qs values af pf al) nn
-                (λ z m. args_real args values pf z m) ai);
-            operands = no_opds;
-          };
-        };
-      }
 
       -- the caller in a later heap
       later : (j : Heap) → Later h j → Stands p j waits x vs s ops w
@@ -210,6 +185,55 @@ call_enters {p} {h} {f} {x} {vs} {s} {before} {ops} {w} n hf k name keeps q qs a
             path = λ i i'. absurd
                 (no_path i i');
           })
+
+call_enters : {p : Program} {h : Heap} {f : Frame} {x : Header} {vs : List Var} {s : Scope} {before ops : List Opd}
+    {w : Views} → Laws p → HeapFits p h
+    → (k : List Todo) (name : Name) (keeps : Bool) (q : ℕ) (qs : List ℕ) (args : List Opd) (c : Callee)
+    → ArgsFit s (replaced_paths c.vars) (q ∷ qs) c.vars args qs → (is_void c.result ≡ true → keeps ≡ false) →
+    TypeFits s (subst_type s (swapped (replaced_paths c.vars) (q ∷ qs)) c.result)
+    → Stands p h f x vs s before w → (values others : List Value) → PairsFit p h s
+    (all_views (cut (length vs) f) w) args values
+    → OperandsFit p h s (all_views (cut (length vs) f) w) ops others → (o : ℕ) (V : Path) → all_views
+    (cut (length vs) f) w q ≡ Some V → RefersTo p h o V
+    → ((g : Name) → HasField p V g → HasValue p h o V g) → (b : Body) (y : Header) → IsBody p V name b →
+    IsHeader p b y → Alike c.vars y.vars → y.result ≡ c.result
+    → CallsAt p h f x vs k (typing s
+    (with_result keeps (subst_type s (swapped (replaced_paths c.vars) (q ∷ qs)) c.result) ops))
+    (record { class = b.class; method = b.method; vars = y.vars }) (Reference o V ∷ values)
+    (waiting keeps (now (length vs) k f) others) h
+call_enters {p} {h} {f} {x} {vs} {s} {before} {ops} {w} n hf k name keeps q qs args c af kf tf a values others pf of o
+    V own r filled b y ib ih al same =
+    call_with n hf k keeps q qs args c af kf tf a values others pf of o V own b y ih al same begins where
+      new : Frame
+      new = frame_of (record { class = b.class; method = b.method; vars = y.vars }) (Reference o V) values
+
+      count : length b.method.params ≤ length y.vars
+      count = omega (arith, n.param_count b y ih)
+
+      begins : has_null_path new.vars ≡ false → AreIn p new h → Begun p h new
+      begins nn ai = record {
+        heap = hf;
+        view = V;
+        name = name;
+        class = r.related.other;
+        is_body = ib;
+        header = y;
+        todo = refl;
+        stands = record {
+          fresh = no_views;
+          stands = record {
+            is_header = ih;
+            params = take_whole y.vars (length b.method.params) (n.param_count b y ih);
+            all_params = count;
+            in_scope =
+                subst (λ (X : List Variable). InScope p h (record new { vars = X }) no_views y.vars (at_start b y).scope)
+                (sym (take_values y.vars values))
+                (n.entry h V name b y o values ib ih r filled (count_args c.vars y.vars args qs values af pf al) nn
+                (λ z m. args_real args values pf z m) ai);
+            operands = no_opds;
+          };
+        };
+      }
 
 -- which body is entered: one with the signature of the typing's
 pub method_known : {p : Program} {h : Heap} {f : Frame} {x : Header} {vs : List Var} {s : Scope}

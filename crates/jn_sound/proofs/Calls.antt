@@ -49,7 +49,7 @@ pub record Taken (p : Program) (h : Heap) (s : Scope) (v : Views) (n : ℕ) (bef
   pub pairs : PairsFit p h s v args values
   pub fit : OperandsFit p h s v rest others
 
-same_pair : {A B : Type 0} (x y : A × B) → Some x ≡ Some y → (x.0 ≡ y.0) × (x.1 ≡ y.1)
+pub same_pair : {A B : Type 0} (x y : A × B) → Some x ≡ Some y → (x.0 ≡ y.0) × (x.1 ≡ y.1)
 same_pair {A} {B} x y e = let z : x ≡ y = cc in (ap {B = A} (λ (u : A × B). u.0) z, ap {B = B} (λ (u : A × B). u.1) z)
 
 no_pair : {A : Type 0} (a : A) → None ≡ Some a → ⊥
@@ -182,7 +182,7 @@ void_subst s f ty.Null = refl
 void_subst s f ty.Void = refl
 
 -- a final one of class type has a view
-path_seen : (p : Program) (h : Heap) (v : Views) (t : Ty) (y : Variable) → IsIn p v h t y.value
+pub path_seen : (p : Program) (h : Heap) (v : Views) (t : Ty) (y : Variable) → IsIn p v h t y.value
     → is_class t ≡ true → y.var.fixed ≡ true → is_class y.var.ty ≡ true
     → is_null_path y ≡ false → IsSome (view_in y.value)
 path_seen p h v t y i c f k n = at y.value (object_value p h v t y.value c i) null where

@@ -43,12 +43,12 @@ abbrev pub also : ℕ → Option Path → Views → Views
 also q V w r = cond (nat_eq r q) V (w r)
 
 -- views of the frame, with one more
-at_new : (f : Frame) (q : ℕ) (V : Option Path) (w : Views) → 256 ≤ q → all_views f (also q V w) q ≡ V
+pub at_new : (f : Frame) (q : ℕ) (V : Option Path) (w : Views) → 256 ≤ q → all_views f (also q V w) q ≡ V
 at_new f q V w l =
     ap (λ (b : Bool). cond b (frame_views f q) (cond (nat_eq q q) V (w q))) (le-ltb q 256 l) ∙ ap
     (λ (b : Bool). cond b V (w q)) (eq-eqb q q refl)
 
-at_other : (f : Frame) (q r : ℕ) (V : Option Path) (w : Views) → (r ≡ q → ⊥)
+pub at_other : (f : Frame) (q r : ℕ) (V : Option Path) (w : Views) → (r ≡ q → ⊥)
     → all_views f (also q V w) r ≡ all_views f w r
 at_other f q r V w other =
     ap (λ (x : Option Path). cond (nat_lt r 256) (frame_views f r) x) (by (nat_eq r q) refl) where

@@ -108,6 +108,14 @@ pub record Laws (p : Program) : Type 0 where
       → AreIn p (frame_of (record { class = b.class; method = b.method; vars = x.vars }) (Reference o V) args) h
       → InScope p h (frame_of (record { class = b.class; method = b.method; vars = x.vars })
       (Reference o V) args) no_views x.vars (at_start b x).scope
+  -- and so does one of a class above the receiver's, where its header has no sharing constraint
+  pub entry_above : (h : Heap) (V B : Path) (m : Name) (b : Body) (x : Header) (o : ℕ) (args : List Value)
+      → IsBody p B m b → Sup p V B → b.method.sharing ≡ [] → IsHeader p b x → RefersTo p h o V
+      → ((g : Name) → HasField p V g → HasValue p h o V g) → length args ≡ length x.vars
+      → has_null_path (with_values x.vars args) ≡ false → ((y : Value) → Among args y → IsReal p h y)
+      → AreIn p (frame_of (record { class = b.class; method = b.method; vars = x.vars }) (Reference o V) args) h
+      → InScope p h (frame_of (record { class = b.class; method = b.method; vars = x.vars })
+      (Reference o V) args) no_views x.vars (at_start b x).scope
   -- each body of the program fits where it begins
   pub body_fits : (V : Path) (m : Name) (b : Body) (x : Header) → IsClass p V → IsBody p V m b → IsHeader p b x
       → Fits p (body_in b x) (stmts_acts (length x.vars) (suc (length x.vars)) b.method.body []) x.vars

@@ -14,6 +14,12 @@ pub mod Puts
 pub mod Steps
 pub mod Decides
 pub mod Locals
+pub mod Assigned
+pub mod Assigns
+pub mod Makes
+pub mod FreshPaths
+pub mod MakesWith
+pub mod Supers
 pub mod Entered
 pub mod Accepted
 pub mod NewObjects
@@ -24,4 +30,5 @@ pub mod Start
 pub mod Theorem
 pub mod Extras
 pub mod SharedViews
+pub mod NullViews
 pub mod Forms

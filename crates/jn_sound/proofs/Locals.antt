@@ -206,7 +206,7 @@ take_whole {A} (x ∷ xs) (suc n) e = ap (λ (l : List A). x ∷ l) (take_whole 
   down : {m n : ℕ} → suc m ≡ suc n → m ≡ n
   down e = omega (arith, e)
 
-count_declared : (xs : List Variable) → length (declared_vars xs) ≡ length xs
+pub count_declared : (xs : List Variable) → length (declared_vars xs) ≡ length xs
 count_declared [] = refl
 count_declared (x ∷ xs) = ap suc (count_declared xs)
 

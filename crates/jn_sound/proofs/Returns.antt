@@ -50,7 +50,7 @@ use Rattle.jn_rules.specs.Headers.{Header}
 use Rattle.jn_rule_laws.specs.LawsOfHeaders.{ResultIs}
 use Rattle.jn_laws.specs.LawsOfWritten.{HeaderPath, HeaderPaths, of_this as is_this, of_param as is_param}
 
-among_take_var : (n : ℕ) (xs : List Var) (y : Var) → Among (take n xs) y → Among xs y
+pub among_take_var : (n : ℕ) (xs : List Var) (y : Var) → Among (take n xs) y → Among xs y
 among_take_var zero xs y a = elim a [ ]
 among_take_var (suc n) [] y a = elim a [ ]
 among_take_var (suc n) (x ∷ xs) _ first = first

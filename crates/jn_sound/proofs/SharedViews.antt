@@ -183,10 +183,10 @@ shared_at {p} {h} {f} {x} {vs} {s} {ops} {w} n hf capacity k term t y q c root i
 
 -- ---- null
 
-data NullIs : Value → Type 0 where
+pub data NullIs : Value → Type 0 where
   null_value : NullIs Null
 
-is_null_value : (p : Program) (h : Heap) (v : Views) (z : Value) → IsIn p v h ty.Null z → NullIs z
+pub is_null_value : (p : Program) (h : Heap) (v : Views) (z : Value) → IsIn p v h ty.Null z → NullIs z
 is_null_value p h v _ null = null_value
 
 pub null_view_at : {p : Program} {h : Heap} {f : Frame} {x : Header} {vs : List Var} {s : Scope} {ops : List Opd}

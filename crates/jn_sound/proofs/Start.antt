@@ -112,7 +112,7 @@ bare_works {p} {h} n hf V m b vars o ib np y ih e r filled =
 not_stuck_depth : NotStuck Depth
 not_stuck_depth w e = cc
 
-not_stuck_arena : NotStuck Arena
+pub not_stuck_arena : NotStuck Arena
 not_stuck_arena w e = cc
 
 -- what a step of the start leads to

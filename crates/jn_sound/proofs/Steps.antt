@@ -16,7 +16,7 @@ use Rattle.jn_sound.specs.Sound.{HeapFits, one, body_of, Stays, LeavesFit, Left}
 use Rattle.jn_sound.proofs.Laws.{Laws}
 use Rattle.jn_sound.specs.Takes.{Typing, typing}
 use Rattle.jn_sound.specs.Sound.{StandsAt, GivesBack}
-use Rattle.jn_sound.specs.Takes.{Moves, same, named, wider, unseen, Takes, push, this, read, invert, negate, operate, get, call, shared, null_view, put, local, print_number, print_truth, print_text}
+use Rattle.jn_sound.specs.Takes.{Moves, same, named, wider, unseen, Takes, push, this, read, invert, negate, operate, get, call, shared, null_view, null_on_path, put, local, assign, make, make_with, super, print_number, print_truth, print_text}
 use Rattle.jn_sound.specs.Steps.{entered, GoesAt, CallsAt, DidAt, Standing}
 use Rattle.jn_sem.specs.Acts.{Return, todo}
 use Rattle.std.specs.Prelude.{false, true}
@@ -29,6 +29,11 @@ use Rattle.jn_sound.proofs.Acts.{literal_fits}
 use Rattle.jn_sound.proofs.Simple.{read_at, invert_at, negate_at, operate_at, print_number_at, print_truth_at}
 use Rattle.jn_sound.proofs.SharedViews.{shared_at, null_view_at}
 use Rattle.jn_sound.proofs.Puts.{put_at}
+use Rattle.jn_sound.proofs.Assigns.{assign_at}
+use Rattle.jn_sound.proofs.Makes.{make_at}
+use Rattle.jn_sound.proofs.MakesWith.{make_with_at}
+use Rattle.jn_sound.proofs.NullViews.{null_on_path_at}
+use Rattle.jn_sound.proofs.Supers.{super_at}
 use Rattle.jn_sound.proofs.Locals.{local_at}
 use Rattle.jn_sem.specs.Does.{prints, missing}
 use Rattle.jn_steps.specs.Numbers.{line_of}
@@ -93,9 +98,16 @@ takes_did n m k (call name count keeps t q qs args c i free e af kf fits) hf a =
     call_at n hf m k name count keeps t q qs args c i free e af kf fits a.stands
 takes_did n m k (shared term t y q c root is sh fits) hf a = shared_at n hf m k term t y q c root is sh fits a.stands
 takes_did n m k (null_view term y q root is fits) hf a = null_view_at n hf m k term y q root is fits a.stands
+takes_did n m k (null_on_path term y q hp long is fits) hf a = null_on_path_at hf m k term y q hp long is fits a.stands
 takes_did n m k (put y t q r c i) hf a = put_at n hf m k y t q r c i a.stands
 takes_did n m k (local fixed term y path t q is small free fits hp) hf a =
     local_at n hf m k fixed term y path t q is small free fits hp a.stands
+takes_did n m k (assign y v q e may) hf a = assign_at n hf m k y v q e may a.stands
+takes_did n m k (make term keeps y is new fits) hf a = make_at n hf m k term keeps y is new fits a.stands
+takes_did n m k (make_with term count keeps y q qs args c is new b unused e af fits) hf a =
+    make_with_at n hf m k term count keeps y q qs args c is new b unused e af fits a.stands
+takes_did n m k (super term y count keeps qs args c is class higher callee none e af kf fits) hf a =
+    super_at n hf m k term y count keeps qs args c is class higher callee none e af kf fits a.stands
 takes_did n m k (print_number q) hf a = print_number_at hf m k q a.stands
 takes_did n m k (print_truth q) hf a = print_truth_at hf m k q a.stands
 takes_did {p} {f = f} {vs = vs} n m k (print_text t y e) hf a =

@@ -1,5 +1,5 @@
 -- What is known at a place, and what an act takes of it and gives.
-use Rattle.std.specs.Prelude.{◌≡◌, ◌<◌, ◌≤◌, ℕ, suc, List, [], ◌∷◌, ◌++◌, Bool, true, false, ◌&&◌, not, cond, Option, Some, None}
+use Rattle.std.specs.Prelude.{length, ◌≡◌, ◌<◌, ◌≤◌, ℕ, suc, List, [], ◌∷◌, ◌++◌, Bool, true, false, ◌&&◌, not, cond, Option, Some, None}
 use Rattle.jn_base.specs.declared.tree.Name.{Name}
 use Rattle.jn_base.specs.declared.tree.TypeTerm.{TypeTerm}
 use Rattle.jn_base.specs.declared.tree.Program.{Program}
@@ -7,26 +7,30 @@ use Rattle.jn_base.specs.declared.types.Ty.{Ty}
 use Rattle.jn_base.specs.declared.types.Ty.TheVariants as ty
 use Rattle.jn_base.specs.declared.names.Var.{Var}
 use Rattle.jn_base.specs.Atoms.{Among}
-use Rattle.jn_base.specs.Scopes.{Scope, Binds}
+use Rattle.jn_base.specs.Scopes.{Bind, Scope, Binds, bound}
 use Rattle.jn_base.specs.Fits.{TypeFits}
 use Rattle.jn_base.specs.ResolveTypes.{mask_names}
 use Rattle.jn_base.specs.Resolve.{is_class, var_named}
 use Rattle.jn_sem.specs.Normal.{swapped}
 use Rattle.jn_base.specs.declared.tree.ViewTerm.{ViewTerm}
-use Rattle.jn_base.specs.declared.types.Anchor.TheVariants.{Root}
-use Rattle.jn_base.specs.Atoms.{atom_of}
+use Rattle.jn_base.specs.declared.types.Anchor.TheVariants.{Root, Up}
+use Rattle.jn_base.specs.Atoms.{Atom, atoms_in, atom_of}
 use Rattle.jn_sem.specs.Terms.{ViewIs}
 use Rattle.jn_rules.specs.Questions.{SharingGives}
 use Rattle.jn_rules.specs.Plans.{Target, target_type, Holding}
 use Rattle.jn_sem.specs.NormalFunction.{subst_type, normal_type}
 use Rattle.jn_sem.specs.Values.{Value, Number, Truth, Null, Masked}
 use Rattle.jn_sem.specs.Below.{Below}
-use Rattle.jn_sem.specs.Terms.{TypeIs}
-use Rattle.jn_sem.specs.Acts.{Act, Push, Read, This, Invert, Negate, Operate, Get, Call, Bind as BindAct, View, Put, Print, PrintText}
-use Rattle.jn_sem.specs.Does.{var}
+use Rattle.jn_sem.specs.Terms.{TypeIs, TermIs, SuperBound}
+use Rattle.jn_base.specs.Supers.{Sup}
+use Rattle.jn_sem.specs.Sharing.{IsClass}
+use Rattle.jn_base.specs.declared.tree.Term.{Term}
+use Rattle.jn_base.specs.declared.names.Role.TheVariants as role
+use Rattle.jn_sem.specs.Acts.{Act, Push, Read, This, Invert, Negate, Operate, Get, Call, Make, Super, Bind as BindAct, Assign, View, Put, Print, PrintText}
+use Rattle.jn_sem.specs.Does.{Body, IsConstructorBody, var}
 use Rattle.jn_rules.specs.Plans.{FoundField}
 use Rattle.jn_rules.specs.Questions.{IsFoundField, masks_of}
-use Rattle.jn_rules.specs.Exprs.{bind, path_type, replaced_paths, takes, takes_both, operator_type}
+use Rattle.jn_rules.specs.Exprs.{bind, path_type, replaced_paths, takes, takes_both, operator_type, made_exact}
 use Rattle.jn_base.specs.declared.tree.Op.{Op}
 use Rattle.jn_base.specs.declared.tree.Op.TheVariants as op
 use Rattle.jn_base.specs.declared.tree.Text.{Text}
@@ -34,7 +38,8 @@ use Rattle.std.specs.Prelude.{slice_get}
 use Rattle.jn_sem.specs.Terms.{Site}
 use Rattle.jn_laws.specs.LawsOfWritten.{HeaderPaths}
 use Rattle.jn_rules.specs.Stmts.{In, is_void}
-use Rattle.jn_sound.specs.Callees.{Callee, IsCalled}
+use Rattle.jn_sound.specs.Callees.{Callee, IsCallee, IsCalled, header_of}
+use Rattle.jn_rule_laws.specs.LawsOfHeaders.{IsHeader}
 
 -- an operand that is had: its type, and its path, where it is a path expression or has a fresh path
 pub record Opd : Type 0 where
@@ -109,6 +114,44 @@ decides op.And = true
 decides op.Or = true
 decides o = false
 
+-- `this` and the variables have a path each
+abbrev pub OwnPaths : List Var → Type 0
+OwnPaths [] = Unit {0}
+OwnPaths (v ∷ vs) = OwnPaths vs × ((u : Var) → Among vs u → u.path ≡ v.path → ⊥) × (v.path ≡ 0 → ⊥)
+
+-- A variable that may be assigned: it isn't `final`, it is in scope with the type of its declaration, and no type of the
+-- scope mentions it.
+pub record Assignable (vs : List Var) (s : Scope) (v : Var) : Type 0 where
+  pub not_final : v.fixed ≡ false
+  pub own : OwnPaths vs
+  pub paths : HeaderPaths vs v.ty
+  pub among : Among s (bind v.path v.ty)
+  pub unmentioned : (b : Bind) (x : Atom) (q k : ℕ) → Among s b → Among (atoms_in b.ty) x → x.anchor ≡ Up q k
+      → q ≡ v.path → ⊥
+
+-- What `new T` makes, where T stands for the atom a, which hangs on no path: its bound, a class whose constructor, if it has
+-- one, has no parameters.
+pub record NewClass (p : Program) (s : Scope) (a : Atom) : Type 0 where
+  pub root : a.anchor ≡ Root
+  pub class : IsClass p (bound s a)
+  pub no_params : (b : Body) → IsConstructorBody p (bound s a) b → b.method.params ≡ []
+
+-- a fresh path that nothing mentions: no type in scope, and none of these operands
+pub record Unused (s : Scope) (q : ℕ) (ops : List Opd) : Type 0 where
+  pub fresh : 256 ≤ q
+  pub scope : (b : Bind) (x : Atom) (r k : ℕ) → Among s b → Among (atoms_in b.ty) x → x.anchor ≡ Up r k → r ≡ q → ⊥
+  pub types : (o : Opd) (x : Atom) (r k : ℕ) → Among ops o → Among (atoms_in o.ty) x → x.anchor ≡ Up r k → r ≡ q → ⊥
+  pub paths : (o : Opd) → Among ops o → o.path ≡ Some q → ⊥
+
+-- What `new T(..)` makes and calls, where T stands for the atom a, which hangs on no path: its bound, a class, by the
+-- constructor c.
+pub record NewBy (p : Program) (s : Scope) (a : Atom) (c : Callee) : Type 0 where
+  pub root : a.anchor ≡ Root
+  pub class : IsClass p (bound s a)
+  pub body : IsConstructorBody p (bound s a) c.body
+  pub header : IsHeader p c.body (header_of c)
+  pub no_result : c.result ≡ ty.Void
+
 -- an operator that takes both operands and gives a value of its type
 pub record Operates (o : Op) (t u : Ty) : Type 0 where
   pub left : takes o t ≡ true
@@ -160,6 +203,12 @@ pub data Takes (p : Program) (b : In) (vs : List Var) : Act → Typing → List 
       → ViewIs p (site_of_body b vs) term (atom_of x.atom) → TypeFits s (normal_type s (target_type x))
       → Takes p b vs (View term) (typing s (opd ty.Null q ∷ ops)) vs
       (typing s (opd (normal_type s (target_type x)) None ∷ ops))
+  -- and at one that hangs on `this` or a `final` variable of class type
+  null_on_path : {s : Scope} {ops : List Opd} (term : ViewTerm) (x : Target) (q : Option ℕ)
+      → HeaderPaths vs (target_type x) → 0 < length (bound s (atom_of x.atom))
+      → ViewIs p (site_of_body b vs) term (atom_of x.atom) → TypeFits s (normal_type s (target_type x))
+      → Takes p b vs (View term) (typing s (opd ty.Null q ∷ ops)) vs
+      (typing s (opd (normal_type s (target_type x)) None ∷ ops))
   -- a field gets a value of its type, masked or not; the masks stay
   put : {s : Scope} {ops : List Opd} (f : Name) (t : Ty) (q : ℕ) (r : Option ℕ) (c : FoundField)
       → IsFoundField p s t f c
@@ -170,6 +219,33 @@ pub data Takes (p : Program) (b : In) (vs : List Var) : Act → Typing → List 
       → TypeIs p (site_of_body b vs) term t → path < 256 → (Binds s path → ⊥) → TypeFits s t → HeaderPaths vs t
       → Takes p b vs (BindAct fixed term x path) (typing s (opd t q ∷ ops)) (vs ++ local_var fixed x path t ∷ [])
       (typing (bind path t ∷ s) ops)
+  -- A variable gets a value of its type. Nothing is known of operands behind.
+  assign : {s : Scope} {ops : List Opd} (x : Name) (v : Var) (q : Option ℕ) → var_named (record { list = vs }) x ≡ Some v
+      → Assignable vs s v → Takes p b vs (Assign x) (typing s (opd v.ty q ∷ ops)) vs (typing s [])
+  -- a new object, which is kept or not
+  make : {s : Scope} {ops : List Opd} (term : Term) (keeps : Bool) (a : Atom)
+      → TermIs p role.New (site_of_body b vs) term a → NewClass p s a → TypeFits s (normal_type s (made_exact a))
+      → Takes p b vs (Make term 0 keeps) (typing s ops) vs
+      (typing s (cond keeps (opd (normal_type s (made_exact a)) None ∷ ops) ops))
+  -- With arguments: the fresh path of the object stands for `this` in the types of the parameters.
+  make_with : {s : Scope} {before ops : List Opd} (term : Term) (count : ℕ) (keeps : Bool) (a : Atom) (q : ℕ)
+      (qs : List ℕ) (args : List Opd) (c : Callee)
+      → TermIs p role.New (site_of_body b vs) term a → NewBy p s a c
+      → Among s (bind q (normal_type s (made_exact a))) → Unused s q before
+      → opds_of count [] before ≡ Some (args, ops) → ArgsFit s (replaced_paths c.vars) (q ∷ qs) c.vars args qs
+      → TypeFits s (normal_type s (made_exact a))
+      → Takes p b vs (Make term count keeps) (typing s before) vs
+      (typing s (cond keeps (opd (normal_type s (made_exact a)) (Some q) ∷ ops) ops))
+  -- The least body at the bound of a term that is above this class; here one whose header has no sharing constraint.
+  super : {s : Scope} {before ops : List Opd} (term : Term) (m : Name) (count : ℕ) (keeps : Bool) (qs : List ℕ)
+      (args : List Opd) (c : Callee)
+      → SuperBound p (site_of_body b vs) term c.bound → IsClass p c.bound → Sup p b.class c.bound → IsCallee p m c
+      → c.body.method.sharing ≡ []
+      → opds_of count [] before ≡ Some (args, ops) → ArgsFit s (replaced_paths c.vars) (0 ∷ qs) c.vars args qs
+      → (is_void c.result ≡ true → keeps ≡ false)
+      → TypeFits s (subst_type s (swapped (replaced_paths c.vars) (0 ∷ qs)) c.result)
+      → Takes p b vs (Super term m count keeps) (typing s before) vs
+      (typing s (with_result keeps (subst_type s (swapped (replaced_paths c.vars) (0 ∷ qs)) c.result) ops))
   print_number : {s : Scope} {ops : List Opd} (q : Option ℕ)
       → Takes p b vs Print (typing s (opd ty.Int q ∷ ops)) vs (typing s ops)
   print_truth : {s : Scope} {ops : List Opd} (q : Option ℕ)
