@@ -244,7 +244,7 @@ module _ (p : Program) (n : Naming) (scratch : ℕ) (code : Code) where
   -- ---- statements: `path` is the number of the next local, and the local itself
 
   -- a final local of class type must not be null
-  abbrev binding : Bool → Ty → ℕ → List Instr
+  abbrev pub binding : Bool → Ty → ℕ → List Instr
   binding true t q = on_class (is_class t) q
     where
       on_class : Bool → ℕ → List Instr

@@ -17,7 +17,7 @@ use Rattle.jn_sem.proofs.SharedLaws.{sharing_laws}
 use Rattle.jn_agree.specs.Naming.{Naming, First, IsWord}
 use Rattle.jn_agree.specs.Matches.{World, Matches, Blocks, CellsOf, SlotNumber, HasWord, ObjectAt}
 use Rattle.jn_agree.specs.Rows.{RowsAre}
-use Rattle.jn_match_laws.proofs.RowLaws.{none_there, got_same, below}
+use Rattle.jn_match_laws.proofs.RowLaws.{none_there, got_same, below, block_low}
 
 -- ---- blocks
 
@@ -95,6 +95,32 @@ apart i n (z ∷ zs) (k ∷ ks) from end (suc o) zero x y c d ne b e f g h =
     }
 apart i n (z ∷ zs) (k ∷ ks) from end (suc o) (suc q) x y c d ne b e f g h =
     apart i n zs ks (from + b.2) end o q x y c d (λ s. ne (ap suc s)) b.4 e f g h
+
+-- a later object has another first cell
+behind : (i : Image) (n : Naming) (z : Object) (zs : List Object) (k : First) (ks : List First) (from end q : ℕ)
+    (c d : First) → Blocks i n (z ∷ zs) (k ∷ ks) from end → Some k ≡ Some c → slice_get ks q ≡ Some d
+    → c.cell ≡ d.cell → ⊥
+behind i n z zs k ks from end q c d b e f same =
+    let found = block_low i n zs ks (from + b.2) end q d b.4 f in
+    let r = block_at i n zs ks (from + b.2) end q found.0 d b.4 found.1 f in
+    let at : c.cell ≡ from = ap (λ (d : First). d.cell) (sym (got_same k c e)) ∙ b.0 in
+    let low = r.low in
+    let size = b.3.cells in
+    omega (arith, at, low, size, same)
+
+-- one first cell, one object
+pub one_object : (i : Image) (n : Naming) (xs : List Object) (cs : List First) (from end o q : ℕ) (c d : First)
+    → Blocks i n xs cs from end → slice_get cs o ≡ Some c → slice_get cs q ≡ Some d → c.cell ≡ d.cell → o ≡ q
+one_object i n [] [] from end o q c d b e f same = absurd (none_there o c e)
+one_object i n [] (k ∷ ks) from end o q c d b e f same = absurd b
+one_object i n (z ∷ zs) [] from end o q c d b e f same = absurd b
+one_object i n (z ∷ zs) (k ∷ ks) from end zero zero c d b e f same = refl
+one_object i n (z ∷ zs) (k ∷ ks) from end zero (suc q) c d b e f same =
+    absurd (behind i n z zs k ks from end q c d b e f same)
+one_object i n (z ∷ zs) (k ∷ ks) from end (suc o) zero c d b e f same =
+    absurd (behind i n z zs k ks from end o d c b f e (sym same))
+one_object i n (z ∷ zs) (k ∷ ks) from end (suc o) (suc q) c d b e f same =
+    ap suc (one_object i n zs ks (from + b.2) end o q c d b.4 e f same)
 
 -- the blocks are those of the classes alone
 blocks_set : (i : Image) (n : Naming) (xs : List Object) (cs : List First) (from end o : ℕ) (x y : Object)

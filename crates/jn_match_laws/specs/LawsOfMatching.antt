@@ -26,6 +26,9 @@ pub record MatchingOf (p : Program) (i : Image) (n : Naming) : Type 0 where
   pub viewed : (V W : Path) (k f cell : ℕ) (Y : Name) → cell < 4294967296 → slice_get n.classes k ≡ Some V
       → slice_get n.classes f ≡ Some (Y ∷ []) → Counterpart p Y V W
       → (j : ℕ) × (viewed i f (ref_word k cell) ≡ Some (ref_word j cell)) × (slice_get n.classes j ≡ Some W)
+  -- objects with one first cell are one
+  pub one : (x : World) (a : List ℤ) (o q : ℕ) (c d : First) → Matches p i n x a → slice_get x.firsts o ≡ Some c
+      → slice_get x.firsts q ≡ Some d → c.cell ≡ d.cell → o ≡ q
   -- A slot gets a value, and its cell, found by the view and the field, the value's word: the arena still matches.
   pub stored : (x : World) (a : List ℤ) (o : ℕ) (y : Object) (c : First) (V : Path) (f : Name) (s : Slot) (m : ℕ)
       (v : Value) (z : ℤ)

@@ -74,10 +74,10 @@ module _ (p : Program) (i : Image) (n : Naming) (m : ℕ) (K : Knows) (T : Type 
       (λ (x : MethodSel). x.shape) n.methods s ∙ ap (option_map (λ (x : MethodSel). x.shape)) e
 
   -- what the frame does once the result is there
-  back : (b : ℕ) (here : Site) (t : T) (keeps : Bool) (q : Frame) (shape : Shape) (k : List Todo) (s e w : ℕ) →
+  pub back : (b : ℕ) (here : Site) (t : T) (keeps : Bool) (q : Frame) (shape : Shape) (k : List Todo) (s e w : ℕ) →
       ResultGoes q.method.result shape.result → Run it.instrs (dropping keeps shape.result) s e →
-      Cont p i n m K T Stands code r b here t k e w
-      → (f : Frame) (vs : List Value) (x : World) (lv zs : List ℤ) → f.todo ≡ k → Placed p n r here
+      Cont p i n m K T Stands code it r b here t k e w
+      → (f : Frame) (vs : List Value) (x : World) (lv zs : List ℤ) → f.todo ≡ k → Placed p n it r here
       (record f { vals = vs }) x lv zs
       → Waits p i n m blank (Next p i n m K T Stands code it there r here t b) q
       (record f { vals = vs; keeps = keeps }) x (active code s lv zs true) (suc w)
@@ -87,15 +87,16 @@ module _ (p : Program) (i : Image) (n : Naming) (m : ℕ) (K : Knows) (T : Type 
       L : Going
       L = Next p i n m K T Stands code it there r here t b
 
-      placed_y : (us : List Value) (us2 : List ℤ) → WordsAre p n y.firsts us us2 → Placed p n r here
+      placed_y : (us : List Value) (us2 : List ℤ) → WordsAre p n y.firsts us us2 → Placed p n it r here
           (record f { vals = us; keeps = keeps }) y lv us2
       placed_y us us2 ws =
-          let e = placed_on p n r here (record f { vals = vs }) x y lv zs on placed in
+          let e = placed_on p n it r here (record f { vals = vs }) x y lv zs on placed in
           record {
             class = e.class;
             method = e.method;
             result = e.result;
             scope = e.scope;
+            long = e.long;
             this = e.this;
             locals =
                 e.locals;
@@ -194,9 +195,9 @@ module _ (p : Program) (i : Image) (n : Naming) (m : ℕ) (K : Knows) (T : Type 
       → At it.instrs s (ins.Call j) → Run it.instrs (dropping keeps shape.result) (s + 1) e → MethodOf n name j shape
       → length shape.params ≡ num
       → ((f : Frame) (h : Heap) → Stands u f h → CallsWell p name num shape h f.vals) →
-      LeadsTo p i n m K T Stands code r here (Call name num keeps) k u t
-      → Cont p i n m K T Stands code r b here t k e (20 + w)
-      → Cont p i n m K T Stands code r (suc b) here u (todo (length here.vars) (Call name num keeps) ∷ k) s
+      LeadsTo p i n m K T Stands code it r here (Call name num keeps) k u t
+      → Cont p i n m K T Stands code it r b here t k e (20 + w)
+      → Cont p i n m K T Stands code it r (suc b) here u (todo (length here.vars) (Call name num keeps) ∷ k) s
       (3 * num + w)
   call b here u t name num keeps j shape k s e w at runs sel many facts leads h =
       node p i n m K T Stands code it there r b here u t (Call name num keeps) k s (3 * num + w) leads
@@ -281,7 +282,7 @@ module _ (p : Program) (i : Image) (n : Naming) (m : ℕ) (K : Knows) (T : Type 
         result = placed.result;
         waits = back b here t keeps (entered en (v ∷ y.0)) shape k (s + 1) e
             (20 + w) calls.result runs h f us x lv rw.rest ft
-            (with_operands p n r here f us f.todo x lv zs rw.rest placed (record { are = rw.others }));
+            (with_operands p n it r here f us f.todo x lv zs rw.rest placed (record { are = rw.others }));
       }))))))))
     where
       sel_is : MethodSel

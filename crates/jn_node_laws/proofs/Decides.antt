@@ -29,10 +29,10 @@ module _ (p : Program) (i : Image) (n : Naming) (m : ℕ) (K : Knows) (T : Type 
     (code : ℕ) (it : Code) (there : slice_get i.codes code ≡ Some it) (r : Frame) where
   pub decide : (b : ℕ) (here : Site) (u if_so if_not : T) (and : Bool) (e : Expr) (k : List Todo) (s t w : ℕ) →
       At it.instrs s (deciding and t) → At it.instrs t (decided_by and)
-      → LeadsByTruth p i n m K T Stands code r here (Decide and e) k u (λ v. either if_so if_not (same_truth and v))
-      → Cont p i n m K T Stands code r b here if_so (acts (length here.vars) e k) (s + 1) (20 + w) →
-      Cont p i n m K T Stands code r b here if_not k (t + 1) (20 + w)
-      → Cont p i n m K T Stands code r (suc b) here u (todo (length here.vars) (Decide and e) ∷ k) s w
+      → LeadsByTruth p i n m K T Stands code it r here (Decide and e) k u (λ v. either if_so if_not (same_truth and v))
+      → Cont p i n m K T Stands code it r b here if_so (acts (length here.vars) e k) (s + 1) (20 + w) →
+      Cont p i n m K T Stands code it r b here if_not k (t + 1) (20 + w)
+      → Cont p i n m K T Stands code it r (suc b) here u (todo (length here.vars) (Decide and e) ∷ k) s w
   decide b here u0 if_so if_not and e k s t w first second leads right left = record {
     by = λ f x a vars vals keeps ft placed ma st.
         subst (λ (todo : List Todo). LocalAt p i n m K r (suc b) todo f x (active code s vars vals keeps) a w) (sym ft)
@@ -50,7 +50,7 @@ module _ (p : Program) (i : Image) (n : Naming) (m : ℕ) (K : Knows) (T : Type 
         (active code s vars vals keeps) a w d
         (leads f x.heap d u us st (vus ∙ ap (λ (z : Value). z ∷ us) is) does)
         (at_truth and u refl f1 x a vars vals rw.rest keeps us d refl
-        (with_operands p n r here (trimmed here f) f.vals k x vars vals vals placed placed.operands) ma
+        (with_operands p n it r here (trimmed here f) f.vals k x vars vals vals placed placed.operands) ma
         (rw.is ∙ ap (λ (z : ℤ). z ∷ rw.rest) word.is) rw.others step))));
   } where
     Raw : (right : Bool) → World → Did → (vars vals : List ℤ) → Bool → List ℤ → Type 0
@@ -60,7 +60,7 @@ module _ (p : Program) (i : Image) (n : Naming) (m : ℕ) (K : Knows) (T : Type 
 
     -- the right operand is still to act
     goes_right : (f : Frame) (x : World) (a vars vals zs : List ℤ) (keeps u : Bool) (vs : List Value) (d : Did) →
-        f.todo ≡ k → Placed p n r here f x vars vals → Matches p i n x a → WordsAre p n x.firsts vs zs
+        f.todo ≡ k → Placed p n it r here f x vars vals → Matches p i n x a → WordsAre p n x.firsts vs zs
         → move i m (active code s vars vals keeps) a ≡ Goes (active code (s + 1) vars zs keeps) a [] →
         decided f e vs x.heap u true d → Raw true x d vars vals keeps a
     goes_right f x a vars vals zs keeps u vs d ft placed ma ws mv does =
@@ -73,11 +73,11 @@ module _ (p : Program) (i : Image) (n : Naming) (m : ℕ) (K : Knows) (T : Type 
         (comes p i n m K T Stands code it there r _ a _ 1 mv (omega arith)) (omega arith) placed.result ma
         (goes_on p i n m K T Stands code it there r b here if_so (acts (length here.vars) e k) (s + 1)
         (20 + w) right f2 x a vars zs keeps same
-        (with_operands p n r here f vs f2.todo x vars vals zs placed (record { are = ws })) ma)
+        (with_operands p n it r here f vs f2.todo x vars vals zs placed (record { are = ws })) ma)
 
     -- the left one is the value
     goes_left : (f : Frame) (x : World) (a vars vals zs : List ℤ) (keeps u : Bool) (vs : List Value) (d : Did) →
-        f.todo ≡ k → Placed p n r here f x vars vals → Matches p i n x a → WordsAre p n x.firsts vs zs
+        f.todo ≡ k → Placed p n it r here f x vars vals → Matches p i n x a → WordsAre p n x.firsts vs zs
         → move i m (active code s vars vals keeps) a ≡ Goes (active code t vars zs keeps) a [] → move i m
         (active code t vars zs keeps) a ≡ Goes (active code (t + 1) vars (word_of u ∷ zs) keeps) a [] →
         decided f e vs x.heap u false d → Raw false x d vars vals keeps a
@@ -89,7 +89,7 @@ module _ (p : Program) (i : Image) (n : Naming) (m : ℕ) (K : Knows) (T : Type 
         (comes p i n m K T Stands code it there r _ a _ 1 mv2 (omega arith))) (omega arith) placed.result ma
         (goes_on p i n m K T Stands code it there r b here if_not k (t + 1) (20 + w) left f2 x a vars
         (word_of u ∷ zs) keeps ft
-        (with_operands p n r here f (Truth u ∷ vs) f.todo x vars vals (word_of u ∷ zs) placed
+        (with_operands p n it r here f (Truth u ∷ vs) f.todo x vars vals (word_of u ∷ zs) placed
         (record { are = (record { is = refl }, ws) })) ma)
 
     jumped : (s0 : ℕ) (y : Instr) (vars vals zs a : List ℤ) (keeps u : Bool) (g : machine.Frame) →
@@ -98,7 +98,7 @@ module _ (p : Program) (i : Image) (n : Naming) (m : ℕ) (K : Knows) (T : Type 
     jumped s0 y vars vals zs a keeps u g e mv = ap (λ (l : List ℤ). move i m (active code s0 vars l keeps) a) e ∙ mv
 
     at_truth : (a2 u : Bool) → and ≡ a2 → (f : Frame) (x : World) (a vars vals zs : List ℤ) (keeps : Bool)
-        (vs : List Value) (d : Did) → f.todo ≡ k → Placed p n r here f x vars vals → Matches p i n x a →
+        (vs : List Value) (d : Did) → f.todo ≡ k → Placed p n it r here f x vars vals → Matches p i n x a →
         vals ≡ word_of u ∷ zs → WordsAre p n x.firsts vs zs
         → decided f e vs x.heap u (same_truth a2 u) d → Raw (same_truth a2 u) x d vars vals keeps a
     at_truth true true ea f x a vars vals zs keeps vs d ft placed ma vz ws does =

@@ -168,9 +168,9 @@ module _ (p : Program) (i : Image) (n : Naming) (m : ℕ) (K : Knows) (T : Type 
   pub get : (b : ℕ) (here : Site) (u t : T) (field : Name) (j kind : ℕ) (k : List Todo) (s w : ℕ) → At it.instrs s
       (ins.Get j) → FieldOf n field j kind
       → ((f : Frame) (h : Heap) → Stands u f h → ReadsWell p field kind h f.vals) →
-      LeadsTo p i n m K T Stands code r here (Get field) k u t
-      → Cont p i n m K T Stands code r b here t k (s + 1) (20 + w)
-      → Cont p i n m K T Stands code r (suc b) here u (todo (length here.vars) (Get field) ∷ k) s w
+      LeadsTo p i n m K T Stands code it r here (Get field) k u t
+      → Cont p i n m K T Stands code it r b here t k (s + 1) (20 + w)
+      → Cont p i n m K T Stands code it r (suc b) here u (todo (length here.vars) (Get field) ∷ k) s w
   get b here u t field j kind k s w at sel facts leads h =
       node p i n m K T Stands code it there r b here u t (Get field) k s w leads (ReadsWell p field kind) facts
       (λ f x a vars vals keeps ft placed ma fact d step.
@@ -199,7 +199,7 @@ module _ (p : Program) (i : Image) (n : Naming) (m : ℕ) (K : Knows) (T : Type 
       subst (λ (vals : List ℤ). Follows p i n m blank (Next p i n m K T Stands code it there r here t b) r d x
       (active code s vars vals keeps) a w) (sym whole)
       (at_value f x a vars rw.rest keeps o V us is.0 is.1 ft2 sl sv d ft
-      (subst (λ (vals : List ℤ). Placed p n r here f x vars vals) whole placed) ma rw.others is.2 is.3 is.4
+      (subst (λ (vals : List ℤ). Placed p n it r here f x vars vals) whole placed) ma rw.others is.2 is.3 is.4
       only.is onlys.is val known.kind (known.stored sl sv onlys.is val) step)))))))
     where
       null_got : (s0 : ℕ) (vars vals zs a : List ℤ) (keeps : Bool) → vals ≡ pos 0 ∷ zs → move i m
@@ -210,7 +210,7 @@ module _ (p : Program) (i : Image) (n : Naming) (m : ℕ) (K : Knows) (T : Type 
 
       -- the value is there
       at_value : (f : Frame) (x : World) (a vars zs : List ℤ) (keeps : Bool) (o : ℕ) (V : Path) (vs : List Value)
-          (kv : ℕ) (y : First) (ty : Ty) (sl : Slot) (v : Value) (d : Did) → f.todo ≡ k → Placed p n r here f x vars
+          (kv : ℕ) (y : First) (ty : Ty) (sl : Slot) (v : Value) (d : Did) → f.todo ≡ k → Placed p n it r here f x vars
           (ref_word kv y.cell ∷ zs) → Matches p i n x a → WordsAre p n x.firsts vs zs
           → slice_get n.classes kv ≡ Some V → slice_get x.firsts o ≡ Some y → Related p y.made V →
           FieldType p V field ty → IsSlot p V field sl → slot_value x.heap o sl ≡ Some v → FieldKind ty kind →
@@ -255,6 +255,6 @@ module _ (p : Program) (i : Image) (n : Naming) (m : ℕ) (K : Knows) (T : Type 
           (omega arith)) (omega arith) placed.result ma
           (goes_on p i n m K T Stands code it there r b here t k (s + 1) (20 + w) h f2 x a vars
           (reads.word ∷ zs) keeps ft
-          (with_operands p n r here f (v2 ∷ vs) f.todo x vars (ref_word kv y.cell ∷ zs) (reads.word ∷ zs) placed
+          (with_operands p n it r here f (v2 ∷ vs) f.todo x vars (ref_word kv y.cell ∷ zs) (reads.word ∷ zs) placed
           (record { are = (reads.stands, ws) })) ma))
           step

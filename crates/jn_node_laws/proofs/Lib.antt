@@ -10,4 +10,11 @@ pub mod Decides
 pub mod Loops
 pub mod News
 pub mod Prints
+pub mod Variables
+pub mod Ends
+pub mod Chooses
+pub mod Operates
+pub mod Binds
+pub mod Assigns
+pub mod Supers
 pub mod Laws

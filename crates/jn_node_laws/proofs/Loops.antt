@@ -29,7 +29,7 @@ use Rattle.jn_node_laws.proofs.Nodes.{none_some, typed, Next, moved, goes_on, go
 module _ (p : Program) (i : Image) (n : Naming) (m : ℕ) (K : Knows) (T : Type 0) (Stands : T → Frame → Heap → Type 0)
     (code : ℕ) (it : Code) (there : slice_get i.codes code ≡ Some it) (r : Frame) where
   abbrev Go : ℕ → Site → T → List Todo → ℕ → ℕ → Type 0
-  Go = Cont p i n m K T Stands code r
+  Go = Cont p i n m K T Stands code it r
 
   pub less : (b : ℕ) (here : Site) (t : T) (k : List Todo) (s w : ℕ) → Go (suc b) here t k s w → Go b here t k s w
   less b here t k s w h = record {
@@ -61,7 +61,7 @@ module _ (p : Program) (i : Image) (n : Naming) (m : ℕ) (K : Knows) (T : Type 
 
   pub repeat : (b : ℕ) (here : Site) (u0 if_so if_not : T) (path : ℕ) (e : Expr) (body : List Stmt) (k : List Todo)
       (s t w : ℕ) → At it.instrs s (ins.Jfalse t)
-      → LeadsByTruth p i n m K T Stands code r here (Repeat path e body) k u0 (either if_so if_not)
+      → LeadsByTruth p i n m K T Stands code it r here (Repeat path e body) k u0 (either if_so if_not)
       → Go b here if_so (stmts_acts (length here.vars) path body
       (acts (length here.vars) e (todo (length here.vars) (Repeat path e body) ∷ k))) (s + 1) (20 + w) →
       Go b here if_not k t (20 + w)
@@ -82,12 +82,12 @@ module _ (p : Program) (i : Image) (n : Naming) (m : ℕ) (K : Knows) (T : Type 
         typed p i n m K T Stands code it there r b here (either if_so if_not u) x (active code s lv zs kp) a w d
         (leads f x.heap d u us st (vus ∙ ap (λ (z : Value). z ∷ us) is) step0)
         (at_truth u f1 x a lv zs rw.rest kp us d refl
-        (with_operands p n r here (trimmed here f) f.vals k x lv zs zs placed placed.operands) ma
+        (with_operands p n it r here (trimmed here f) f.vals k x lv zs zs placed placed.operands) ma
         (rw.is ∙ ap (λ (z : ℤ). z ∷ rw.rest) word.is) rw.others step))));
   }
     where
       at_truth : (u : Bool) (f : Frame) (x : World) (a lv zs below : List ℤ) (kp : Bool) (us : List Value) (d : Did) →
-          f.todo ≡ k → Placed p n r here f x lv zs → Matches p i n x a → zs ≡ word_of u ∷ below →
+          f.todo ≡ k → Placed p n it r here f x lv zs → Matches p i n x a → zs ≡ word_of u ∷ below →
           WordsAre p n x.firsts us below → goes_with f us (repeated f path e body u) x.heap d
           → Follows p i n m blank (Next p i n m K T Stands code it there r here (either if_so if_not u) b) r d x
           (active code s lv zs kp) a w
@@ -106,7 +106,7 @@ module _ (p : Program) (i : Image) (n : Naming) (m : ℕ) (K : Knows) (T : Type 
           (λ (zs : List ℤ). obey i m (ins.Jfalse t) (active code s lv zs kp) a) zw) (omega arith))
           (omega arith) placed.result ma
           (goes_on p i n m K T Stands code it there r b here if_so _ (s + 1) (20 + w) again f2 x a lv below kp same
-          (with_operands p n r here f us f2.todo x lv zs below placed (record { are = ws })) ma)
+          (with_operands p n it r here f us f2.todo x lv zs below placed (record { are = ws })) ma)
       at_truth false f x a lv zs below kp us d ft placed ma zw ws step =
           let f2 : Frame = record f { vals = us } in
           goes_in p i n m K T Stands code it there r b here if_not x f2 [] (active code s lv zs kp)
@@ -116,12 +116,12 @@ module _ (p : Program) (i : Image) (n : Naming) (m : ℕ) (K : Knows) (T : Type 
           (λ (zs : List ℤ). obey i m (ins.Jfalse t) (active code s lv zs kp) a) zw) (omega arith))
           (omega arith) placed.result ma
           (goes_on p i n m K T Stands code it there r b here if_not k t (20 + w) past f2 x a lv below kp ft
-          (with_operands p n r here f us f.todo x lv zs below placed (record { are = ws })) ma)
+          (with_operands p n it r here f us f.todo x lv zs below placed (record { are = ws })) ma)
 
   -- a whole loop, from what its condition and its body are
   pub loop : (here : Site) (u v if_so if_not : T) (path : ℕ) (e : Expr) (body : List Stmt) (k : List Todo)
       (s l o w : ℕ) → At it.instrs l (ins.Jfalse (o + 1)) → At it.instrs o (ins.Jump s)
-      → LeadsByTruth p i n m K T Stands code r here (Repeat path e body) k v (either if_so if_not)
+      → LeadsByTruth p i n m K T Stands code it r here (Repeat path e body) k v (either if_so if_not)
       → ((b : ℕ) (k : List Todo) (w : ℕ) → Go b here v k l w → Go b here u (acts (length here.vars) e k) s w)
       → ((b : ℕ) (k : List Todo) (w : ℕ) → Go b here u k o w → Go b here if_so
       (stmts_acts (length here.vars) path body k) (l + 1) w)

@@ -96,9 +96,9 @@ module _ (p : Program) (i : Image) (n : Naming) (m : ℕ) (K : Knows) (T : Type 
 
   -- behind it: the reference is the value, or is dropped. What the constructor gives back comes nowhere.
   behind : (b : ℕ) (here : Site) (t0 : T) (keeps : Bool) (q : Frame) (k : List Todo) (s t w : ℕ) → Run it.instrs
-      (dropping keeps 3) s t → Cont p i n m K T Stands code r b here t0 k t w
+      (dropping keeps 3) s t → Cont p i n m K T Stands code it r b here t0 k t w
       → (f : Frame) (us : List Value) (v : Value) (x : World) (lv zs : List ℤ) (z : ℤ) → f.todo ≡ k →
-      Placed p n r here (record f { vals = us }) x lv zs → IsWord p n x.firsts v z
+      Placed p n it r here (record f { vals = us }) x lv zs → IsWord p n x.firsts v z
       → Waits p i n m blank (Next p i n m K T Stands code it there r here t0 b) q
       (waiting false f (kept keeps v us)) x (active code s lv (z ∷ zs) false) (suc w)
   behind b here t0 keeps q k s t w runs h f us v x lv zs z ft placed vz y a rv ru on ma hb gb = at_result rv ru
@@ -109,8 +109,8 @@ module _ (p : Program) (i : Image) (n : Naming) (m : ℕ) (K : Knows) (T : Type 
       went : (vs : List Value) (zs2 : List ℤ) → WordsAre p n x.firsts vs zs2 → L
           (record f { vals = vs; keeps = false }) y (active code t lv zs2 false) a w
       went vs zs2 ws =
-          let e = placed_on p n r here (record f { vals = vs; todo = f.todo }) x y lv zs2 on
-          (with_operands p n r here (record f { vals = us }) vs f.todo x lv zs zs2 placed (record { are = ws })) in
+          let e = placed_on p n it r here (record f { vals = vs; todo = f.todo }) x y lv zs2 on
+          (with_operands p n it r here (record f { vals = us }) vs f.todo x lv zs zs2 placed (record { are = ws })) in
           goes_on p i n m K T Stands code it there r b here t0 k t w h
           (record f { vals = vs; keeps = false }) y a lv zs2 false ft
           (record {
@@ -118,6 +118,7 @@ module _ (p : Program) (i : Image) (n : Naming) (m : ℕ) (K : Knows) (T : Type 
             method = e.method;
             result = e.result;
             scope = e.scope;
+            long = e.long;
             this = e.this;
             locals = e.locals;
             operands = e.operands;
@@ -148,7 +149,7 @@ module _ (p : Program) (i : Image) (n : Naming) (m : ℕ) (K : Knows) (T : Type 
     -- (which class the term makes is what a view's target is; here it has a constructor)
     pub make : (b : ℕ) (here : Site) (u0 t0 : T) (t : Term) (C : Name) (P : Path) (kx j num : ℕ) (group : Group)
         (shape : Shape) (keeps : Bool) (k : List Todo) (s e w : ℕ) → m < 4294967296
-        → ((f : Frame) (x : World) (lv zs : List ℤ) → Placed p n r here f x lv zs → (V : Path) → Only
+        → ((f : Frame) (x : World) (lv zs : List ℤ) → Placed p n it r here f x lv zs → (V : Path) → Only
         (IsNewClass p f t) V → V ≡ C ∷ P) → slice_get n.classes kx ≡ Some (C ∷ P)
         → ((row : ClassRow) → RowOf i n (C ∷ P) kx row → (numbered row.group ≡ Some row.group) ×
         (slice_get i.groups row.group ≡ Some group)) →
@@ -156,9 +157,9 @@ module _ (p : Program) (i : Image) (n : Naming) (m : ℕ) (K : Knows) (T : Type 
         → At it.instrs s (ins.Cls kx) → At it.instrs (s + 1) ins.New → At it.instrs (s + 1 + 1) (ins.Ctor j) →
         Run it.instrs (dropping keeps 3) (s + 1 + 1 + 1) e → MethodOf n C j shape → length shape.params ≡ num
         → ((b : Body) → IsBody p (C ∷ P) C b → HasShape p b shape) →
-        (((b : Body) → Only (IsConstructorBody p (C ∷ P)) b → ⊥) → ⊥) → LeadsTo p i n m K T Stands code r here
-        (Make t num keeps) k u0 t0 → Cont p i n m K T Stands code r b here t0 k e (15 + w)
-        → Cont p i n m K T Stands code r (suc b) here u0 (todo (length here.vars) (Make t num keeps) ∷ k) s
+        (((b : Body) → Only (IsConstructorBody p (C ∷ P)) b → ⊥) → ⊥) → LeadsTo p i n m K T Stands code it r here
+        (Make t num keeps) k u0 t0 → Cont p i n m K T Stands code it r b here t0 k e (15 + w)
+        → Cont p i n m K T Stands code it r (suc b) here u0 (todo (length here.vars) (Make t num keeps) ∷ k) s
         (3 * num + w)
     make b here u0 t0 t C P kx j num group shape keeps k s e w mm is_new cls grp sized at_cls at_new at_ctor runs sel
         many typed has_ctor leads h =
@@ -181,7 +182,7 @@ module _ (p : Program) (i : Image) (n : Naming) (m : ℕ) (K : Knows) (T : Type 
         (args_long num [] f.vals y is) class (sized size sz.is) fr.is step))))))
       where
         at_ctor_of : (f : Frame) (x : World) (a lv zs : List ℤ) (kp : Bool) (d : Did) (args vs : List Value)
-            (size : ℕ) (fresh : List Stored) → f.todo ≡ k → Placed p n r here f x lv zs → Matches p i n x a →
+            (size : ℕ) (fresh : List Stored) → f.todo ≡ k → Placed p n it r here f x lv zs → Matches p i n x a →
             (words below : List ℤ) → ((go : List ℤ → List ℤ → machine.Did) →
             on_args machine.Stuck num [] zs go ≡ go words below) → WordsAre p n x.firsts args words →
             WordsAre p n x.firsts vs below → length args ≡ 0 + num
@@ -317,8 +318,8 @@ module _ (p : Program) (i : Image) (n : Naming) (m : ℕ) (K : Knows) (T : Type 
                       (record { class = body.class; method = body.method; vars = vars })
                       (Reference (length x.heap.objects) (C ∷ P) ∷ args)) k (s + 1 + 1 + 1) e (15 + w) runs h f vs
                       (Reference (length x.heap.objects) (C ∷ P)) z lv below ref ft
-                      (placed_on p n r here (record f { vals = vs }) x z lv below on
-                      (with_operands p n r here f vs f.todo x lv zs below placed (record { are = bws })))
+                      (placed_on p n it r here (record f { vals = vs }) x z lv below on
+                      (with_operands p n it r here f vs f.todo x lv zs below placed (record { are = bws })))
                       object_word;
                 })
 

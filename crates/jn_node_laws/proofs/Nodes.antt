@@ -55,13 +55,15 @@ words_on p n x y [] (z ∷ zs) on e = e
 words_on p n x y (v ∷ vs) [] on e = e
 words_on p n x y (v ∷ vs) (z ∷ zs) on e = (word_on p n x y v z on e.0, words_on p n x y vs zs on e.1)
 
-pub placed_on : (p : Program) (n : Naming) (r : Frame) (here : Site) (f : Frame) (x y : World) (vars vals : List ℤ) →
-    Onward x y → Placed p n r here f x vars vals → Placed p n r here f y vars vals
-placed_on p n r here f x y vars vals on e = record {
+pub placed_on : (p : Program) (n : Naming) (it : Code) (r : Frame) (here : Site) (f : Frame) (x y : World)
+    (vars vals : List ℤ) →
+    Onward x y → Placed p n it r here f x vars vals → Placed p n it r here f y vars vals
+placed_on p n it r here f x y vars vals on e = record {
   class = e.class;
   method = e.method;
   result = e.result;
   scope = e.scope;
+  long = e.long;
   this = (e.this.0, e.this.1, word_on p n x y f.this e.this.0 on e.this.2);
   locals = λ v among. let l = e.locals v among in (l.0, l.1, word_on p n x y v.value l.0 on l.2);
   operands = record { are = words_on p n x y f.vals vals on e.operands.are };
@@ -75,22 +77,25 @@ take_all f [] (suc n) e = refl
 take_all f (x ∷ xs) zero e = cc
 take_all f (x ∷ xs) (suc n) e = ap (λ (ys : List _). x ∷ ys) (take_all f xs n (omega (arith, e)))
 
-pub retrimmed : (p : Program) (n : Naming) (r : Frame) (here : Site) (f : Frame) (x : World) (vars vals : List ℤ) →
-    Placed p n r here f x vars vals → Placed p n r here (trimmed here f) x vars vals
-retrimmed p n r here f x vars vals e =
+pub retrimmed : (p : Program) (n : Naming) (it : Code) (r : Frame) (here : Site) (f : Frame) (x : World)
+    (vars vals : List ℤ) →
+    Placed p n it r here f x vars vals → Placed p n it r here (trimmed here f) x vars vals
+retrimmed p n it r here f x vars vals e =
     let whole : take (length here.vars) f.vars ≡ f.vars = take_all (λ (v : Variable). v.var) f.vars (length here.vars)
     (ap (λ (vs : List Var). length vs) (sym e.scope)) in
-    subst (λ (vs : List Variable). Placed p n r here (record f { vars = vs }) x vars vals) (sym whole) e
+    subst (λ (vs : List Variable). Placed p n it r here (record f { vars = vs }) x vars vals) (sym whole) e
 
 -- other operands
-pub with_operands : (p : Program) (n : Naming) (r : Frame) (here : Site) (f : Frame) (vs : List Value) (k : List Todo)
-    (x : World) (vars vals zs : List ℤ) → Placed p n r here f x vars vals → AreWords p n x.firsts vs zs →
-    Placed p n r here (record f { vals = vs; todo = k }) x vars zs
-with_operands p n r here f vs k x vars vals zs e ws = record {
+pub with_operands : (p : Program) (n : Naming) (it : Code) (r : Frame) (here : Site) (f : Frame) (vs : List Value)
+    (k : List Todo)
+    (x : World) (vars vals zs : List ℤ) → Placed p n it r here f x vars vals → AreWords p n x.firsts vs zs →
+    Placed p n it r here (record f { vals = vs; todo = k }) x vars zs
+with_operands p n it r here f vs k x vars vals zs e ws = record {
   class = e.class;
   method = e.method;
   result = e.result;
   scope = e.scope;
+  long = e.long;
   this = e.this;
   locals = e.locals;
   operands = ws;
@@ -102,10 +107,10 @@ module _ (p : Program) (i : Image) (n : Naming) (m : ℕ) (K : Knows) (T : Type 
   c = it.instrs
 
   abbrev pub Go : ℕ → Site → T → List Todo → ℕ → ℕ → Type 0
-  Go = Cont p i n m K T Stands code r
+  Go = Cont p i n m K T Stands code it r
 
   abbrev pub Next : Site → T → ℕ → Frame → World → machine.Frame → List ℤ → ℕ → Type 0
-  Next = Then p i n m K T Stands code r
+  Next = Then p i n m K T Stands code it r
 
   abbrev pub frame : ℕ → List ℤ → List ℤ → Bool → machine.Frame
   frame s vars vals keeps = active code s vars vals keeps
@@ -120,16 +125,16 @@ module _ (p : Program) (i : Image) (n : Naming) (m : ℕ) (K : Knows) (T : Type 
 
   -- what is behind an act goes on
   pub goes_on : (b : ℕ) (here : Site) (t : T) (k : List Todo) (s w : ℕ) → Go b here t k s w → (f : Frame) (x : World)
-      (a vars vals : List ℤ) (keeps : Bool) → f.todo ≡ k → Placed p n r here f x vars vals → Matches p i n x a →
+      (a vars vals : List ℤ) (keeps : Bool) → f.todo ≡ k → Placed p n it r here f x vars vals → Matches p i n x a →
       Next here t b f x (frame s vars vals keeps) a w
   goes_on b here t k s w h f x a vars vals keeps e placed ma st = h.by f x a vars vals keeps e
-      (retrimmed p n r here f x vars vals placed) ma st
+      (retrimmed p n it r here f x vars vals placed) ma st
 
   -- ---- one node
 
   -- What typing adds: where the instructions do what the act does, and the act leads to the typing, all is shown.
   pub typed : (b : ℕ) (here : Site) (t : T) (x : World) (g : machine.Frame) (a : List ℤ) (w : ℕ) (d : Did)
-      → Led p i n m K T Stands code r t d → Follows p i n m blank (Next here t b) r d x g a w → Follows p i n m K
+      → Led p i n m K T Stands code it r t d → Follows p i n m blank (Next here t b) r d x g a w → Follows p i n m K
       (Local p i n m K r b) r d x g a w
   typed b here t x g a w (Goes f2 h bytes) led l = record {
     firsts = l.firsts;
@@ -176,16 +181,16 @@ module _ (p : Program) (i : Image) (n : Naming) (m : ℕ) (K : Knows) (T : Type 
   typed b here t x g a w (Faults o) led l = l
 
   pub node : (b : ℕ) (here : Site) (u t : T) (act : Act) (k : List Todo) (s w : ℕ) →
-      LeadsTo p i n m K T Stands code r here act k u t
+      LeadsTo p i n m K T Stands code it r here act k u t
       → (Fact : Heap → List Value → Type 0) → ((f : Frame) (h : Heap) → Stands u f h → Fact h f.vals)
-      → Shows p i n m K T Stands code r Fact b here t act k s w → Go (suc b) here u
+      → Shows p i n m K T Stands code it r Fact b here t act k s w → Go (suc b) here u
       (todo (length here.vars) act ∷ k) s w
   node b here u t act k s w leads Fact facts shows = record {
     by = λ f x a vars vals keeps e placed ma st.
         subst (λ (todo : List Todo). LocalAt p i n m K r (suc b) todo f x (frame s vars vals keeps) a w) (sym e)
         (λ d does. typed b here t x (frame s vars vals keeps) a w d (leads f x.heap d st does)
         (shows (acting (todo (length here.vars) act) k f) x a vars vals keeps refl
-        (with_operands p n r here (trimmed here f) f.vals k x vars vals vals placed placed.operands) ma
+        (with_operands p n it r here (trimmed here f) f.vals k x vars vals vals placed placed.operands) ma
         (facts f x.heap st) d does));
   }
 
@@ -255,7 +260,7 @@ module _ (p : Program) (i : Image) (n : Naming) (m : ℕ) (K : Knows) (T : Type 
       WordsAre p n x.firsts vs zs
   top f x vs zs e ws = subst (λ (vs : List Value). WordsAre p n x.firsts vs zs) e ws.are
 
-  pub wide : (here : Site) (f : Frame) (x : World) (vars vals : List ℤ) → Placed p n r here f x vars vals →
+  pub wide : (here : Site) (f : Frame) (x : World) (vars vals : List ℤ) → Placed p n it r here f x vars vals →
       length f.vars ≡ length here.vars
   wide here f x vars vals placed = long f.vars ∙ ap (λ (vs : List Var). length vs) placed.scope
     where

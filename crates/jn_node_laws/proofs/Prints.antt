@@ -30,7 +30,7 @@ module _ (p : Program) (i : Image) (n : Naming) (m : ℕ) (K : Knows) (T : Type 
     (code : ℕ) (it : Code) (there : slice_get i.codes code ≡ Some it) (r : Frame) where
   pub print : (b : ℕ) (here : Site) (u t : T) (x : Instr) (k : List Todo) (s w : ℕ) → At it.instrs s x
       → ((f : Frame) (h : Heap) → Stands u f h → PrintsWell x h f.vals)
-      → LeadsTo p i n m K T Stands code r here Print k u t → Go p i n m K T Stands code it there r b here t k (s + 1)
+      → LeadsTo p i n m K T Stands code it r here Print k u t → Go p i n m K T Stands code it there r b here t k (s + 1)
       (20 + w)
       → Go p i n m K T Stands code it there r (suc b) here u (todo (length here.vars) Print ∷ k) s w
   print b here u t x k s w at facts leads h =
@@ -48,7 +48,7 @@ module _ (p : Program) (i : Image) (n : Naming) (m : ℕ) (K : Knows) (T : Type 
       -- what is printed is the line of the value
       shows : (f : Frame) (y : World) (a vars vals : List ℤ) (keeps : Bool) (d : Did) (us : List Value) (z : ℤ)
           (zs : List ℤ) (bytes : List ℕ) → f.todo ≡ k
-          → Placed p n r here f y vars vals → Matches p i n y a → vals ≡ z ∷ zs → WordsAre p n y.firsts us zs
+          → Placed p n it r here f y vars vals → Matches p i n y a → vals ≡ z ∷ zs → WordsAre p n y.firsts us zs
           → obey i m x (active code s vars (z ∷ zs) keeps) a ≡ Goes (active code (s + 1) vars zs keeps) a bytes
           → d ≡ Goes (record f { vals = us }) y.heap bytes
           → Follows p i n m blank (Next p i n m K T Stands code it there r here t b) r d y
@@ -61,7 +61,7 @@ module _ (p : Program) (i : Image) (n : Naming) (m : ℕ) (K : Knows) (T : Type 
 
       of_value : (f : Frame) (y : World) (a vars vals : List ℤ) (keeps : Bool) (d : Did) (v : Value) (us : List Value)
           (z : ℤ) (zs : List ℤ) → f.todo ≡ k
-          → Placed p n r here f y vars vals → Matches p i n y a → vals ≡ z ∷ zs → IsWord p n y.firsts v z →
+          → Placed p n it r here f y vars vals → Matches p i n y a → vals ≡ z ∷ zs → IsWord p n y.firsts v z →
           WordsAre p n y.firsts us zs
           → PrintsValue x v → prints_value f v us y.heap d
           → Follows p i n m blank (Next p i n m K T Stands code it there r here t b) r d y

@@ -64,9 +64,9 @@ module _ (p : Program) (i : Image) (n : Naming) (m : ℕ) (K : Knows) (T : Type 
   pub put : (b : ℕ) (here : Site) (u t : T) (field : Name) (j kind : ℕ) (k : List Todo) (s w : ℕ) → At it.instrs s
       (ins.Put j) → FieldOf n field j kind
       → ((f : Frame) (h : Heap) → Stands u f h → WritesWell p field kind h f.vals) →
-      LeadsTo p i n m K T Stands code r here (Put field) k u t
-      → Cont p i n m K T Stands code r b here t k (s + 1) (20 + w)
-      → Cont p i n m K T Stands code r (suc b) here u (todo (length here.vars) (Put field) ∷ k) s w
+      LeadsTo p i n m K T Stands code it r here (Put field) k u t
+      → Cont p i n m K T Stands code it r b here t k (s + 1) (20 + w)
+      → Cont p i n m K T Stands code it r (suc b) here u (todo (length here.vars) (Put field) ∷ k) s w
   put b here u t field j kind k s w at sel facts leads h =
       node p i n m K T Stands code it there r b here u t (Put field) k s w leads (WritesWell p field kind) facts
       (λ f x a lv zs kp ft placed ma fact d step.
@@ -98,7 +98,7 @@ module _ (p : Program) (i : Image) (n : Naming) (m : ℕ) (K : Knows) (T : Type 
     where
       at_test : (f : Frame) (x : World) (a lv zs : List ℤ) (kp : Bool) (d : Did) (v : Value) (vs : List Value)
           (u z : ℤ) (rest : List ℤ) (o : ℕ) (V : Path) (ft2 : Ty) (sl : Slot) (y : Object) → f.todo ≡ k →
-          Placed p n r here f x lv zs → Matches p i n x a → zs ≡ u ∷ (z ∷ rest) → IsWord p n x.firsts v u →
+          Placed p n it r here f x lv zs → Matches p i n x a → zs ≡ u ∷ (z ∷ rest) → IsWord p n x.firsts v u →
           IsWord p n x.firsts (Reference o V) z → WordsAre p n x.firsts vs rest
           → FieldType p V field ft2 → FieldKind ft2 kind → IsSlot p V field sl → slice_get x.heap.objects o ≡ Some y →
           OnTest (IsIn p (this_viewed V) x.heap ft2 v) foreign
@@ -159,8 +159,8 @@ module _ (p : Program) (i : Image) (n : Naming) (m : ℕ) (K : Knows) (T : Type 
             matches = ma2;
             result = placed.result;
             goes_on = goes_on p i n m K T Stands code it there r b here t k (s + 1) (20 + w) h f2 z2 a2 lv rest kp ft
-                (placed_on p n r here f2 x z2 lv rest on
-                (with_operands p n r here f vs f.todo x lv zs rest placed (record { are = ws }))) ma2;
+                (placed_on p n it r here f2 x z2 lv rest on
+                (with_operands p n it r here f vs f.todo x lv zs rest placed (record { are = ws }))) ma2;
           })
         where
           moved_words : (f : Frame) (x : World) (a lv zs : List ℤ) (kp : Bool) (u : ℤ) (kv cell : ℕ) (rest : List ℤ)

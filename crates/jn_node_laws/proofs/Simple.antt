@@ -50,12 +50,13 @@ module _ (p : Program) (i : Image) (n : Naming) (m : ℕ) (K : Knows) (T : Type 
   Then = Next p i n m K T Stands code it there r
 
   abbrev Leads : Site → Act → List Todo → T → T → Type 0
-  Leads = LeadsTo p i n m K T Stands code r
+  Leads = LeadsTo p i n m K T Stands code it r
 
   -- one instruction changes the operands as the act does, and prints the same
   pub changes : (b : ℕ) (here : Site) (t : T) (k : List Todo) (s w : ℕ) (x : Instr) → At it.instrs s x →
       Cont b here t k (s + 1) (20 + w)
-      → (f : Frame) (y : World) (a vars vals : List ℤ) (keeps : Bool) → f.todo ≡ k → Placed p n r here f y vars vals →
+      → (f : Frame) (y : World) (a vars vals : List ℤ) (keeps : Bool) → f.todo ≡ k →
+      Placed p n it r here f y vars vals →
       Matches p i n y a
       → (vs : List Value) (zs : List ℤ) (bytes : List ℕ) → AreWords p n y.firsts vs zs
       → obey i m x (active code s vars vals keeps) a ≡ Goes (active code (s + 1) vars zs keeps) a bytes
@@ -70,9 +71,9 @@ module _ (p : Program) (i : Image) (n : Naming) (m : ℕ) (K : Knows) (T : Type 
       (omega arith) placed.result ma
       (goes_on p i n m K T Stands code it there r b here t k (s + 1) (20 + w) h
       (record f { vals = vs }) y a vars zs keeps ft
-      (with_operands p n r here f vs f.todo y vars vals zs placed ws) ma)
+      (with_operands p n it r here f vs f.todo y vars vals zs placed ws) ma)
 
-  abbrev no_fact : Heap → List Value → Type 0
+  abbrev pub no_fact : Heap → List Value → Type 0
   no_fact h vs = Unit {0}
 
   -- a constant
@@ -123,7 +124,8 @@ module _ (p : Program) (i : Image) (n : Naming) (m : ℕ) (K : Knows) (T : Type 
   -- one operand is replaced by another
   turns : (b : ℕ) (here : Site) (t : T) (k : List Todo) (s w : ℕ) (x : Instr) → At it.instrs s x → Cont b here t k
       (s + 1) (20 + w)
-      → (f : Frame) (y : World) (a vars vals : List ℤ) (keeps : Bool) → f.todo ≡ k → Placed p n r here f y vars vals →
+      → (f : Frame) (y : World) (a vars vals : List ℤ) (keeps : Bool) → f.todo ≡ k →
+      Placed p n it r here f y vars vals →
       Matches p i n y a
       → (v v2 : Value) (us : List Value) → f.vals ≡ v ∷ us → (new : ℤ → ℤ) →
       ((z : ℤ) → IsWord p n y.firsts v z → IsWord p n y.firsts v2 (new z))

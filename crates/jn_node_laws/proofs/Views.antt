@@ -87,7 +87,7 @@ module _ (p : Program) (i : Image) (n : Naming) (m : ℕ) (K : Knows) (T : Type 
       (λ (row : ClassRow). on_some machine.Null (viewed i row.family z) of_word) rowed
       ∙ some_goes machine.Null (viewed i row.family z) word of_word turned
 
-  site_is : (here : Site) (f : Frame) (x : World) (lv zs : List ℤ) → Placed p n r here f x lv zs → here ≡ site_of f
+  site_is : (here : Site) (f : Frame) (x : World) (lv zs : List ℤ) → Placed p n it r here f x lv zs → here ≡ site_of f
   site_is here f x lv zs e =
       ap (λ (c : Path). let t : Site = record { class = c; method = here.method; vars = here.vars } in t) (sym e.class)
       ∙ ap (λ (k : Name). let t : Site = record { class = f.class; method = k; vars = here.vars } in t) (sym e.method)
@@ -97,10 +97,10 @@ module _ (p : Program) (i : Image) (n : Naming) (m : ℕ) (K : Knows) (T : Type 
   pub view : (b : ℕ) (here : Site) (u t : T) (v : ViewTerm) (atom : Atom) (Y : Name) (kx : ℕ) (k : List Todo)
       (s w : ℕ) → ViewIs p here v atom → atom.anchor ≡ Root
       → slice_get n.classes kx ≡ Some (atom.names ++ atom.exact) → family_of (atom.names ++ atom.exact) ≡ Some Y
-      → At it.instrs s (ins.Cls kx) → At it.instrs (s + 1) ins.Conv → LeadsTo p i n m K T Stands code r here
+      → At it.instrs s (ins.Cls kx) → At it.instrs (s + 1) ins.Conv → LeadsTo p i n m K T Stands code it r here
       (View v) k u t
-      → Cont p i n m K T Stands code r b here t k (s + 1 + 1) (20 + w)
-      → Cont p i n m K T Stands code r (suc b) here u (todo (length here.vars) (View v) ∷ k) s w
+      → Cont p i n m K T Stands code it r b here t k (s + 1 + 1) (20 + w)
+      → Cont p i n m K T Stands code it r (suc b) here u (todo (length here.vars) (View v) ∷ k) s w
   view b here u t v atom Y kx k s w is root cls fam at_cls at_conv leads h =
       node p i n m K T Stands code it there r b here u t (View v) k s w leads (λ h vs. Unit {0}) (λ f h st. tt)
       (λ f x a lv zs kp ft placed ma fact d step.
@@ -135,5 +135,5 @@ module _ (p : Program) (i : Image) (n : Naming) (m : ℕ) (K : Knows) (T : Type 
       (omega arith) placed.result ma
       (goes_on p i n m K T Stands code it there r b here t k (s + 1 + 1) (20 + w) h f2 x a lv
       (turned.word ∷ rw.rest) kp ft
-      (with_operands p n r here f (v2 ∷ us) f.todo x lv zs (turned.word ∷ rw.rest) placed
+      (with_operands p n it r here f (v2 ∷ us) f.todo x lv zs (turned.word ∷ rw.rest) placed
       (record { are = (turned.stands, rw.others) })) ma)) step)))

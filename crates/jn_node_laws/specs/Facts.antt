@@ -1,15 +1,24 @@
 -- What the instructions of an act rely on besides words: facts of its operands, which typing gives.
-use Rattle.std.specs.Prelude.{◌≡◌, ℕ, suc, List, [], ◌∷◌, Option, Some, None}
+use Rattle.std.specs.Prelude.{◌≡◌, ◌≢◌, ◌<◌, ℕ, suc, List, [], ◌∷◌, ◌++◌, length, Option, Some, None, slice_get}
 use Rattle.jn_base.specs.declared.tree.Name.{Name}
+use Rattle.jn_base.specs.declared.tree.Text.{Text}
+use Rattle.jn_base.specs.declared.tree.Op.{Op}
+use Rattle.jn_base.specs.declared.tree.Op.TheVariants as op
 use Rattle.jn_base.specs.declared.tree.Program.{Program}
 use Rattle.jn_base.specs.declared.types.Ty.{Ty}
 use Rattle.jn_base.specs.declared.types.Ty.TheVariants as ty
 use Rattle.jn_base.specs.Paths.{Path}
+use Rattle.jn_base.specs.Atoms.{Among}
+use Rattle.jn_base.specs.declared.names.Var.{Var}
+use Rattle.jn_sem.specs.Terms.{Site}
+use Rattle.jn_code.specs.declared.image.Code.{Code}
 use Rattle.jn_sem.specs.Values.{Value, Number, Truth, Null, Reference}
 use Rattle.jn_sem.specs.Slots.{Slot, IsSlot, FieldType}
-use Rattle.jn_sem.specs.State.{Heap, slot_value}
+use Rattle.jn_sem.specs.State.{Heap, Frame, slot_value}
 use Rattle.jn_base.specs.declared.tree.TypeTerm.{TypeTerm}
 use Rattle.jn_code.specs.declared.image.Shape.{Shape}
+use Rattle.jn_code.specs.declared.image.Text as image
+use Rattle.jn_code.specs.declared.image.Image.{Image}
 use Rattle.jn_code.specs.declared.instr.Instr.{Instr}
 use Rattle.jn_code.specs.declared.instr.Instr.TheVariants as ins
 use Rattle.jn_sem.specs.Does.{Body, IsBody, args_of}
@@ -68,3 +77,47 @@ PrintsValue x (Reference o V) = Unit {0}
 -- so it is with the latest operand
 abbrev pub PrintsWell : Instr → Heap → List Value → Type 0
 PrintsWell x h vals = (v : Value) (us : List Value) → vals ≡ v ∷ us → PrintsValue x v
+
+-- the image's text of that number has the bytes of the program's
+pub record SameText (i : Image) (number : ℕ) (text : Text) : Type 0 where
+  pub own : image.Text
+  pub there : slice_get i.texts number ≡ Some own
+  pub same : own.bytes ≡ text.bytes
+
+abbrev pub HasText : Program → Image → ℕ → Type 0
+HasText p i number = (text : Text) → slice_get p.texts number ≡ Some text → SameText i number text
+
+-- numbers are compared by EQI, truth values by EQB, null and references by EQR
+abbrev pub ComparedBy : Instr → Value → Type 0
+ComparedBy x (Number z) = x ≡ ins.Eqi
+ComparedBy x (Truth b) = x ≡ ins.Eqb
+ComparedBy x Null = x ≡ ins.Eqr
+ComparedBy x (Reference o V) = x ≡ ins.Eqr
+
+-- what is asked of the operands of `==` and `!=` alone
+abbrev pub IfCompares : Op → Type 0 → Type 0
+IfCompares op.Eq P = P
+IfCompares op.Ne P = P
+IfCompares _ P = Unit {0}
+
+-- the latest operand is compared by this instruction, where the operator compares
+abbrev pub ComparesWell : Op → Instr → Heap → List Value → Type 0
+ComparesWell o x h vals = IfCompares o ((v : Value) (us : List Value) → vals ≡ v ∷ us → ComparedBy x v)
+
+-- The variable may come into scope here: its number is that of a local of the code, and not that of `this` or of a
+-- variable that is in scope.
+pub record FreshLocal (it : Code) (here : Site) (x : Var) : Type 0 where
+  pub room : x.path < length (it.params ++ it.locals)
+  pub not_this : x.path ≢ 0
+  pub fresh : (y : Var) → Among here.vars y → y.path ≢ x.path
+
+-- The variable in scope has a local of the code, which is not that of `this`, and no other variable in scope has it.
+pub record OwnLocal (it : Code) (here : Site) (x : Var) : Type 0 where
+  pub room : x.path < length (it.params ++ it.locals)
+  pub not_this : x.path ≢ 0
+  pub own : (before behind : List Var) → here.vars ≡ before ++ x ∷ behind → (y : Var) → Among (before ++ behind) y
+      → y.path ≢ x.path
+
+-- `this` is a reference
+abbrev pub ThisRefers : Frame → Type 0
+ThisRefers f = (o : ℕ) × (V : Path) × (f.this ≡ Reference o V)

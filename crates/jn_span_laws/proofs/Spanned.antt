@@ -11,7 +11,7 @@ use Rattle.jn_code.specs.declared.image.Code.{Code}
 use Rattle.jn_code.specs.Kinds.{after_it, target_of, goes_on}
 use Rattle.jn_code.specs.Valid.{own_fault}
 use Rattle.jn_agree.specs.Spans.{Fine, Spans}
-use Rattle.jn_agree.specs.Places.{At}
+use Rattle.jn_agree.specs.Places.{At, deciding, decided_by}
 
 -- the kinds of two parts that meet at m
 abbrev pub either_side : ℕ → (ℕ → List OperandKind) → (ℕ → List OperandKind) → ℕ → List OperandKind
@@ -136,19 +136,22 @@ module _ (i : Image) (c : Code) where
           clash : true ≡ false → ⊥
           clash e = cc
 
-  -- `&&`: past the right operand, where the left one is false
-  pub and_also : (s m : ℕ) (ks : List OperandKind) → At c.instrs s (ins.Jfalse (m + 1))
-      → At c.instrs m (ins.Jump (m + 1 + 1)) → At c.instrs (m + 1) (ins.Bool 0) → own_fault i c (ins.Jfalse (m + 1))
-      (kind.Bool ∷ ks) ≡ None → own_fault i c (ins.Jump (m + 1 + 1)) (kind.Bool ∷ ks) ≡ None → own_fault i c
-      (ins.Bool 0) ks ≡ None
+  -- a right operand that the left one may pass by: a jump to the value of the whole, which stands behind a jump over it
+  decides : (s m : ℕ) (ks : List OperandKind) (branch value : Instr) → At c.instrs s branch
+      → At c.instrs m (ins.Jump (m + 1 + 1)) → At c.instrs (m + 1) value
+      → target_of branch ≡ Some (m + 1) → goes_on branch ≡ true → after_it i c branch (kind.Bool ∷ ks) ≡ ks
+      → target_of value ≡ None → goes_on value ≡ true → after_it i c value ks ≡ kind.Bool ∷ ks
+      → own_fault i c branch (kind.Bool ∷ ks) ≡ None → own_fault i c (ins.Jump (m + 1 + 1)) (kind.Bool ∷ ks) ≡ None
+      → own_fault i c value ks ≡ None
       → Spans i c (s + 1) m ks (kind.Bool ∷ ks) → Spans i c s (m + 1 + 1) (kind.Bool ∷ ks) (kind.Bool ∷ ks)
-  and_also s m ks at_left at_jump at_bool own_left own_jump own_bool right = record {
-    K = K;
-    first = before (s + 1) s (λ k. both) later (omega arith);
-    last = K_end;
-    le = omega (arith, le);
-    fine = λ n x lo hi e. at_left_side n x lo hi e (cases_lt n (s + 1)) (cases_lt n m) (cases_lt n (m + 1));
-  }
+  decides s m ks branch value at_left at_jump at_value leads on_left taken nowhere on_value given own_left own_jump
+      own_value right = record {
+        K = K;
+        first = before (s + 1) s (λ k. both) later (omega arith);
+        last = K_end;
+        le = omega (arith, le);
+        fine = λ n x lo hi e. at_left_side n x lo hi e (cases_lt n (s + 1)) (cases_lt n m) (cases_lt n (m + 1));
+      }
     where
       both : List OperandKind
       both = kind.Bool ∷ ks
@@ -168,8 +171,8 @@ module _ (i : Image) (c : Code) where
       K_inside : (n : ℕ) → s + 1 ≤ n → n < m + 1 → K n ≡ right.K n
       K_inside n lo hi = behind (s + 1) n (λ k. both) later lo ∙ before (m + 1) n right.K tail hi
 
-      K_bool : K (m + 1) ≡ ks
-      K_bool =
+      K_value : K (m + 1) ≡ ks
+      K_value =
           behind (s + 1) (m + 1) (λ k. both) later (omega (arith, le)) ∙ behind (m + 1) (m + 1) right.K tail
           (omega arith) ∙ before (m + 1 + 1) (m + 1) (λ k. ks) (λ k. both) (omega arith)
 
@@ -204,20 +207,20 @@ module _ (i : Image) (c : Code) where
       K_jump : K m ≡ both
       K_jump = K_inside m le (omega arith) ∙ right.last
 
-      jfalse_fine : Fine i c K s (m + 1 + 1) s (ins.Jfalse (m + 1))
-      jfalse_fine = record {
-        own = ap (λ (ks : List OperandKind). own_fault i c (ins.Jfalse (m + 1)) ks) K_first ∙ own_left;
+      branch_fine : Fine i c K s (m + 1 + 1) s branch
+      branch_fine = record {
+        own = ap (λ (ks : List OperandKind). own_fault i c branch ks) K_first ∙ own_left;
         target =
-            λ q is. let same : m + 1 ≡ q = got_place (m + 1) q is in (
+            λ q is. let same : m + 1 ≡ q = got_place (m + 1) q (sym leads ∙ is) in (
               omega (arith, le, same),
               omega (arith, same),
-              ap (λ (q : ℕ). K q) (sym same) ∙ K_bool ∙ sym
-                  (ap (λ (ks : List OperandKind). after_it i c (ins.Jfalse (m + 1)) ks) K_first),
+              ap (λ (q : ℕ). K q) (sym same) ∙ K_value ∙ sym
+                  (ap (λ (ks : List OperandKind). after_it i c branch ks) K_first ∙ taken),
             );
         next =
             λ on. K_inside (s + 1) (omega arith) (omega (arith, le)) ∙ right.first ∙ sym
-            (ap (λ (ks : List OperandKind). after_it i c (ins.Jfalse (m + 1)) ks) K_first);
-        dead = λ off. absurd (not_on off);
+            (ap (λ (ks : List OperandKind). after_it i c branch ks) K_first ∙ taken);
+        dead = λ off. absurd (not_on (sym on_left ∙ off));
       }
 
       jump_fine : Fine i c K s (m + 1 + 1) m (ins.Jump (m + 1 + 1))
@@ -234,26 +237,26 @@ module _ (i : Image) (c : Code) where
         dead =
             λ off. inr (record {
               j = s;
-              instr = ins.Jfalse (m + 1);
+              instr = branch;
               low = omega arith;
               earlier = omega (arith, le);
               at = at_left;
-              target = refl;
+              target = leads;
             });
       }
 
-      bool_fine : Fine i c K s (m + 1 + 1) (m + 1) (ins.Bool 0)
-      bool_fine = record {
-        own = ap (λ (ks : List OperandKind). own_fault i c (ins.Bool 0) ks) K_bool ∙ own_bool;
-        target = λ q is. absurd (no_place is);
-        next = λ on. K_end ∙ sym (ap (λ (ks : List OperandKind). after_it i c (ins.Bool 0) ks) K_bool);
-        dead = λ off. absurd (not_on off);
+      value_fine : Fine i c K s (m + 1 + 1) (m + 1) value
+      value_fine = record {
+        own = ap (λ (ks : List OperandKind). own_fault i c value ks) K_value ∙ own_value;
+        target = λ q is. absurd (no_place (sym nowhere ∙ is));
+        next = λ on. K_end ∙ sym (ap (λ (ks : List OperandKind). after_it i c value ks) K_value ∙ given);
+        dead = λ off. absurd (not_on (sym on_value ∙ off));
       }
 
       at_left_side : (n : ℕ) (x : Instr) → s ≤ n → n < m + 1 + 1 → slice_get c.instrs n ≡ Some x
           → (n < s + 1) ⊎ (s + 1 ≤ n) → (n < m) ⊎ (m ≤ n) → (n < m + 1) ⊎ (m + 1 ≤ n) → Fine i c K s (m + 1 + 1) n x
       at_left_side n x lo hi e (inl a) b d =
-          fine_at s (ins.Jfalse (m + 1)) n x at_left (omega (arith, lo, a)) e jfalse_fine
+          fine_at s branch n x at_left (omega (arith, lo, a)) e branch_fine
       at_left_side n x lo hi e (inr a) (inl b) d =
           let h = right.fine n x a b e in
           let here = K_inside n a (omega (arith, b)) in
@@ -287,4 +290,17 @@ module _ (i : Image) (c : Code) where
       at_left_side n x lo hi e (inr a) (inr b) (inl d) =
           fine_at m (ins.Jump (m + 1 + 1)) n x at_jump (omega (arith, b, d)) e jump_fine
       at_left_side n x lo hi e (inr a) (inr b) (inr d) =
-          fine_at (m + 1) (ins.Bool 0) n x at_bool (omega (arith, d, hi)) e bool_fine
+          fine_at (m + 1) value n x at_value (omega (arith, d, hi)) e value_fine
+
+  -- `&&` and `||`: past the right operand, where the left one decides
+  pub deciding_part : (and : Bool) (s m : ℕ) (ks : List OperandKind) → At c.instrs s (deciding and (m + 1))
+      → At c.instrs m (ins.Jump (m + 1 + 1)) → At c.instrs (m + 1) (decided_by and)
+      → own_fault i c (deciding and (m + 1)) (kind.Bool ∷ ks) ≡ None
+      → own_fault i c (ins.Jump (m + 1 + 1)) (kind.Bool ∷ ks) ≡ None → own_fault i c (decided_by and) ks ≡ None
+      → Spans i c (s + 1) m ks (kind.Bool ∷ ks) → Spans i c s (m + 1 + 1) (kind.Bool ∷ ks) (kind.Bool ∷ ks)
+  deciding_part true s m ks at_left at_jump at_value own_left own_jump own_value right =
+      decides s m ks (ins.Jfalse (m + 1)) (ins.Bool 0) at_left at_jump at_value refl refl refl refl refl refl
+      own_left own_jump own_value right
+  deciding_part false s m ks at_left at_jump at_value own_left own_jump own_value right =
+      decides s m ks (ins.Jtrue (m + 1)) (ins.Bool 1) at_left at_jump at_value refl refl refl refl refl refl
+      own_left own_jump own_value right

@@ -5,7 +5,8 @@
 
 ghost use Rattle.jn_span_laws.specs.LawsOfSpans.{PartsJoin, WholePartsPass};
 
-/// Parts that stand one behind the other are one part, and an instruction that neither jumps nor ends is one.
+/// Parts that stand one behind the other are one part, an instruction that neither jumps nor ends is one, and so are the
+/// instructions of `&&` and `||` behind their left operand.
 pub fn parts_join()
     ensures { PartsJoin }
 {}
