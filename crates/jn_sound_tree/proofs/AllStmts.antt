@@ -1,5 +1,5 @@
 -- Statements one after the other, and the statements that fit so far.
-use Rattle.std.proofs.Common.{◌≡◌, List, [], ◌∷◌, length, Bool, true, false, ◌⊎◌, inl, inr, refl, sym, subst}
+use Rattle.std.proofs.Common.{◌≡◌, ◌≤◌, arith, List, [], ◌∷◌, length, Bool, true, false, ◌⊎◌, inl, inr, refl, sym, subst}
 use Rattle.std.specs.Prelude.{◌||◌, Ok}
 use Rattle.jn_base.specs.declared.tree.Program.{Program}
 use Rattle.jn_base.specs.Atoms.{first, later}
@@ -14,14 +14,15 @@ use Rattle.jn_sound.specs.Fit.{Fits}
 use Rattle.jn_sound_tree.specs.Stmts.{StmtKnown, StmtGoes, InOrder, StatementsFit}
 use Rattle.jn_sound_tree.proofs.Stmts.{prints, prints_text, returns, same_before}
 use Rattle.jn_sound_tree.proofs.Locals.{local_fits}
+use Rattle.jn_sound_tree.proofs.Behind.{all_move}
 
 -- the first one stops, or those behind it do
-either_stops : (a c : Bool) → (a || c) ≡ true → (a ≡ true) ⊎ (c ≡ true)
+pub either_stops : (a c : Bool) → (a || c) ≡ true → (a ≡ true) ⊎ (c ≡ true)
 either_stops true c e = inl refl
 either_stops false c e = inr e
 
-in_order : (p : Program) (b : In) → InOrder p b
-in_order p b [] fit others x y known g = (
+pub in_order : (p : Program) (b : In) → InOrder p b
+in_order p b [] fit others x y known few g = (
   subst (StmtKnown p b) (sym is) known,
   λ k f. subst (λ (z : List Todo). Fits p b z x.vars x.scope [])
       (sym (acts_are.stmts (length x.vars) x.next [] k).none) (at k f),
@@ -34,11 +35,13 @@ in_order p b [] fit others x y known g = (
     no : false ≡ true → ⊥
     no e = cc
   at k (inr f) = subst (λ (z : Before). Fits p b k z.vars z.scope []) is f
-in_order p b (s ∷ ss) fit others x y known g =
+in_order p b (s ∷ ss) fit others x y known few g =
     let c = then_came (stmt_types b s x) (stmts_type b ss) y
     (subst (λ (z : Plan Before). Gives p z (Ok y)) ((forms_are.stmts b x).more s ss) g) in
-    let one = fit s first x c.first known (others x.vars) c.gave in
-    let rest = in_order p b ss (λ z m. fit z (later m)) others c.first y one.known c.then in
+    let small : c.first.next ≤ 256 =
+    (let l = (all_move p b ss c.first y c.then).grows in omega (arith, few, l)) in
+    let one = fit s first x c.first known small others c.gave in
+    let rest = in_order p b ss (λ z m. fit z (later m)) others c.first y one.known few c.then in
     (rest.0, λ k f. joined k c.first one (rest.1 k) f) where
       joined : (k : List Todo) (m : Before) → StmtGoes p b s x m →
           ((all_stop ss ≡ true) ⊎ Fits p b k y.vars y.scope [] → Fits p b

@@ -4,5 +4,11 @@ pub mod Calls
 pub mod Parts
 pub mod Exprs
 pub mod Stmts
+pub mod MaskSets
 pub mod Locals
+pub mod Behind
 pub mod AllStmts
+pub mod Blocks
+pub mod Choices
+pub mod Leaves
+pub mod Bodies

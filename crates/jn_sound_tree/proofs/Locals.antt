@@ -39,14 +39,16 @@ use Rattle.jn_member_laws.proofs.KnownTypes.{later_known}
 use Rattle.jn_sound.specs.Takes.{opd, same, wider, local}
 use Rattle.jn_sound.specs.Fit.{Fits, Narrowed, acts as act, moves, narrows, kept}
 use Rattle.jn_sound_tree.specs.Tree.{Fresher, none as fresh_none, more as fresh_more, GoesTo, as_they_are, here_in}
-use Rattle.jn_sound_tree.specs.Stmts.{StmtKnown, StmtGoes, LocalFits}
+use Rattle.jn_sound_tree.specs.Stmts.{MasksFormed, StmtKnown, StmtGoes, LocalFits}
+use Rattle.jn_sound_tree.proofs.MaskSets.{type_formed, formed_as_given}
 use Rattle.jn_sound_tree.proofs.Scopes.{fits_grown, grown_of}
 use Rattle.jn_sound_tree.proofs.Forms.{not_void_below}
 use Rattle.jn_sound_tree.proofs.Calls.{not_void}
 use Rattle.jn_sound_tree.proofs.Exprs.{by_tree}
 use Rattle.jn_sound_tree.proofs.Stmts.{narrowed_fresh, take_all, passed, answered, asked}
 
-noted : {A : Type 0} (p : Program) (ms : List Mark) (go : Plan A) (o : Result A Refusal) → Gives p (note_all ms go) o
+pub noted : {A : Type 0} (p : Program) (ms : List Mark) (go : Plan A) (o : Result A Refusal)
+    → Gives p (note_all ms go) o
     → Gives p go o
 noted p [] go o g = g
 noted p (m ∷ ms) go o g = noted p ms go o g
@@ -97,8 +99,8 @@ module _ (p : Program) (b : In) (deep : Shallow p) (formed : WellFormed p) where
     among_last [] = first
     among_last (w ∷ ws) = later (among_last ws)
 
-    pub local_known : TypeThere site v.ty → StmtKnown p b (with_local x v)
-    local_known there = record {
+    pub local_known : TypeThere site v.ty → MasksFormed v.ty → StmtKnown p b (with_local x v)
+    local_known there set = record {
       scope = record {
         site = one_more p deep site v known.scope.site there free_site;
         written = λ w m. written w (among_old w m);
@@ -118,7 +120,12 @@ module _ (p : Program) (b : In) (deep : Shallow p) (formed : WellFormed p) where
       older = λ w m. older w (among_old w m);
       params = omega (arith, known.params, length-append x.vars (v ∷ []));
       result = later_known (more_grown none_grown) binds known.result;
+      masks = λ c m. masks c m;
     } where
+      masks : (c : Bind) → Among (var_bind v ∷ x.scope) c → MasksFormed c.ty
+      masks _ first = set
+      masks c (later m) = known.masks c m
+
       fits : TypeFits x.scope v.ty
       fits = fits_like known.alike v.ty there.fits
 
@@ -162,8 +169,11 @@ module _ (p : Program) (b : In) (deep : Shallow p) (formed : WellFormed p) where
       older w (inl m) = let l = known.older w m in omega (arith, l)
       older w (inr e) = let k : w.path ≡ v.path = ap (λ (z : Var). z.path) e in omega (arith, k, is)
 
+below_limit : (x y : Before) (v : Var) → y ≡ with_local x v → y.next ≤ 256 → x.next < 256
+below_limit x y v e l = let k : suc x.next ≤ 256 = subst (λ (z : Before). z.next ≤ 256) e l in omega (arith, k)
+
 pub local_fits : (p : Program) (b : In) (deep : Shallow p) (formed : WellFormed p) → LocalFits p b
-local_fits p b deep formed fixed t n e termed x y small known others g =
+local_fits p b deep formed fixed t n e termed x y known few others g =
     let a = asked p b deep formed (stmt.Local fixed t n e) x y _ ((forms_are.stmts b x).local fixed t n e) g in
     let r = took a.0 (local_typed b x fixed n e) y a.2 in
     behind r.given (subst (λ (z : Result Ty Refusal). Means p (OfType (site_here (here b x)) t) z) r.is a.1)
@@ -171,10 +181,11 @@ local_fits p b deep formed fixed t n e termed x y small known others g =
       site : Site
       site = site_here (here_in b x.vars)
 
-      goes : (v : Var) → v ≡ var n.name x.next fixed v.ty → TypeIs p site t v.ty → (w : Typed) → GoesTo p b
+      goes : (v : Var) → v ≡ var n.name x.next fixed v.ty → x.next < 256 → MasksFormed v.ty
+          → TypeIs p site t v.ty → (w : Typed) → GoesTo p b
           (here_in b x.vars) (acts (length x.vars) e) x.scope as_they_are w
           → Below p w.scope w.ty v.ty → StmtGoes p b (stmt.Local fixed t n e) x (with_local x v)
-      goes v is typeis w one below = record {
+      goes v is small set typeis w one below = record {
         known = after;
         fits = λ ss k f. fits ss k
             (passed (Stmt-F.Local fixed t n e) (stmt.Local fixed t n e) (stmt.rolls-Local fixed t n e) refl f);
@@ -186,7 +197,7 @@ local_fits p b deep formed fixed t n e termed x y small known others g =
         there = of_value p deep site t v.ty known.scope.site termed typeis
 
         after : StmtKnown p b (with_local x v)
-        after = local_known p b deep formed x known v path small there
+        after = local_known p b deep formed x known v path small there set
 
         here_fits : TypeFits w.scope v.ty
         here_fits = fits_grown (grown_of one.grown) one.known.scope.scope.binds (fits_like known.alike v.ty there.fits)
@@ -232,9 +243,10 @@ local_fits p b deep formed fixed t n e termed x y small known others g =
           let c = then_came (typed b x e x.scope) _ y g in
           let o = answered p b deep formed (Below p c.first.scope c.first.ty v.ty) c.then.0 _
           (with_local x v) y c.then.1 c.then.2 in
-          let one = by_tree p b (here_in b x.vars) deep formed others e x.scope c.first known.scope c.gave in
+          let one = by_tree p b (here_in b x.vars) deep formed (others x.vars) e x.scope c.first known.scope c.gave in
           subst (StmtGoes p b (stmt.Local fixed t n e) x) (sym o.1)
-          (goes v refl (record {
+          (goes v refl (below_limit x y v o.1 few)
+          (formed_as_given (scope_of site) u (type_formed p _ _ t u m)) (record {
             given = u;
             resolved = m;
             normal =

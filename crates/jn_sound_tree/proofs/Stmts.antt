@@ -61,7 +61,7 @@ ended x ops known g f = narrows (take_all x.vars) known.params (narrowed_fresh g
 
 -- ---- what stops
 
-stops_by : (f : Stmt-F Stmt) (s : Stmt) → roll-Stmt f ≡ s → stops s ≡ stops_step (map-Stmt Stmt Bool stops f)
+pub stops_by : (f : Stmt-F Stmt) (s : Stmt) → roll-Stmt f ≡ s → stops s ≡ stops_step (map-Stmt Stmt Bool stops f)
 stops_by f s e = ap stops (sym e) ∙ fold-roll-Stmt Bool stops_step f
 
 -- what comes behind a statement that doesn't stop fits
@@ -107,11 +107,11 @@ module _ (p : Program) (b : In) (deep : Shallow p) (formed : WellFormed p) where
   printed_kept (ty.Class xs m) w = refl
 
   pub prints : (e : Expr) (at : Place) → StmtFits p b (stmt.Print e at)
-  prints e at x y known others g =
+  prints e at x y known few others g =
       let c = then_came (typed b x e x.scope) _ y
       (asked (stmt.Print e at) x y _ ((forms_are.stmts b x).prints e at) g) in
       let w = wanted (is_int c.first.ty || is_bool c.first.ty) _ _ y c.then in
-      let one = by_tree p b (here_in b x.vars) deep formed others e x.scope c.first known.scope c.gave in
+      let one = by_tree p b (here_in b x.vars) deep formed (others x.vars) e x.scope c.first known.scope c.gave in
       stays (stmt.Print e at) x y known (same_before x y w.then)
       (λ ss k f. goes c.first w.test one ss k
       (passed (Stmt-F.Print e at) (stmt.Print e at) (stmt.rolls-Print e at) refl f)) where
@@ -126,7 +126,7 @@ module _ (p : Program) (b : In) (deep : Shallow p) (formed : WellFormed p) where
             (printed (length x.vars) x.vars t.ty t.path t.scope _ [] refl w (ended x [] known one.grown f)))
 
   pub prints_text : (t : ℕ) (u : Text) (at : Place) → slice_get p.texts t ≡ Some u → StmtFits p b (stmt.PrintText t at)
-  prints_text t u at e x y known others g =
+  prints_text t u at e x y known few others g =
       stays (stmt.PrintText t at) x y known
       (same_before x y (asked (stmt.PrintText t at) x y _ ((forms_are.stmts b x).prints_text t at) g))
       (λ ss k f. subst (λ (z : List Todo). Fits p b z x.vars x.scope [])
@@ -148,12 +148,12 @@ module _ (p : Program) (b : In) (deep : Shallow p) (formed : WellFormed p) where
     no e = cc
 
   returns_one : (e : Expr) (at : Place) → StmtFits p b (stmt.Return (Some e) at)
-  returns_one e at x y known others g =
+  returns_one e at x y known few others g =
       let c = then_came (typed b x e x.scope) _ y
       (asked (stmt.Return (Some e) at) x y _ ((forms_are.stmts b x).returns (Some e) at) g) in
       let w = wanted (not (is_void b.result)) _ _ y c.then in
       let a = answered (Below p c.first.scope c.first.ty b.result) w.then.0 _ x y w.then.1 w.then.2 in
-      let one = by_tree p b (here_in b x.vars) deep formed others e x.scope c.first known.scope c.gave in
+      let one = by_tree p b (here_in b x.vars) deep formed (others x.vars) e x.scope c.first known.scope c.gave in
       stays (stmt.Return (Some e) at) x y known a.1
       (λ ss k f. goes c.first (not_true (is_void b.result) w.test) a.0 one ss k) where
         goes : (t : Typed) → is_void b.result ≡ false → Below p t.scope t.ty b.result → GoesTo p b (here_in b x.vars)
@@ -169,7 +169,7 @@ module _ (p : Program) (b : In) (deep : Shallow p) (formed : WellFormed p) where
             (return t.path refl v)))
 
   returns_none : (at : Place) → StmtFits p b (stmt.Return None at)
-  returns_none at x y known others g =
+  returns_none at x y known few others g =
       let w = wanted (is_void b.result) _ _ y
       (asked (stmt.Return None at) x y _ ((forms_are.stmts b x).returns None at) g) in
       stays (stmt.Return None at) x y known (same_before x y w.then)
