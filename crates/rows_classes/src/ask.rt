@@ -4,7 +4,7 @@ use crate::reading::{Question, question_of};
 use crate::setting::setting_of;
 use crate::source::source_of;
 use crate::world::{Made, World, made_of};
-use crate::{bounds, graphs, members, names, sets, tables, types};
+use crate::{bounds, graphs, members, names, sets, slots, tables, types};
 use jn_cases::{Case, CasesFault, Tally};
 use std::alloc::{AllocError, Global};
 
@@ -128,6 +128,9 @@ fn of_world(
     if let Some(text) = names::answer(alloc, world, asked)? {
         return Ok(Some(text));
     }
+    if let Some(text) = slots::answer(alloc, world, asked)? {
+        return Ok(Some(text));
+    }
     of_method(alloc, case, world, asked)
 }
 
@@ -150,6 +153,9 @@ fn of_method(
     };
     let table = &mut world.table;
     if let Some(text) = names::of_method(alloc, &setting, table, asked)? {
+        return Ok(Some(text));
+    }
+    if let Some(text) = slots::of_method(alloc, &setting, table, asked)? {
         return Ok(Some(text));
     }
     types::answer(alloc, &setting, table, asked)

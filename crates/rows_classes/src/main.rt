@@ -1,4 +1,4 @@
-//! Rows on classes, names, types and groups: reads the files of cases that its words name, asks each question of theirs
+//! Rows on classes, names, types, groups and slots: reads the files of cases that its words name, asks each question of theirs
 //! and compares the answers. Its last lines count the cases and those that differ.
 #![tactic(auto)]
 
@@ -12,6 +12,7 @@ mod reading;
 mod sets;
 mod setting;
 mod shown;
+mod slots;
 mod source;
 mod tables;
 mod types;

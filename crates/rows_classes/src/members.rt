@@ -31,7 +31,7 @@ pub fn answer(
 }
 
 /// The number of the path that a text is, or one that no path has.
-fn number_of(alloc: Global, world: &World, text: &str) -> Result<ClassId, AllocError> {
+pub fn number_of(alloc: Global, world: &World, text: &str) -> Result<ClassId, AllocError> {
     let path = read_path(alloc, world.program.names.as_slice(), text)?;
     match world.table.find(&path) {
         None => Ok(ClassId(u16::MAX)),

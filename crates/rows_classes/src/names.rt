@@ -63,7 +63,8 @@ fn put_field(
     out.push_str(ty.as_str())
 }
 
-fn fault_text(alloc: Global, p: &Program, fault: &NameFault) -> Result<String, AllocError> {
+/// The line of what is refused of names.
+pub fn fault_text(alloc: Global, p: &Program, fault: &NameFault) -> Result<String, AllocError> {
     match fault {
         NameFault::Memory => Err(AllocError),
         NameFault::Refused(r) => refusal_text(alloc, Some(p), r),

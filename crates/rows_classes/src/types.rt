@@ -56,13 +56,13 @@ fn in_scope(
 
 /// What comes of a word that stands for a type.
 #[derive(Drop)]
-enum Wanted {
+pub enum Wanted {
     Type(Ty),
     None(String),
 }
 
 /// The type of a word, or why there is none.
-fn type_of(
+pub fn type_of(
     alloc: Global,
     setting: &Setting<'_>,
     table: &mut Table,
