@@ -217,7 +217,7 @@ module _ (p : Program) (i : Image) (n : Naming) (m : ℕ) (K : Knows) (T : Type 
         (equals o kind ins.Eqr (ref_word d.0 d.1.cell) (pos 0) false at by
         (ap (λ (z : ℕ). objects (nat_eq z 0)) (no_object p i n m y a ma q d.0 d.1 d.3)
         ∙ ap objects (differs (suc d.1.cell) 0 (λ e. omega (arith, e)))))
-    answer ma o kind (Reference q W) (Reference q2 W2) za zb at by wu wv =
+    answer ma o kind (Reference q W) (Reference q2 Wy) za zb at by wu wv =
         let c = wu.is in
         let d = wv.is in
         at_words za zb (ref_word c.0 c.1.cell) (ref_word d.0 d.1.cell) (on_equal o (nat_eq q q2)) c.5 d.5
