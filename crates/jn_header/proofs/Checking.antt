@@ -21,10 +21,10 @@ use Rattle.jn_header.specs.First.{first}
 use Rattle.jn_homes.specs.Homes.{HomeIs}
 use Rattle.jn_header.specs.Unknown.{IsFirstUnknown, FirstUnknownIs}
 use Rattle.jn_rules.specs.Plans.{Nothing}
-use Rattle.jn_header.specs.Told.{Told, itself}
+use Rattle.jn_heads.specs.Told.{Told, itself}
 use Rattle.jn_header.specs.Check.{IsCauseOf, IsRefusedUnlessMemory, PassesUnlessMemory, IsAtHome, NamesVerdict, TableVerdict, IsTableFault}
-use Rattle.jn_header.specs.declared.check.CheckFault.{CheckFault}
-use Rattle.jn_header.specs.declared.check.CheckFault.TheVariants.{Refused, Memory}
+use Rattle.jn_heads.specs.declared.fault.CheckFault.{CheckFault}
+use Rattle.jn_heads.specs.declared.fault.CheckFault.TheVariants.{Refused, Memory}
 
 -- ---- names that stand twice
 

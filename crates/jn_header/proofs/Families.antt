@@ -10,18 +10,18 @@ use Rattle.jn_base.specs.Paths.{Path}
 use Rattle.jn_base.specs.Universe.{InUniverse}
 use Rattle.jn_base.specs.Members.{HasKind}
 use Rattle.jn_base.specs.Supers.{Sup}
-use Rattle.jn_bounds.proofs.Known.{kind_known}
-use Rattle.jn_bounds.proofs.Turned.{turned_first}
+use Rattle.jn_names.proofs.Numbered.{kind_known}
+use Rattle.jn_names.proofs.Turned.{turned_first}
 use Rattle.jn_sem.specs.Sharing.{IsClass, family_of, in_family}
 use Rattle.jn_sem.specs.NotFamily.{Listing, adapting, sharing, Listed, in_list, own_listed, IsStrictSuper, Lacks, no_super, no_class}
 use Rattle.jn_rules.specs.Plans.{Plan, Nothing}
 use Rattle.jn_rules.specs.Questions.{Gives, Answers}
 use Rattle.jn_rules.specs.Headers.{listed_asked}
-use Rattle.jn_header.specs.declared.check.CheckFault.{CheckFault}
-use Rattle.jn_header.specs.declared.check.CheckFault.TheVariants.{Refused, Memory}
+use Rattle.jn_heads.specs.declared.fault.CheckFault.{CheckFault}
+use Rattle.jn_heads.specs.declared.fault.CheckFault.TheVariants.{Refused, Memory}
 use Rattle.jn_header.specs.declared.listed.InList.{InList}
 use Rattle.jn_header.specs.declared.listed.InList.TheVariants as list
-use Rattle.jn_header.specs.Told.{Told, itself}
+use Rattle.jn_heads.specs.Told.{Told, itself}
 use Rattle.jn_header.specs.Listed.{HasName, listing_of, of_list, IsListedFault}
 
 -- ---- families

@@ -2,9 +2,6 @@ pub mod TwiceEquations
 pub mod TwiceSteps
 pub mod Unknowns
 pub mod Checking
-pub mod Writing
-pub mod Parameters
-pub mod Turns
 pub mod Families
 pub mod Heads
 pub mod BadMembers

@@ -47,9 +47,6 @@ same_more xs ys zs same n =
 pub at_index : {A : Type 0} (xs : List A) (i : ℕ) (x : A) → i < length xs → x ≡ get_or xs i x → drop i xs ≡ x ∷ drop (i + 1) xs
 at_index xs i x h e = drop-cons xs i x h ∙ (ap (λ (y : _). y ∷ drop (suc i) xs) (sym e) ∙ ap (λ (n : ℕ). x ∷ drop n xs) (sym (add-one i)))
 
-pub at_get : {A : Type 0} (xs : List A) (i : ℕ) (d : A) → i < length xs → drop i xs ≡ get_or xs i d ∷ drop (i + 1) xs
-at_get xs i d h = drop-cons xs i d h ∙ ap (λ (n : ℕ). get_or xs i d ∷ drop n xs) (sym (add-one i))
-
 -- ---- seconds of a list
 
 pub second_hit : (seen : List Name) (n : Named) (ns : List Named) → has_name seen n.name ≡ true → first (seconds seen (n ∷ ns)) ≡ Some n

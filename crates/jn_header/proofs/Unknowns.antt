@@ -27,7 +27,7 @@ use Rattle.jn_table.specs.declared.table.Table.{Table}
 use Rattle.jn_table.proofs.Shown.{place_of_number, numbers_before}
 use Rattle.jn_table.proofs.Sorted.{in_order}
 use Rattle.jn_header.specs.Unknown.{IsKnown, IsFirstWithout, FirstWithout, UnknownIs, IsFirstUnknown}
-use Rattle.jn_header.proofs.TwiceSteps.{at_get}
+use Rattle.jn_heads.proofs.Lists.{at_get}
 
 -- ---- paths with the outermost name first
 

@@ -9,8 +9,8 @@ use Rattle.jn_base.specs.Members.{IsHome}
 use Rattle.jn_base.specs.Duplicates.{duplicates, IsFirstDuplicate}
 use Rattle.jn_base.specs.TableRules.{TablePasses, TableRefuses, DeclarationsRefuse, at_home}
 use Rattle.jn_rules.specs.Plans.{Nothing}
-use Rattle.jn_header.specs.declared.check.CheckFault.{CheckFault}
-use Rattle.jn_header.specs.declared.check.CheckFault.TheVariants.{Refused, Memory}
+use Rattle.jn_heads.specs.declared.fault.CheckFault.{CheckFault}
+use Rattle.jn_heads.specs.declared.fault.CheckFault.TheVariants.{Refused, Memory}
 
 -- the declarations are refused so, or memory ran out
 abbrev pub IsCauseOf : Program → CheckFault → Type 0

@@ -1,10 +1,6 @@
+pub mod Asked
 pub mod Check
 pub mod First
 pub mod Listed
 pub mod Members
-pub mod Params
-pub mod Places
-pub mod Sides
-pub mod Told
 pub mod Unknown
-pub mod Written

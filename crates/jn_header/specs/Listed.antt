@@ -8,10 +8,10 @@ use Rattle.jn_base.specs.Paths.{Path, shown}
 use Rattle.jn_sem.specs.NotFamily.{Listing, adapting, sharing, in_list}
 use Rattle.jn_rules.specs.Plans.{Plan, Nothing}
 use Rattle.jn_rules.specs.Headers.{listed_asked}
-use Rattle.jn_header.specs.declared.check.CheckFault.{CheckFault}
+use Rattle.jn_heads.specs.declared.fault.CheckFault.{CheckFault}
 use Rattle.jn_header.specs.declared.listed.InList.{InList}
 use Rattle.jn_header.specs.declared.listed.InList.TheVariants as list
-use Rattle.jn_header.specs.declared.check.CheckFault.TheVariants.{Refused, Memory}
+use Rattle.jn_heads.specs.declared.fault.CheckFault.TheVariants.{Refused, Memory}
 
 -- the path is one of a declaration
 pub record HasName (R : Path) : Type 0 where

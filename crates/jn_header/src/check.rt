@@ -10,47 +10,17 @@ ghost use Rattle.jn_table.specs.Answers.{UniversePasses, UniverseRefused};
 ghost use Rattle.jn_table.specs.Tables.{IsTableOf, IsFilled, KeepsNumbers};
 ghost use Rattle.jn_rules.specs.Plans.{Nothing};
 ghost use Rattle.jn_header.specs.Check.{IsCauseOf, IsRefusedUnlessMemory, PassesUnlessMemory, IsAtHome, NamesVerdict, TableVerdict, IsTableFault};
-ghost use Rattle.jn_header.specs.Told.{Told, itself};
+ghost use Rattle.jn_heads.specs.Told.{Told, itself};
 
 use crate::twice::first_duplicate;
 use crate::unknown::first_unknown;
 use jn_base::path::Path;
 use jn_base::refusal::{Refusal, Rule};
 use jn_base::tree::Program;
+use jn_heads::CheckFault;
 use jn_homes::home_of;
 use jn_table::{Table, TableFault};
-use std::alloc::{AllocError, AllocFailed, Global};
-
-/// Why a program isn't passed.
-#[derive(Debug, Drop)]
-pub enum CheckFault {
-    /// The program breaks a rule.
-    Refused(Refusal),
-    /// Memory ran out.
-    Memory,
-}
-
-impl From<AllocError> for CheckFault {
-    ghost use Rattle.std.specs.Prelude.{◌≡◌};
-    ghost use Rattle.jn_header.specs.declared.check.CheckFault.TheVariants.{Memory};
-
-    ghost from_gives = { λ _ e. e ≡ Memory };
-
-    fn from(_error: AllocError) -> CheckFault {
-        CheckFault::Memory
-    }
-}
-
-impl<T: Drop> From<AllocFailed<T>> for CheckFault {
-    ghost use Rattle.std.specs.Prelude.{◌≡◌};
-    ghost use Rattle.jn_header.specs.declared.check.CheckFault.TheVariants.{Memory};
-
-    ghost from_gives = { λ _ e. e ≡ Memory };
-
-    fn from(_error: AllocFailed<T>) -> CheckFault {
-        CheckFault::Memory
-    }
-}
+use std::alloc::Global;
 
 /// Whether the declarations of a program pass: no name stands twice, there are no more than 4,096 paths, none of
 /// them is its own strict super or has supers of both kinds, and each name that is extended is a member of the

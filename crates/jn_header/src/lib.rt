@@ -5,12 +5,10 @@ mod check;
 mod headers;
 mod listed;
 mod members;
-mod params;
-mod place;
 mod twice;
 mod unknown;
-mod written;
 
-pub use check::{CheckFault, check_declarations, check_names, check_table};
+pub use check::{check_declarations, check_names, check_table};
 pub use headers::check_types;
+pub use jn_heads::CheckFault;
 pub use members::field_twice;

@@ -8,13 +8,13 @@ ghost use Rattle.jn_sem.specs.NotFamily.{in_list, own_listed, IsStrictSuper, Lac
 ghost use Rattle.jn_rules.specs.Plans.{in_turn};
 ghost use Rattle.jn_rules.specs.Questions.{Gives, Answers};
 ghost use Rattle.jn_rules.specs.Headers.{listed_asked};
-ghost use Rattle.jn_header.specs.Told.{Told, itself};
+ghost use Rattle.jn_heads.specs.Told.{Told, itself};
 ghost use Rattle.jn_header.specs.Listed.{HasName, IsListedFault, listing_of, of_list};
 
-use crate::check::CheckFault;
 use jn_base::refusal::{Refusal, Rule};
 use jn_base::tree::{Decl, Name, Named};
-use jn_bounds::Bound;
+use jn_heads::CheckFault;
+use jn_names::Bound;
 use jn_table::Table;
 use sqlite_items::at;
 use std::alloc::{AllocError, Global};

@@ -6,7 +6,7 @@ use Rattle.jn_base.specs.Supers.{Sup, itself, above}
 use Rattle.jn_base.specs.TableRules.{IsCycle, NoneIs}
 use Rattle.jn_base.proofs.NameTests.{in_cons, in_none}
 use Rattle.jn_base.proofs.SuperLaws.{sup_joined}
-use Rattle.jn_bounds.proofs.Known.{direct_known}
+use Rattle.jn_names.proofs.Numbered.{direct_known}
 
 -- paths that are supers of each other are one
 pub antisym : (p : Program) → NoneIs (IsCycle p) → {R S : Path} → Sup p R S → Sup p S R → R ≡ S

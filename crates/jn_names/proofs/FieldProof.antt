@@ -29,7 +29,7 @@ use Rattle.jn_names.specs.declared.fault.NameFault.TheVariants.{Refused, Memory}
 use Rattle.jn_names.specs.Answers.{Told}
 use Rattle.jn_names.specs.FieldTypes.{AtField, FieldsBy, all_by, member_step, decl_step, fields_of_member, fields_of_decl, spot_of, no_vars, FieldGives, before_fields, typed, declared_fields, FieldsGive, AllFieldsGive, FieldsTold, none, refused, first}
 use Rattle.jn_names.specs.FieldSteps.{Adds, AddsOr}
-use Rattle.jn_bounds.proofs.Turned.{at_index}
+use Rattle.jn_names.proofs.Turned.{at_index}
 use Rattle.jn_names.proofs.ScopedProof.{take_one, map_both}
 
 -- ---- one level deep

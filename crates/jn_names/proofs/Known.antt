@@ -7,7 +7,7 @@ use Rattle.jn_base.specs.Supers.{Member}
 use Rattle.jn_base.specs.Universe.{InUniverse}
 use Rattle.std.proofs.lemmas.Bool.{cases_lt}
 use Rattle.jn_base.specs.Resolve.{FirstUnknown, FoundOut, FoundNowhere}
-use Rattle.jn_bounds.proofs.Known.{member_known}
+use Rattle.jn_names.proofs.Numbered.{member_known}
 
 -- the names behind a bound
 pub step_known : (p : Program) (B : Path) (N : Name) (ns : List Name) (o : Option Name) → InUniverse p (N ∷ B)

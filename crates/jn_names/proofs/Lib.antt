@@ -1,4 +1,7 @@
+pub mod Adding
 pub mod Known
+pub mod Numbered
+pub mod Turned
 pub mod Sought
 pub mod ScopedProof
 pub mod Answering

@@ -15,7 +15,7 @@ use Rattle.jn_base.specs.Paths.{Path}
 use Rattle.jn_base.specs.ResolveTypes.{IsMask, MasksAre, IsFieldOfAny, MaskFits, FirstUnfit}
 use Rattle.jn_table.specs.Rows.{HasField}
 use Rattle.jn_names.specs.Masking.{name_of, seen_of, IsMaskNamed}
-use Rattle.jn_bounds.proofs.Turned.{at_place}
+use Rattle.jn_names.proofs.Turned.{at_place}
 use Rattle.jn_names.proofs.ScopedProof.{take_one, map_both}
 
 -- ---- names

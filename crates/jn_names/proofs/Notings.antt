@@ -12,7 +12,7 @@ use Rattle.jn_base.specs.ResolveTypes.{mentioned_masks, firsts}
 use Rattle.jn_names.specs.Noting.{added, adding, noted}
 use Rattle.jn_base.proofs.FormEquations.{at_expr, at_number, at_truth, at_null, at_this, at_variable, at_new, at_super, at_post, at_inverse, at_negative, at_view, at_chain, at_link, at_suffix, at_block, at_local, at_assign, at_set, at_do, at_if, at_while, at_return, at_print, at_text, at_inner, at_slot, at_body, at_decl}
 use Rattle.jn_base.proofs.NameTests.{same_name}
-use Rattle.jn_bounds.proofs.Turned.{at_index, at_place}
+use Rattle.jn_names.proofs.Turned.{at_index, at_place}
 
 masks_both : (ms ns : Mentions) → mentioned_masks (ms ++ ns) ≡ mentioned_masks ms ++ mentioned_masks ns
 masks_both [] ns = refl

@@ -20,7 +20,7 @@ use Rattle.jn_base.specs.Scopes.{bound_of}
 use Rattle.jn_names.specs.Scoped.{scope_from}
 use Rattle.jn_base.specs.Resolve.{class_of, Resolve, bound_at}
 use Rattle.jn_base.specs.ResolveTypes.{before_all, ResolveAll, none, refused, first, bounds_at, OneDepth, may_mask, MasksGive, one, ResolveClass}
-use Rattle.jn_bounds.proofs.Turned.{at_index}
+use Rattle.jn_names.proofs.Turned.{at_index}
 use Rattle.jn_names.proofs.ScopedProof.{take_one}
 
 -- the atoms so far, and what the other terms give

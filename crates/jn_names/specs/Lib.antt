@@ -1,3 +1,4 @@
+pub mod Bounds
 pub mod Seeking
 pub mod Answers
 pub mod Before

@@ -5,12 +5,12 @@ ghost use Rattle.jn_table.specs.Tables.{IsFilled};
 ghost use Rattle.jn_names.specs.FieldTypes.{all_by, fields_of_member, fields_of_decl, spot_of, AllFieldsGive, FieldsTold};
 ghost use Rattle.jn_names.specs.FieldSteps.{SaysAdds};
 
+use crate::bound::Bound;
 use crate::fault::NameFault;
 use crate::numbering::mask_names;
 use crate::types::type_of;
 use jn_base::names::{Role, Spot, Vars};
 use jn_base::tree::{Decl, Field, Member, Name, Program};
-use jn_bounds::Bound;
 use jn_table::{FieldTy, FieldTypes, Table};
 use sqlite_items::Items;
 use std::alloc::{AllocError, Global};

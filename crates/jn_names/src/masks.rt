@@ -7,10 +7,10 @@ ghost use Rattle.jn_table.specs.Rows.{HasField};
 ghost use Rattle.jn_table.specs.Tables.{IsFilled};
 ghost use Rattle.jn_names.specs.Masking.{seen_of, IsMaskNamed};
 
+use crate::bound::Bound;
 use jn_base::compare::is_name;
 use jn_base::tree::{Name, Named};
 use jn_base::types::Masks;
-use jn_bounds::Bound;
 use jn_table::Table;
 
 /// Whether one of the masks has the name.

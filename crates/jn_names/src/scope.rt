@@ -3,9 +3,9 @@ ghost use Rattle.jn_base.specs.Atoms.{atoms_in, anchor_at, atom_at, first_at, at
 ghost use Rattle.jn_base.specs.Scopes.{bound_of};
 ghost use Rattle.jn_names.specs.Scoped.{scope_from, IsNewest};
 
+use crate::bound::Bound;
 use jn_base::names::Var;
 use jn_base::types::{Anchor, Atom, Ty};
-use jn_bounds::Bound;
 use std::alloc::{AllocError, Global};
 
 /// The place of the newest variable of a path.

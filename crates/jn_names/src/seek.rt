@@ -4,8 +4,8 @@ ghost use Rattle.jn_base.specs.Resolve.{FirstUnknown, FoundOut, FoundNowhere, Fi
 ghost use Rattle.jn_table.specs.Tables.{IsFilled};
 ghost use Rattle.jn_names.specs.Seeking.{told};
 
+use crate::bound::Bound;
 use jn_base::tree::Name;
-use jn_bounds::Bound;
 use jn_table::Table;
 use std::alloc::{AllocError, Global};
 

@@ -8,6 +8,7 @@ ghost use Rattle.jn_names.specs.Roles.{asks_class};
 ghost use Rattle.jn_names.specs.Before.{told_before};
 
 use crate::before::{Before, path_before};
+use crate::bound::Bound;
 use crate::fault::{NameFault, refused};
 use crate::scope::{atom_bound, path_bound};
 use crate::seek::{Found, first_unknown, sought};
@@ -15,7 +16,6 @@ use jn_base::names::{Role, Spot, Vars};
 use jn_base::refusal::Rule;
 use jn_base::tree::{Head, Name, Ref, Term};
 use jn_base::types::{Anchor, Atom};
-use jn_bounds::Bound;
 use jn_table::Table;
 use sqlite_items::Items;
 use std::alloc::{AllocError, Global};

@@ -4,6 +4,7 @@ ghost use Rattle.jn_base.specs.ResolveTypes.{OneDepth, ResolveAll, bounds_at, ma
 ghost use Rattle.jn_table.specs.Tables.{IsFilled};
 ghost use Rattle.jn_names.specs.Answers.{Told};
 
+use crate::bound::Bound;
 use crate::fault::{NameFault, refused};
 use crate::masks::{first_unfit, masks_of};
 use crate::scope::atom_bound;
@@ -12,7 +13,6 @@ use jn_base::names::{Role, Spot, Vars};
 use jn_base::refusal::Rule;
 use jn_base::tree::{Name, Named, Term, TypeTerm, ViewTerm};
 use jn_base::types::{Atom, Ty};
-use jn_bounds::Bound;
 use jn_table::Table;
 use sqlite_items::Items;
 use std::alloc::{AllocError, Global};

@@ -3,7 +3,7 @@ use Rattle.std.proofs.Common.{◌≡◌, ◌<◌, ◌≤◌, ◌+◌, ℕ, zero,
 use Rattle.std.specs.Prelude.{IfSome}
 use Rattle.std.proofs.lemmas.Bool.Decides.{nat_tests}
 use Rattle.jn_reach.proofs.Searches.{same_some}
-use Rattle.jn_bounds.proofs.Turned.{turned_one}
+use Rattle.jn_names.proofs.Turned.{turned_one}
 use Rattle.jn_base.specs.declared.types.Ty.{Ty}
 use Rattle.jn_base.specs.Atoms.{atoms_in, first_at}
 use Rattle.jn_base.specs.Scopes.{Bind as TypeBind, Scope as TypeScope, bound_of}

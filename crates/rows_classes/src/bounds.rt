@@ -5,7 +5,7 @@ use crate::shown::{path_text, put_path, said, some, word_of};
 use crate::world::World;
 use jn_base::compare::{has_name, is_name, same_names};
 use jn_base::tree::Text;
-use jn_bounds::Bound;
+use jn_names::Bound;
 use std::alloc::{AllocError, Global};
 
 /// The answer to a question on paths, known or not:

@@ -1,5 +1,5 @@
 use Rattle.std.proofs.Common.{Ok, Err}
-use Rattle.jn_header.specs.declared.check.CheckFault.TheVariants.{Refused}
+use Rattle.jn_heads.specs.declared.fault.CheckFault.TheVariants.{Refused}
 use Rattle.jn_header.proofs.Checking.{refused_twice, nothing_twice, only_names}
 use Rattle.jn_header.proofs.check.check_names.Goals as goal
 

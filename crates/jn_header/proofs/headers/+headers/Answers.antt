@@ -1,8 +1,8 @@
 use Rattle.std.proofs.Common.{◌∙◌, ap, ◌∷◌}
 use Rattle.jn_base.specs.Paths.{Path}
 use Rattle.jn_intern.proofs.Pools.{keeps_more}
-use Rattle.jn_header.specs.Sides.{header_at}
-use Rattle.jn_header.proofs.Turns.{turns_more, turns_fail}
+use Rattle.jn_header.specs.Asked.{header_at}
+use Rattle.jn_heads.proofs.Turns.{turns_more, turns_fail}
 use Rattle.jn_header.proofs.Heads.{lists_refused, decl_told}
 use Rattle.jn_header.proofs.headers.+headers.Goals as goal
 

@@ -1,6 +1,6 @@
 use Rattle.std.proofs.Common.{◌∙◌}
 use Rattle.jn_rules.specs.Headers.{constraint_asked}
-use Rattle.jn_header.proofs.Turns.{turns_more, turns_fail}
+use Rattle.jn_heads.proofs.Turns.{turns_more, turns_fail}
 use Rattle.jn_header.proofs.headers.judge_constraints.Goals as goal
 
 pub loop-constraint-preserved : goal.loop-constraint-preserved

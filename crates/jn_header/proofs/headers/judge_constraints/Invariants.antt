@@ -1,5 +1,5 @@
 use Rattle.jn_rules.specs.Headers.{constraint_asked}
-use Rattle.jn_header.proofs.Turns.{TurnsFrom}
+use Rattle.jn_heads.proofs.Turns.{TurnsFrom}
 use Rattle.jn_header.proofs.headers.judge_constraints.Given as goal
 use Rattle.std.proofs.Common.{◌≡◌}
 

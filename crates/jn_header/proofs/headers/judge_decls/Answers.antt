@@ -1,7 +1,7 @@
 use Rattle.std.proofs.Common.{◌∙◌}
 use Rattle.jn_intern.proofs.Pools.{keeps_more}
-use Rattle.jn_header.specs.Sides.{headers_in_space}
-use Rattle.jn_header.proofs.Turns.{turns_more, turns_fail}
+use Rattle.jn_header.specs.Asked.{headers_in_space}
+use Rattle.jn_heads.proofs.Turns.{turns_more, turns_fail}
 use Rattle.jn_header.proofs.headers.judge_decls.Goals as goal
 
 pub loop-d-preserved : goal.loop-d-preserved

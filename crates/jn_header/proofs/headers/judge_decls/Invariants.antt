@@ -1,7 +1,7 @@
 use Rattle.std.proofs.Common.{◌≡◌}
 use Rattle.jn_intern.specs.Pools.{Keeps}
-use Rattle.jn_header.specs.Sides.{headers_in_space}
-use Rattle.jn_header.proofs.Turns.{TurnsFrom}
+use Rattle.jn_header.specs.Asked.{headers_in_space}
+use Rattle.jn_heads.proofs.Turns.{TurnsFrom}
 use Rattle.jn_header.proofs.headers.judge_decls.Given as goal
 
 abbrev pub invariant-loop-d : goal.invariant-loop-d

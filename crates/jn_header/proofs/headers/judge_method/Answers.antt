@@ -1,5 +1,5 @@
-use Rattle.jn_header.specs.declared.params.Header.{Header}
-use Rattle.jn_header.specs.Params.{header_in}
+use Rattle.jn_heads.specs.declared.params.Header.{Header}
+use Rattle.jn_heads.specs.Params.{header_in}
 use Rattle.jn_header.proofs.Heads.{method_refused, method_told}
 use Rattle.jn_header.proofs.headers.judge_method.Goals as goal
 

@@ -3,7 +3,7 @@ use Rattle.jn_base.specs.declared.tree.Name.{Name}
 use Rattle.jn_base.specs.Paths.{Path}
 use Rattle.jn_rules.specs.Plans.{Plan, Nothing, in_turn}
 use Rattle.jn_rules.specs.Questions.{Gives}
-use Rattle.jn_header.specs.Told.{Told, itself}
+use Rattle.jn_heads.specs.Told.{Told, itself}
 use Rattle.jn_header.specs.Listed.{HasName}
 use Rattle.jn_header.proofs.Families.{adapted, shared}
 use Rattle.jn_header.proofs.listed.judge_listed.Goals as goal

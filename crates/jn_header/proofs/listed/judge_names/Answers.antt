@@ -1,6 +1,6 @@
 use Rattle.std.proofs.Common.{rules}
 use Rattle.jn_header.specs.Listed.{listing_of, of_list}
-use Rattle.jn_header.proofs.Turns.{turns_start, turns_more_at, turns_fail_at, turns_done}
+use Rattle.jn_heads.proofs.Turns.{turns_start, turns_more_at, turns_fail_at, turns_done}
 use Rattle.jn_header.proofs.listed.judge_names.Goals as goal
 
 pub loop-name-init : goal.loop-name-init

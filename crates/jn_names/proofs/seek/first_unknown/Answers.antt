@@ -4,7 +4,7 @@ use Rattle.jn_base.specs.Paths.{Path}
 use Rattle.jn_base.specs.Universe.{InUniverse}
 use Rattle.jn_base.specs.Resolve.{FirstUnknown}
 use Rattle.jn_reach.proofs.Searches.{not_when}
-use Rattle.jn_bounds.proofs.Turned.{at_place}
+use Rattle.jn_names.proofs.Turned.{at_place}
 use Rattle.jn_names.proofs.Known.{step_known, step_unknown}
 use Rattle.jn_names.proofs.seek.first_unknown.Goals as goal
 

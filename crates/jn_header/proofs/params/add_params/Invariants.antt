@@ -1,5 +1,0 @@
-use Rattle.jn_header.proofs.Parameters.{ParamsSoFar}
-use Rattle.jn_header.proofs.params.add_params.Given as goal
-
-abbrev pub invariant-loop-param : goal.invariant-loop-param
-invariant-loop-param l = ParamsSoFar l.p l.fn.t l.t l.fn.pool l.pool l.fn.at l.at l.params l.param-index

@@ -1,0 +1,5 @@
+pub mod Lists
+pub mod Turns
+pub mod Writing
+pub mod Parameters
+pub mod Sides
