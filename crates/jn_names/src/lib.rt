@@ -7,6 +7,7 @@
 #![tactic(auto)]
 
 mod before;
+mod bound;
 mod fault;
 mod fields;
 mod masks;
@@ -18,6 +19,7 @@ mod seek;
 mod term;
 mod types;
 
+pub use bound::Bound;
 pub use fault::NameFault;
 pub use fields::field_types;
 pub use jn_base::names::{Resolved, Role, Spot, Var, Vars};
