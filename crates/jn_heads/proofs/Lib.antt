@@ -2,4 +2,4 @@ pub mod Lists
 pub mod Turns
 pub mod Writing
 pub mod Parameters
-pub mod Sides
+pub mod Pledging

@@ -21,7 +21,7 @@ pub struct Pledge {
 }
 
 /// What a side of a constraint in the header of a class's method stands for.
-fn side_of(
+pub fn side_of(
     alloc: Global,
     p: &Program,
     t: &mut Table,

@@ -1,4 +1,4 @@
-use Rattle.jn_heads.proofs.Sides.{left_fails, right_fails, both_there}
+use Rattle.jn_heads.proofs.Pledging.{left_fails, right_fails, both_there}
 use Rattle.jn_heads.proofs.sides.pledge_of.Goals as goal
 
 pub returns-in-Err-clause-told : goal.returns-in-Err-clause-told

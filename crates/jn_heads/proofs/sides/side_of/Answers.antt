@@ -1,7 +1,7 @@
 use Rattle.std.proofs.Common.{ap, List}
 use Rattle.jn_base.specs.declared.names.Vars.{Vars}
 use Rattle.jn_base.specs.declared.names.Var.{Var}
-use Rattle.jn_heads.proofs.Sides.{side_is, side_refused}
+use Rattle.jn_heads.proofs.Pledging.{side_is, side_refused}
 use Rattle.jn_heads.proofs.sides.side_of.Goals as goal
 
 pub returns-in-Ok-clause-told : goal.returns-in-Ok-clause-told
