@@ -6,8 +6,8 @@ ghost use Rattle.jn_subtype.specs.Binds.{binds_in};
 ghost use Rattle.jn_subtype.specs.Newest.{IsNewest};
 
 use jn_base::types::{Anchor, Atom, Ty};
-use jn_names::Bound;
 use jn_intern::{Bind, Pool, Scope};
+use jn_names::Bound;
 use jn_normal::Conjunct;
 use std::alloc::{AllocError, Global};
 

@@ -11,8 +11,8 @@ ghost use Rattle.jn_subtype.specs.Older.{IsAsOld};
 
 use crate::bounds::bound_in;
 use jn_base::types::Anchor;
-use jn_names::Bound;
 use jn_intern::{Pool, Scope};
+use jn_names::Bound;
 use jn_normal::{Conjunct, further};
 use jn_table::Table;
 use std::alloc::{AllocError, Global};

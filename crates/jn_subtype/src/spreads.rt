@@ -7,8 +7,8 @@ ghost use Rattle.jn_sem.specs.Search.{Spreads, spread};
 ghost use Rattle.jn_subtype.specs.Turns.{Adds};
 
 use crate::bounds::bound_in;
-use jn_names::Bound;
 use jn_intern::{Pool, Scope};
+use jn_names::Bound;
 use jn_normal::Conjunct;
 use jn_table::Table;
 use std::alloc::{AllocError, Global};
