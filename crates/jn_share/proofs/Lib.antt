@@ -20,7 +20,8 @@ pub mod Kinship
 pub mod Making
 pub mod Names
 pub mod PairsFound
-pub mod Partners
+pub mod OwnRows
+pub mod Linked
 pub mod Preparing
 pub mod Reading
 pub mod Refusing

@@ -6,8 +6,8 @@ use Rattle.jn_base.specs.declared.path.Path.{Path as ShownPath}
 use Rattle.jn_base.specs.Paths.{Path, shown}
 use Rattle.jn_reach.proofs.Searches.{same_some}
 use Rattle.jn_sem.specs.Sharing.{family_of, in_family}
-use Rattle.jn_share.proofs.Turned.{turned_first, turned_same}
-use Rattle.jn_share.specs.Pairing.{HaveOneFamily, AreInner, IsAt}
+use Rattle.jn_share.proofs.Turned.{turned_first}
+use Rattle.jn_share.specs.Pairing.{HaveOneFamily, IsAt}
 
 pub last_family : (Q : Path) (X : Name) → family_of (Q ++ X ∷ []) ≡ Some X
 last_family [] X = refl
@@ -30,10 +30,6 @@ pub first_family : (names : List Name) (X : Name) → slice_get names 0 ≡ Some
 first_family [] X e = cc
 first_family (Y ∷ names) X e = outer_family Y names ∙ e
 
-pub no_family : (names : List Name) (X : Name) → length names ≡ 0 → family_of (reverse names) ≡ Some X → ⊥
-no_family [] X l e = cc
-no_family (Y ∷ names) X l e = omega (arith, l)
-
 pub in_family_none : (names : List Name) (A : Name) → length names ≡ 0 → [] ≡ in_family A (reverse names)
 in_family_none [] A l = refl
 in_family_none (Y ∷ names) A l = absurd (omega (arith, l))
@@ -41,32 +37,6 @@ in_family_none (Y ∷ names) A l = absurd (omega (arith, l))
 pub in_family_is : (names : List Name) (A : Name) → (length names ≡ 0 → ⊥) → reverse (drop 1 names) ++ A ∷ [] ≡ in_family A (reverse names)
 in_family_is [] A l = absurd (l refl)
 in_family_is (X ∷ names) A l = sym (turned_first A names) ∙ sym (outer_in X A names)
-
--- the same names but for the first
-pub inner_to : (names others : List Name) → (length names ≡ 0 → ⊥) → (length others ≡ 0 → ⊥) → drop 1 names ≡ drop 1 others → AreInner (reverse names) (reverse others)
-inner_to [] others l m e = absurd (l refl)
-inner_to (X ∷ names) [] l m e = absurd (m refl)
-inner_to (X ∷ names) (Y ∷ others) l m e = record {
-  Y = Y;
-  family = outer_family Y others;
-  is = ap (λ (ns : List Name). reverse (Y ∷ ns)) (sym e) ∙ sym (outer_in X Y names);
-}
-
-pub inner_from : (names others : List Name) → AreInner (reverse names) (reverse others) → drop 1 names ≡ drop 1 others
-inner_from [] [] a = refl
-inner_from [] (Y ∷ others) a = let e : reverse (Y ∷ others) ≡ reverse [] = a.is in absurd (let f = turned_same (Y ∷ others) [] e in cc f)
-inner_from (X ∷ names) [] a = absurd (no_family [] a.Y refl a.family)
-inner_from (X ∷ names) (Z ∷ others) a =
-    let e : reverse (Z ∷ others) ≡ reverse (a.Y ∷ names) = a.is ∙ outer_in X a.Y names in
-    let f : (Z ∷ others) ≡ (a.Y ∷ names) = turned_same (Z ∷ others) (a.Y ∷ names) e in
-    sym (ap (drop 1) f)
-
-pub inner_none : (names others : List Name) → length names ≡ 0 → AreInner (reverse names) (reverse others) → ⊥
-inner_none [] others l a = let e : reverse others ≡ [] = a.is in let f = turned_same others [] e in no_family others a.Y (ap length f) a.family
-inner_none (X ∷ names) others l a = omega (arith, l)
-
-pub inner_nothing : (names others : List Name) → length others ≡ 0 → AreInner (reverse names) (reverse others) → ⊥
-inner_nothing names others l a = no_family others a.Y l a.family
 
 pub one_to : (names others : List Name) (X Y : Name) → slice_get names 0 ≡ Some X → slice_get others 0 ≡ Some Y → X ≡ Y → HaveOneFamily (reverse names) (reverse others)
 one_to names others X Y a b e = record { X = X; one = first_family names X a; other = first_family others Y b ∙ ap Some (sym e) }

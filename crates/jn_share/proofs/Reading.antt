@@ -1,7 +1,11 @@
 -- What the rows of groups answer.
-use Rattle.std.proofs.Common.{◌≡◌, ◌<◌, ◌+◌, ℕ, length, get_or, List, [], ◌∷◌, Contains, Option, Some, None, slice_get, sym, subst, ◌∙◌, IsTrue, false, nat_eq, IfSome, IfNone, arith, refl, ap}
+use Rattle.std.proofs.Common.{◌≡◌, ◌<◌, ◌+◌, ℕ, length, get_or, List, [], ◌∷◌, Option, Some, None, slice_get, sym, subst, ◌∙◌, Bool, IsTrue, false, ◌↔◌, nat_eq, IfSome, IfNone, arith, refl, ap}
 use Rattle.std.proofs.lemmas.Option.{slice_get-get_or, get_or_from_slice_get}
-use Rattle.jn_reach.proofs.Searches.{iff_false, same_some, NoneBefore, none_more}
+use Rattle.std.specs.List.{Any}
+use Rattle.std.specs.declared.vec.Vec.{Vec}
+use Rattle.std.specs.declared.alloc.Global.{Global}
+use Rattle.jn_reach.specs.Graph.{Graph}
+use Rattle.jn_reach.proofs.Searches.{iff_false, not_when, same_some, NoneBefore, none_more}
 use Rattle.jn_base.specs.Paths.{Path}
 use Rattle.jn_table.specs.declared.class.ClassId.{ClassId}
 use Rattle.jn_table.specs.Rows.{IsNumber}
@@ -10,9 +14,9 @@ use Rattle.jn_sem.specs.Sharing.{Related}
 use Rattle.jn_base.specs.declared.tree.Program.{Program}
 use Rattle.jn_base.specs.declared.path.Path.{Path as ShownPath}
 use Rattle.jn_share.specs.declared.rows.GroupRow.{GroupRow}
-use Rattle.jn_share.specs.declared.rows.Partner.{Partner}
+use Rattle.jn_share.specs.declared.rows.FamilyClass.{FamilyClass}
 use Rattle.jn_share.specs.declared.groups.Groups.{Groups}
-use Rattle.jn_share.specs.Groups.{AreGroups, HasGroup, HasCounterpart, SaysRelated, SaysCounterpart}
+use Rattle.jn_share.specs.Groups.{AreGroups, HasGroup, HasClass, HasCounterpart, SaysRelated, SaysCounterpart}
 
 pub none_more_at : {X : Type 0} (P : X → Type 0) (xs : List X) (i : ℕ) (d : X) → i < length xs → (P (get_or xs i d) → ⊥) → NoneBefore P xs i → NoneBefore P xs (i + 1)
 none_more_at P xs i d l n none =
@@ -65,17 +69,19 @@ module _ (groups : Groups) (a b : ClassId) where
 
 -- ---- counterparts
 
-number_in : (rows others : List GroupRow) (id family w : ClassId) → rows ≡ others → HasCounterpart others id family w → HasCounterpart rows id family w
-number_in rows others id family w e h = subst (λ (rs : List GroupRow). HasCounterpart rs id family w) (sym e) h
+number_in : (rows others : List GroupRow) (members lists : Graph) (id family w : ClassId) → rows ≡ others → members ≡ lists
+    → HasCounterpart others lists id family w → HasCounterpart rows members id family w
+number_in rows others members lists id family w e m h =
+    subst (λ (rs : List GroupRow). HasCounterpart rs members id family w) (sym e) (subst (λ (ls : Graph). HasCounterpart others ls id family w) (sym m) h)
 
-pub counterpart_says : (groups : Groups) (id family : ClassId) (rows : List GroupRow) (told : Option ClassId) → rows ≡ groups.rows.items
-    → IfSome told (λ w. HasCounterpart rows id family w) → (told ≡ None → (w : ClassId) → HasCounterpart rows id family w → ⊥) → SaysCounterpart groups id family told
-counterpart_says groups id family rows (Some w) e s n = λ p known A F g x y.
-    let k = (g.counterparts id family w A x).0 (number_in groups.rows.items rows id family w (sym e) s) in
+pub counterpart_says : (groups : Groups) (id family : ClassId) (rows : List GroupRow) (members : Graph) (told : Option ClassId) → rows ≡ groups.rows.items → members ≡ groups.members.items
+    → IfSome told (λ w. HasCounterpart rows members id family w) → (told ≡ None → (w : ClassId) → HasCounterpart rows members id family w → ⊥) → SaysCounterpart groups id family told
+counterpart_says groups id family rows members (Some w) e m s n = λ p known A F g x y.
+    let k = (g.counterparts id family w A x).0 (number_in groups.rows.items rows groups.members.items members id family w (sym e) (sym m) s) in
     (k.Y, k.W, number_path known family F (k.Y ∷ []) y k.family_is, k.class_is, k.is)
-counterpart_says groups id family rows None e s n = λ p known A F g x y Y W f c.
+counterpart_says groups id family rows members None e m s n = λ p known A F g x y Y W f c.
     let w = g.whole W c.related.other.universe in
-    n refl w.0 (number_in rows groups.rows.items id family w.0 e ((g.counterparts id family w.0 A x).1 (record {
+    n refl w.0 (number_in rows groups.rows.items members groups.members.items id family w.0 e m ((g.counterparts id family w.0 A x).1 (record {
       Y = Y;
       family_is = subst (IsNumber known family) f y;
       W = W;
@@ -83,19 +89,58 @@ counterpart_says groups id family rows None e s n = λ p known A F g x y Y W f c
       is = c;
     })))
 
-pub absent_here : (rows : List GroupRow) (id family : ClassId) (row : GroupRow) (list : List Partner) (o : Option ClassId) → slice_get rows id.0 ≡ Some row → list ≡ row.counterparts.items
-    → IfNone o ((w : ClassId) → Contains list (record { family = family; class = w }) → ⊥) → IfNone o ((w : ClassId) → HasCounterpart rows id family w → ⊥)
-absent_here rows id family row list (Some w) at e n = tt
-absent_here rows id family row list None at e n = λ w h.
-    let same : h.row ≡ row = same_some (slice_get rows id.0) h.row row h.at at in
-    n w (subst (λ (l : List Partner). Contains l (record { family = family; class = w })) (ap (λ (r : GroupRow). r.counterparts.items) same ∙ sym e) h.among)
+pub none_of : (rows : List GroupRow) (members : Graph) (id family : ClassId) (o : Option ClassId) → IfNone o ((w : ClassId) → HasCounterpart rows members id family w → ⊥) → o ≡ None
+    → (w : ClassId) → HasCounterpart rows members id family w → ⊥
+none_of rows members id family None n e = n
+none_of rows members id family (Some w) n e = cc
 
-pub present_here : (rows : List GroupRow) (id family : ClassId) (row : GroupRow) (list : List Partner) (o : Option ClassId) → slice_get rows id.0 ≡ Some row → list ≡ row.counterparts.items
-    → IfSome o (λ w. Contains list (record { family = family; class = w })) → IfSome o (λ w. HasCounterpart rows id family w)
-present_here rows id family row list None at e s = tt
-present_here rows id family row list (Some w) at e s = record { row = row; at = at; among = subst (λ (l : List Partner). Contains l (record { family = family; class = w })) e s }
+-- the parts of a counterpart, as they are looked for
+module _ (rows : List GroupRow) (members : Graph) (id family : ClassId) where
+  pub no_group : ((f : ℕ) → HasGroup rows id f → ⊥) → (w : ClassId) → HasCounterpart rows members id family w → ⊥
+  no_group n w h = n h.group h.in_group
 
-pub none_of : (rows : List GroupRow) (id family : ClassId) (o : Option ClassId) → IfNone o ((w : ClassId) → HasCounterpart rows id family w → ⊥) → o ≡ None
-    → (w : ClassId) → HasCounterpart rows id family w → ⊥
-none_of rows id family None n e = n
-none_of rows id family (Some w) n e = cc
+  pub no_numbers : (f : ℕ) → HasGroup rows id f → None ≡ slice_get members f → (w : ClassId) → HasCounterpart rows members id family w → ⊥
+  no_numbers f g e w h =
+      let same : h.group ≡ f = one_group rows id h.group f h.in_group g in
+      nothing (e ∙ (ap (slice_get members) (sym same) ∙ h.at)) where
+        nothing : {v : Vec ℕ Global} → None ≡ Some v → ⊥
+        nothing q = cc
+
+  module _ (f : ℕ) (g : HasGroup rows id f) (numbers : Vec ℕ Global) (at : slice_get members f ≡ Some numbers) (list : List ℕ) (e : list ≡ numbers.items) where
+    pub present_here : (o : Option ClassId) → IfSome o (λ w. Any (λ k. HasClass rows k family w) list) → IfSome o (λ w. HasCounterpart rows members id family w)
+    present_here None s = tt
+    present_here (Some w) s =
+        record { group = f; in_group = g; numbers = numbers; at = at; among = subst (λ (xs : List ℕ). Any (λ k. HasClass rows k family w) xs) e s }
+
+    pub absent_here : (o : Option ClassId) → IfNone o ((w : ClassId) → Any (λ k. HasClass rows k family w) list → ⊥)
+        → IfNone o ((w : ClassId) → HasCounterpart rows members id family w → ⊥)
+    absent_here (Some w) n = tt
+    absent_here None n = λ w h.
+        let same : h.group ≡ f = one_group rows id h.group f h.in_group g in
+        let one : h.numbers ≡ numbers = same_some (slice_get members f) h.numbers numbers (ap (slice_get members) (sym same) ∙ h.at) at in
+        n w (subst (λ (xs : List ℕ). Any (λ k. HasClass rows k family w) xs) (ap (λ (v : Vec ℕ Global). v.items) one ∙ sym e) h.among)
+
+-- ---- a row that has a class of the family
+
+module _ (rows : List GroupRow) (k : ℕ) (family : ClassId) where
+  pub no_row : None ≡ slice_get rows k → (w : ClassId) → HasClass rows k family w → ⊥
+  no_row e w h = nothing (e ∙ h.at) where
+    nothing : {r : GroupRow} → None ≡ Some r → ⊥
+    nothing q = cc
+
+  module _ (row : GroupRow) (at : Some row ≡ slice_get rows k) where
+    own_of : (w : ClassId) → HasClass rows k family w → row.own ≡ Some (record { family = family; class = w })
+    own_of w h = ap (λ (r : GroupRow). r.own) (same_some (slice_get rows k) row h.row (sym at) h.at) ∙ h.own
+
+    pub no_own : row.own ≡ None → (w : ClassId) → HasClass rows k family w → ⊥
+    no_own e w h = nothing (sym e ∙ own_of w h) where
+      nothing : {x : FamilyClass} → None ≡ Some x → ⊥
+      nothing q = cc
+
+    pub other_own : (x : FamilyClass) → row.own ≡ Some x → (b : Bool) → b ≡ false → IsTrue b ↔ (x.family ≡ family) → (w : ClassId) → HasClass rows k family w → ⊥
+    other_own x e b f i w h =
+        let same : x ≡ record { family = family; class = w } = same_some row.own x (record { family = family; class = w }) e (own_of w h) in
+        not_when f i (ap (λ (z : FamilyClass). z.family) same)
+
+    pub its_own : (x : FamilyClass) → row.own ≡ Some x → x.family ≡ family → HasClass rows k family x.class
+    its_own x e s = record { row = row; at = sym at; own = e ∙ ap (λ (g : ClassId). Some (record { family = g; class = x.class })) s }

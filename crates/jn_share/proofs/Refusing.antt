@@ -4,6 +4,7 @@ use Rattle.std.proofs.lemmas.List.{take-append-drop, take_all}
 use Rattle.std.proofs.lemmas.List.Elements.{Contains-append_cases}
 use Rattle.jn_reach.proofs.Searches.{iff_true, iff_false, not_when, same_some}
 use Rattle.jn_base.specs.declared.tree.Name.{Name}
+use Rattle.jn_base.specs.declared.tree.Named.{Named}
 use Rattle.jn_base.specs.declared.tree.Program.{Program}
 use Rattle.jn_base.specs.declared.tree.Kind.TheVariants as kind
 use Rattle.jn_base.specs.Paths.{Path}
@@ -14,7 +15,8 @@ use Rattle.jn_base.proofs.NameTests.{in_cons, in_none}
 use Rattle.jn_share.proofs.Numbered.{kind_known}
 use Rattle.jn_share.proofs.Turned.{at_index}
 use Rattle.jn_sem.specs.Sharing.{IsClass, family_of, in_family}
-use Rattle.jn_sem.specs.NotFamily.{sharing, Listed, IsStrictSuper, Lacks, no_super, no_class, IsNotFamily, AreFamilies, not_family, listed_names}
+use Rattle.jn_sem.specs.NotFamily.{sharing, Listed, in_list, IsStrictSuper, Lacks, no_super, no_class, IsNotFamily, AreFamilies, not_family, listed_names}
+use Rattle.jn_share.specs.declared.listed.InList.{InList}
 use Rattle.jn_share.specs.declared.listed.InList.TheVariants as list
 use Rattle.jn_share.specs.declared.listed.ListedName.{ListedName}
 use Rattle.jn_share.specs.declared.fault.ShareFault.{ShareFault}
@@ -24,34 +26,35 @@ use Rattle.jn_share.proofs.Exact.{listed_family}
 use Rattle.jn_share.proofs.Walk.{take_one, map_both}
 
 -- the class that a name in a list of `shares` is to have
-pub lacks_there : (p : Program) (x : ListedName) (there : Path) (b : Bool) → x.list ≡ list.Shares → there ≡ in_family x.name.name (reverse x.at.names)
-    → IsTrue b ↔ HasKind p there kind.Class → IsTrue (not b) ↔ ((listing_of x.list ≡ sharing) × (IsClass p (in_family x.name.name (reverse x.at.names)) → ⊥))
-lacks_there p x there true l e h = (λ t. absurd (cc t), λ n. absurd (n.1 (subst (IsClass p) e (record { universe = kind_known p there kind.Class (h.0 refl); kind = h.0 refl }))))
-lacks_there p x there false l e h = (
-  λ t. (ap listing_of l, λ k. let g : IsTrue false = h.1 (subst (λ (R : Path). HasKind p R kind.Class) (sym e) k.kind) in cc g),
+pub lacks_there : (p : Program) (names : List Name) (l : InList) (name : Name) (there : Path) (b : Bool) → l ≡ list.Shares → there ≡ in_family name (reverse names)
+    → IsTrue b ↔ HasKind p there kind.Class → IsTrue (not b) ↔ ((listing_of l ≡ sharing) × (IsClass p (in_family name (reverse names)) → ⊥))
+lacks_there p names l name there true k e h =
+    (λ t. absurd (cc t), λ n. absurd (n.1 (subst (IsClass p) e (record { universe = kind_known p there kind.Class (h.0 refl); kind = h.0 refl }))))
+lacks_there p names l name there false k e h = (
+  λ t. (ap listing_of k, λ i. let g : IsTrue false = h.1 (subst (λ (R : Path). HasKind p R kind.Class) (sym e) i.kind) in cc g),
   λ n. refl,
 )
 
-module _ (p : Program) (x : ListedName) (above : Path) (known : Bool) (is : above ≡ x.name.name ∷ []) (k : IsTrue known ↔ InUniverse p above) where
+module _ (p : Program) (names : List Name) (l : InList) (name : Named) (X : Name) (e : family_of (reverse names) ≡ Some X)
+    (strict : Bool) (s : IsTrue strict ↔ IsStrictSuper p X name.name) where
+  pub no_strict : strict ≡ false → IsTrue true ↔ Lacks p (in_list (reverse names) (listing_of l) name)
+  no_strict n = iff_true (no_super X e (not_when n s))
+
+  pub by_class : (b : Bool) → strict ≡ true → IsTrue b ↔ ((listing_of l ≡ sharing) × (IsClass p (in_family name.name (reverse names)) → ⊥))
+      → IsTrue b ↔ Lacks p (in_list (reverse names) (listing_of l) name)
+  by_class b n k = (λ h. let m = k.0 h in no_class m.0 m.1, λ h. either h) where
+    either : Lacks p (in_list (reverse names) (listing_of l) name) → IsTrue b
+    either (no_super Y f g) =
+        let same : X ≡ Y = same_some (family_of (reverse names)) X Y e f in
+        absurd (g (subst (λ (Z : Name). IsStrictSuper p Z name.name) same (s.0 n)))
+    either (no_class m g) = k.1 (m, g)
+
+module _ (p : Program) (x : ListedName) (known : Bool) (k : IsTrue known ↔ InUniverse p (x.name.name ∷ [])) where
   pub not_top : known ≡ false → IsTrue false ↔ IsNotFamily p (listed_of x)
-  not_top t = iff_false (λ n. not_when t k (subst (InUniverse p) (sym is) n.top))
+  not_top t = iff_false (λ n. not_when t k n.top)
 
-module _ (p : Program) (x : ListedName) (X : Name) (e : family_of (reverse x.at.names) ≡ Some X) (above : Path) (known strict : Bool)
-    (is : above ≡ x.name.name ∷ []) (k : IsTrue known ↔ InUniverse p above) (t : known ≡ true) (s : IsTrue strict ↔ IsStrictSuper p X x.name.name) where
-  top : InUniverse p (x.name.name ∷ [])
-  top = subst (InUniverse p) is (k.0 t)
-
-  pub no_strict : strict ≡ false → IsTrue true ↔ IsNotFamily p (listed_of x)
-  no_strict n = iff_true (record { top = top; lacks = no_super X e (not_when n s) })
-
-  pub by_class : (b : Bool) → strict ≡ true → IsTrue b ↔ ((listing_of x.list ≡ sharing) × (IsClass p (in_family x.name.name (reverse x.at.names)) → ⊥))
-      → IsTrue b ↔ IsNotFamily p (listed_of x)
-  by_class b n l = (λ h. let m = l.0 h in record { top = top; lacks = no_class m.0 m.1 }, λ h. by_lack h.lacks) where
-    by_lack : Lacks p (listed_of x) → IsTrue b
-    by_lack (no_super Y f g) =
-        let same : X ≡ Y = same_some (family_of (reverse x.at.names)) X Y e f in
-        absurd (g (subst (λ (Z : Name). IsStrictSuper p Z x.name.name) same (s.0 n)))
-    by_lack (no_class m g) = l.1 (m, g)
+  pub by_lack : known ≡ true → (b : Bool) → IsTrue b ↔ Lacks p (listed_of x) → IsTrue b ↔ IsNotFamily p (listed_of x)
+  by_lack t b i = (λ h. record { top = k.0 t; lacks = i.0 h }, λ n. i.1 n.lacks)
 
 -- ---- the first one
 

@@ -15,7 +15,7 @@ use Rattle.jn_share.proofs.Names.{last_family, last_in}
 use Rattle.jn_share.proofs.Exact.{listed_found, found_listed, some_family}
 
 -- a path of a family
-ends : (R : Path) (X : Name) → family_of R ≡ Some X → (t : List Name) × (R ≡ t ++ X ∷ []) × ((A : Name) → in_family A R ≡ t ++ A ∷ [])
+pub ends : (R : Path) (X : Name) → family_of R ≡ Some X → (t : List Name) × (R ≡ t ++ X ∷ []) × ((A : Name) → in_family A R ≡ t ++ A ∷ [])
 ends [] X f = cc
 ends (C ∷ []) X f = let e : C ≡ X = cc f in ([], ap (λ (N : Name). N ∷ []) e, λ A. refl)
 ends (C ∷ (D ∷ P)) X f = let w = ends (D ∷ P) X f in (C ∷ w.0, ap (λ (Q : Path). C ∷ Q) w.1, λ A. ap (λ (Q : Path). C ∷ Q) (w.2 A))

@@ -1,5 +1,8 @@
 -- Of which program groups are, and what their calls say.
-use Rattle.std.specs.Prelude.{◌≡◌, ◌↔◌, ◌<◌, ◌≤◌, ℕ, List, [], ◌∷◌, length, Contains, Option, Some, None, slice_get, Bool, IsTrue, Result, Ok, Err}
+use Rattle.std.specs.Prelude.{◌≡◌, ◌↔◌, ◌<◌, ◌≤◌, ℕ, List, [], ◌∷◌, length, Any, Option, Some, None, slice_get, Bool, IsTrue, Result, Ok, Err}
+use Rattle.std.specs.declared.vec.Vec.{Vec}
+use Rattle.std.specs.declared.alloc.Global.{Global}
+use Rattle.jn_reach.specs.Graph.{Graph}
 use Rattle.jn_base.specs.declared.tree.Name.{Name}
 use Rattle.jn_base.specs.declared.tree.Program.{Program}
 use Rattle.jn_base.specs.declared.path.Path.{Path as ShownPath}
@@ -26,11 +29,19 @@ pub record HasGroup (rows : List GroupRow) (id : ClassId) (group : ℕ) : Type 0
 abbrev pub HaveOneGroup : List GroupRow → ClassId → ClassId → Type 0
 HaveOneGroup rows a b = (group : ℕ) × HasGroup rows a group × HasGroup rows b group
 
--- the row of the number has this counterpart in the family
-pub record HasCounterpart (rows : List GroupRow) (id family class : ClassId) : Type 0 where
+-- the row of the number k has this class with this family
+pub record HasClass (rows : List GroupRow) (k : ℕ) (family class : ClassId) : Type 0 where
   pub row : GroupRow
-  pub at : slice_get rows id.0 ≡ Some row
-  pub among : Contains row.counterparts.items (record { family = family; class = class })
+  pub at : slice_get rows k ≡ Some row
+  pub own : row.own ≡ Some (record { family = family; class = class })
+
+-- one of the numbers of the group of the number has this class with this family
+pub record HasCounterpart (rows : List GroupRow) (members : Graph) (id family class : ClassId) : Type 0 where
+  pub group : ℕ
+  pub in_group : HasGroup rows id group
+  pub numbers : Vec ℕ Global
+  pub at : slice_get members group ≡ Some numbers
+  pub among : Any (λ k. HasClass rows k family class) numbers.items
 
 -- the class is the counterpart of U in the family, both by their numbers
 pub record IsCounterpart (p : Program) (known : List ShownPath) (U : Path) (family class : ClassId) : Type 0 where
@@ -46,7 +57,7 @@ pub record AreGroups (p : Program) (known : List ShownPath) (groups : Groups) : 
   pub low : (id : ClassId) (A : Path) (f : ℕ) → IsNumber known id A → HasGroup groups.rows.items id f → f ≤ id.0
   pub related : (a b : ClassId) (A B : Path) → IsNumber known a A → IsNumber known b B → HaveOneGroup groups.rows.items a b ↔ Related p A B
   pub counterparts : (a family class : ClassId) (A : Path) → IsNumber known a A
-      → HasCounterpart groups.rows.items a family class ↔ IsCounterpart p known A family class
+      → HasCounterpart groups.rows.items groups.members.items a family class ↔ IsCounterpart p known A family class
   pub homes : HomesTo p known (length known) groups.homes.items
 
 -- the first n numbers have the first number of their group

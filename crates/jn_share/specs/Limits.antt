@@ -1,4 +1,4 @@
--- The limits of entries and slots, and what is refused where one is passed.
+-- The limits of entries and slots, and what is refused where one is passed: the same as in the rules' verdict (a law above both says so).
 use Rattle.std.specs.Prelude.{◌≡◌, ◌<◌, ℕ, List, Contains, Some, None, slice_get, length}
 use Rattle.jn_base.specs.declared.tree.Name.{Name}
 use Rattle.jn_base.specs.declared.tree.Place.{Place}

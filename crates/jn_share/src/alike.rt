@@ -69,8 +69,12 @@ fn both_cover(
     w: ClassId,
     x: &FieldTy,
 ) -> bool
-    ensures yes { IsTrue result → (types : AFieldTypes) → SaysTwo t.now g.now types all.now v w (λ p V W. (f : AName) (Q : APath) → EntryFor p t.now.known.items V f x.now Q → EntryFor p t.now.known.items W f x.now Q → SameField p (SamePart t.now.known.items parts.now) V W f) }
-    ensures no { result ≡ false → (types : AFieldTypes) → SaysTwo t.now g.now types all.now v w (λ p V W. (f : AName) (Q : APath) → EntryFor p t.now.known.items V f x.now Q → EntryFor p t.now.known.items W f x.now Q → OtherField p (SamePart t.now.known.items parts.now) V W f) }
+    ensures yes { IsTrue result → (types : AFieldTypes) → SaysTwo t.now g.now types all.now v w
+        (λ p V W. (f : AName) (Q : APath) → EntryFor p t.now.known.items V f x.now Q
+        → EntryFor p t.now.known.items W f x.now Q → SameField p (SamePart t.now.known.items parts.now) V W f) }
+    ensures no { result ≡ false → (types : AFieldTypes) → SaysTwo t.now g.now types all.now v w
+        (λ p V W. (f : AName) (Q : APath) → EntryFor p t.now.known.items V f x.now Q
+        → EntryFor p t.now.known.items W f x.now Q → OtherField p (SamePart t.now.known.items parts.now) V W f) }
 {
     if !hangs_on_this(&x.ty) {
         return true;
@@ -92,8 +96,12 @@ fn same_typed(
     w: ClassId,
     y: &FieldTy,
 ) -> bool
-    ensures yes { IsTrue result → (types : AFieldTypes) → SaysTwo t.now g.now types all.now v w (λ p V W. (f : AName) (Q R : APath) → EntryFor p t.now.known.items V f x.now Q → EntryFor p t.now.known.items W f y.now R → SameField p (SamePart t.now.known.items parts.now) V W f) }
-    ensures no { result ≡ false → (types : AFieldTypes) → SaysTwo t.now g.now types all.now v w (λ p V W. (f : AName) (Q R : APath) → EntryFor p t.now.known.items V f x.now Q → EntryFor p t.now.known.items W f y.now R → OtherField p (SamePart t.now.known.items parts.now) V W f) }
+    ensures yes { IsTrue result → (types : AFieldTypes) → SaysTwo t.now g.now types all.now v w
+        (λ p V W. (f : AName) (Q R : APath) → EntryFor p t.now.known.items V f x.now Q
+        → EntryFor p t.now.known.items W f y.now R → SameField p (SamePart t.now.known.items parts.now) V W f) }
+    ensures no { result ≡ false → (types : AFieldTypes) → SaysTwo t.now g.now types all.now v w
+        (λ p V W. (f : AName) (Q R : APath) → EntryFor p t.now.known.items V f x.now Q
+        → EntryFor p t.now.known.items W f y.now R → OtherField p (SamePart t.now.known.items parts.now) V W f) }
 {
     if !one_place(x, y) {
         return false;
@@ -113,8 +121,10 @@ pub fn same_field(
     w: ClassId,
     dw: usize,
 ) -> bool
-    ensures yes { IsTrue result → SaysTwo t.now g.now types.now all.now v w (λ p V W. (f : AName) → DeclsOf p t.now types.now V dv W dw f → SameField p (SamePart t.now.known.items parts.now) V W f) }
-    ensures no { result ≡ false → SaysTwo t.now g.now types.now all.now v w (λ p V W. (f : AName) → DeclsOf p t.now types.now V dv W dw f → OtherField p (SamePart t.now.known.items parts.now) V W f) }
+    ensures yes { IsTrue result → SaysTwo t.now g.now types.now all.now v w (λ p V W. (f : AName)
+        → DeclsOf p t.now types.now V dv W dw f → SameField p (SamePart t.now.known.items parts.now) V W f) }
+    ensures no { result ≡ false → SaysTwo t.now g.now types.now all.now v w (λ p V W. (f : AName)
+        → DeclsOf p t.now types.now V dv W dw f → OtherField p (SamePart t.now.known.items parts.now) V W f) }
 {
     match at(&types.list, dv) {
         None => false,
@@ -138,8 +148,14 @@ fn same_fields(
     dws: &[usize],
 ) -> bool
     requires { length dws.now ≡ length dvs.now }
-    ensures yes { IsTrue result → SaysTwo t.now g.now types.now all.now v w (λ p V W. (fields : List AName) → AreDecls p t.now.known.items types.now.list.items V fields dvs.now → AreDecls p t.now.known.items types.now.list.items W fields dws.now → (f : AName) → Contains fields f → SameField p (SamePart t.now.known.items parts.now) V W f) }
-    ensures no { result ≡ false → SaysTwo t.now g.now types.now all.now v w (λ p V W. (fields : List AName) → AreDecls p t.now.known.items types.now.list.items V fields dvs.now → AreDecls p t.now.known.items types.now.list.items W fields dws.now → NotAlike p (SamePart t.now.known.items parts.now) V W) }
+    ensures yes { IsTrue result → SaysTwo t.now g.now types.now all.now v w (λ p V W. (fields : List AName)
+        → AreDecls p t.now.known.items types.now.list.items V fields dvs.now
+        → AreDecls p t.now.known.items types.now.list.items W fields dws.now → (f : AName) → Contains fields f
+        → SameField p (SamePart t.now.known.items parts.now) V W f) }
+    ensures no { result ≡ false → SaysTwo t.now g.now types.now all.now v w (λ p V W. (fields : List AName)
+        → AreDecls p t.now.known.items types.now.list.items V fields dvs.now
+        → AreDecls p t.now.known.items types.now.list.items W fields dws.now
+        → NotAlike p (SamePart t.now.known.items parts.now) V W) }
 {
     for i in 0..dvs.len() {
         if !same_field(t, g, types, all, parts, v, dvs[i], w, dws[i]) {
@@ -171,8 +187,10 @@ pub fn alike(
 ) -> bool
     requires v { IsFilledAt t.now v }
     requires w { IsFilledAt t.now w }
-    ensures yes { IsTrue result → SaysTwo t.now g.now types.now all.now v w (λ p V W. Alike p (SamePart t.now.known.items parts.now) V W) }
-    ensures no { result ≡ false → SaysTwo t.now g.now types.now all.now v w (λ p V W. NotAlike p (SamePart t.now.known.items parts.now) V W) }
+    ensures yes { IsTrue result → SaysTwo t.now g.now types.now all.now v w
+        (λ p V W. Alike p (SamePart t.now.known.items parts.now) V W) }
+    ensures no { result ≡ false → SaysTwo t.now g.now types.now all.now v w
+        (λ p V W. NotAlike p (SamePart t.now.known.items parts.now) V W) }
 {
     if !same_names(&t.row(v).fields, &t.row(w).fields) {
         return false;

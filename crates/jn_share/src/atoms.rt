@@ -83,7 +83,8 @@ fn without(names: &[Name], k: usize) -> &[Name]
 /// Whether the path of the number is inside the path of the names `front` and the exact names of the atom.
 fn is_inside(t: &Table, front: &[Name], x: &Atom, u: ClassId) -> bool
     requires { IsFilledAt t.now u }
-    ensures { SaysOf t.now u (λ p U. IsTrue result ↔ Inside p U ((atom_of x.now).exact ++ reverse front.now) (atom_of x.now).names) }
+    ensures { SaysOf t.now u (λ p U. IsTrue result ↔ Inside p U
+        ((atom_of x.now).exact ++ reverse front.now) (atom_of x.now).names) }
 {
     let names = x.names.as_slice();
     let exact = x.exact.as_slice();
@@ -114,8 +115,8 @@ fn front_of(t: &Table, view: Option<ClassId>, anchor: Anchor) -> Option<&[Name]>
     }
 }
 
-/// Whether the path of the number is in the atom, where `this` has the view of that number and no other path has one. Without a
-/// number no path has a view.
+/// Whether the path of the number is in the atom, where `this` has the view of that number and no other path has one.
+/// Without a number no path has a view.
 pub fn in_atom(t: &Table, view: Option<ClassId>, x: &Atom, u: ClassId) -> bool
     requires { IsFilledAt t.now u }
     ensures { SaysAt t.now view u (λ p v U. IsTrue result ↔ InAtom p v (atom_of x.now) U) }

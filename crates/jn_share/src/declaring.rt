@@ -27,7 +27,8 @@ fn class_pairs(
     requires { length types.now ≤ count }
     ensures below { IfOk result (λ pairs. AreBelow count pairs.items) }
     ensures sound { IfOk result (λ pairs. (a i : ℕ) → IsPair pairs.items a i → StandsAtClass types.now a i) }
-    ensures complete { IfOk result (λ pairs. (a i : ℕ) → a < count → StandsAtClass types.now a i → IsPair pairs.items a i) }
+    ensures complete { IfOk result (λ pairs. (a i : ℕ) → a < count → StandsAtClass types.now a i
+        → IsPair pairs.items a i) }
 {
     let mut pairs = Vec::new(alloc);
     for (i, x) in types.iter().enumerate() {
@@ -85,7 +86,8 @@ pub fn width(types: &[FieldTy]) -> usize
 fn note(last: &mut Vec<usize>, types: &[FieldTy], i: usize)
     requires wide { Wide types.now (length last.old.items) }
     ensures long { length last.new.items ≡ length last.old.items }
-    ensures notes { (was : List ℕ) → Noted types.now was last.old.items → Noted types.now (was ++ i ∷ []) last.new.items }
+    ensures notes { (was : List ℕ) → Noted types.now was last.old.items
+        → Noted types.now (was ++ i ∷ []) last.new.items }
 {
     if let Some(x) = at(types, i) {
         last[x.field.0 as usize] = i;

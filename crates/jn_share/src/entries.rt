@@ -48,7 +48,8 @@ fn row_entries(t: &Table, g: &Groups, lists: &GroupMembers, id: ClassId) -> usiz
     requires filled { IsFilledAt t.now id }
     requires within { id.0 < length t.now.known.items }
     requires lists { AreGroupMembers g.now lists.now }
-    ensures { SaysCount t.now g.now (λ p. (R : APath) → IsAt t.now.known.items id.0 R → Counts (IsEntryOf p R) result) }
+    ensures { SaysCount t.now g.now (λ p. (R : APath) → IsAt t.now.known.items id.0 R
+        → Counts (IsEntryOf p R) result) }
 {
     let row = t.row(id);
     let names = plus(plus(row.members.len(), row.methods.len()), row.fields.len());

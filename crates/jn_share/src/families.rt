@@ -1,8 +1,9 @@
-ghost use Rattle.std.specs.Prelude.{◌≡◌, map, IfOk};
+ghost use Rattle.std.specs.Prelude.{◌≡◌, ◌↔◌, ◌∷◌, [], map, IfOk, IsTrue};
 ghost use Rattle.jn_base.specs.declared.tree.Program.{Program};
+ghost use Rattle.jn_base.specs.Universe.{InUniverse};
 ghost use Rattle.jn_table.specs.Tables.{IsFilled};
 ghost use Rattle.jn_sem.specs.NotFamily.{not_family, listed_names};
-ghost use Rattle.jn_share.specs.Listing.{listed_of, IsFault, PassesOr, SaysStrict, SaysLacks, SaysRefused};
+ghost use Rattle.jn_share.specs.Listing.{listed_of, IsFault, PassesOr, SaysStrict, SaysNoClass, SaysLacks, SaysRefused};
 
 use crate::fault::ShareFault;
 use crate::listed::{InList, ListedName};
@@ -10,7 +11,7 @@ use crate::paths::{family, family_of, in_family};
 use crate::trail::Trail;
 use jn_base::path::Path;
 use jn_base::refusal::{Refusal, Rule};
-use jn_base::tree::Name;
+use jn_base::tree::{Name, Named};
 use jn_table::Table;
 use sqlite_items::Items;
 use std::alloc::{AllocError, Global};
@@ -31,31 +32,58 @@ fn is_strict_super(
     Ok(own.is_below(t, above))
 }
 
-/// Whether the name stands in a list of `shares`, and its family has no such class.
-fn lacks_class(alloc: Global, t: &Table, x: &ListedName) -> Result<bool, AllocError>
-    ensures { IfOk result (SaysLacks t.now x.now) }
+/// Whether the name is that of a family: a top-level name.
+pub fn is_family(alloc: Global, t: &Table, name: Name) -> Result<bool, AllocError>
+    ensures { IfOk result (λ told. (p : Program) → IsFilled p t.now → IsTrue told ↔ InUniverse p (name ∷ [])) }
 {
-    match x.list {
+    let path = family(alloc, name)?;
+    Ok(path.is_known(t))
+}
+
+/// Whether the list is one of `shares`, and the family of the name has no such class.
+fn lacks_class(
+    alloc: Global,
+    t: &Table,
+    at: &[Name],
+    list: InList,
+    name: Name,
+) -> Result<bool, AllocError>
+    ensures { IfOk result (SaysNoClass t.now at.now list name) }
+{
+    match list {
         InList::Adapts => Ok(false),
         InList::Shares => {
-            let there = in_family(alloc, x.at.names.as_slice(), x.name.name)?;
+            let there = in_family(alloc, at, name)?;
             Ok(!there.is_class(t))
         }
     }
+}
+
+/// Whether a name in a list of the declaration at a path lacks what a family in that list must have.
+pub fn lacks(
+    alloc: Global,
+    t: &Table,
+    at: &[Name],
+    list: InList,
+    name: Named,
+) -> Result<bool, AllocError>
+    ensures { IfOk result (SaysLacks t.now at.now list name) }
+{
+    let above = family(alloc, name.name)?;
+    if !is_strict_super(alloc, t, at, &above)? {
+        return Ok(true);
+    }
+    lacks_class(alloc, t, at, list, name.name)
 }
 
 /// Whether the listed name is refused.
 fn is_refused(alloc: Global, t: &Table, x: &ListedName) -> Result<bool, AllocError>
     ensures { IfOk result (SaysRefused t.now x.now) }
 {
-    let above = family(alloc, x.name.name)?;
-    if !above.is_known(t) {
+    if !is_family(alloc, t, x.name.name)? {
         return Ok(false);
     }
-    if !is_strict_super(alloc, t, x.at.names.as_slice(), &above)? {
-        return Ok(true);
-    }
-    lacks_class(alloc, t, x)
+    lacks(alloc, t, x.at.names.as_slice(), x.list, x.name)
 }
 
 /// The refusal of a listed name, or want of memory.

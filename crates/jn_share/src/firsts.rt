@@ -18,8 +18,7 @@ use crate::alike::{decls_of, hangs_on_this, same_field};
 use crate::field_first::FieldFirst;
 use crate::groups::Groups;
 use crate::members::{GroupMembers, members_of};
-use crate::pairs::is_class;
-use crate::parting::filled;
+use crate::pairs::{filled, is_class};
 use crate::prepared::Prepared;
 use jn_base::compare::is_name;
 use jn_base::tree::Name;
@@ -57,7 +56,8 @@ fn decl_of(t: &Table, all: &Prepared, id: ClassId, field: Name) -> Option<usize>
     }
 }
 
-/// Whether the path of the first number is a class that has the field, and has it as one field with the class of the second.
+/// Whether the path of the first number is a class that has the field, and has it as one field with the class of the
+/// second.
 fn has_same(
     t: &Table,
     g: &Groups,
@@ -70,8 +70,12 @@ fn has_same(
     dv: usize,
 ) -> bool
     ensures within { IsTrue result → r < length t.now.known.items }
-    ensures yes { IsTrue result → SaysClass t.now g.now types.now all.now v.0 (λ p V. (R : APath) → IsAt t.now.known.items r R → IsDecl p t.now.known.items types.now.list.items V field dv → IsClassOf p R × SameField p (SamePart t.now.known.items parts.now) R V field) }
-    ensures no { result ≡ false → SaysClass t.now g.now types.now all.now v.0 (λ p V. (R : APath) → IsAt t.now.known.items r R → IsDecl p t.now.known.items types.now.list.items V field dv → IsClassOf p R → HasOther p (SamePart t.now.known.items parts.now) V field R) }
+    ensures yes { IsTrue result → SaysClass t.now g.now types.now all.now v.0 (λ p V. (R : APath)
+        → IsAt t.now.known.items r R → IsDecl p t.now.known.items types.now.list.items V field dv
+        → IsClassOf p R × SameField p (SamePart t.now.known.items parts.now) R V field) }
+    ensures no { result ≡ false → SaysClass t.now g.now types.now all.now v.0 (λ p V. (R : APath)
+        → IsAt t.now.known.items r R → IsDecl p t.now.known.items types.now.list.items V field dv → IsClassOf p R
+        → HasOther p (SamePart t.now.known.items parts.now) V field R) }
 {
     match filled(t, r) {
         None => false,
@@ -87,8 +91,8 @@ fn has_same(
     }
 }
 
-/// The first of the numbers whose class has the field in one slot with the class, in their order; the class itself where there is none
-/// before it.
+/// The first of the numbers whose class has the field in one slot with the class, in their order; the class itself
+/// where there is none before it.
 fn first_same(
     t: &Table,
     g: &Groups,
@@ -101,7 +105,9 @@ fn first_same(
     dv: usize,
 ) -> usize
     requires { IsStrictlyIncreasing among.now }
-    ensures { SaysClass t.now g.now types.now all.now v.0 (λ p V. AreSettled p t.now.known.items parts.now → AreRelated p t.now.known.items among.now V → IsDecl p t.now.known.items types.now.list.items V field dv → IsFirstSlot p t.now.known.items V field result) }
+    ensures { SaysClass t.now g.now types.now all.now v.0 (λ p V. AreSettled p t.now.known.items parts.now
+        → AreRelated p t.now.known.items among.now V → IsDecl p t.now.known.items types.now.list.items V field dv
+        → IsFirstSlot p t.now.known.items V field result) }
 {
     for r in among {
         if *r >= v.0 as usize {
@@ -148,7 +154,10 @@ fn field_first(
 ) -> FieldFirst
     requires { IsStrictlyIncreasing among.now }
     ensures field { result.field ≡ field }
-    ensures is { SaysClass t.now g.now types.now all.now v.0 (λ p V. AreSettled p t.now.known.items parts.now → AreRelated p t.now.known.items among.now V → (d : ℕ) → declared ≡ Some d → IsDecl p t.now.known.items types.now.list.items V field d → IsFirstSlot p t.now.known.items V field result.first × ((result.hangs ≡ true) ↔ FieldHangs p V field)) }
+    ensures is { SaysClass t.now g.now types.now all.now v.0 (λ p V. AreSettled p t.now.known.items parts.now
+        → AreRelated p t.now.known.items among.now V → (d : ℕ) → declared ≡ Some d
+        → IsDecl p t.now.known.items types.now.list.items V field d
+        → IsFirstSlot p t.now.known.items V field result.first × ((result.hangs ≡ true) ↔ FieldHangs p V field)) }
 {
     let d = or_zero(declared);
     FieldFirst {
@@ -171,7 +180,9 @@ fn firsts_row(
 ) -> Result<Vec<FieldFirst>, AllocError>
     requires filled { IsFilledAt t.now v }
     requires ascending { IsStrictlyIncreasing among.now }
-    ensures { IfOk result (λ row. SaysClass t.now g.now types.now all.now v.0 (λ p V. AreSettled p t.now.known.items parts.now → AreRelated p t.now.known.items among.now V → AreFieldFirsts p t.now.known.items V row.items)) }
+    ensures { IfOk result (λ row. SaysClass t.now g.now types.now all.now v.0
+        (λ p V. AreSettled p t.now.known.items parts.now → AreRelated p t.now.known.items among.now V
+        → AreFieldFirsts p t.now.known.items V row.items)) }
 {
     let fields = t.row(v).fields.as_slice();
     let decls = decls_of(all, v);
@@ -197,8 +208,10 @@ fn class_row(
     requires filled { IsFilledAt t.now v }
     requires within { v.0 < length t.now.known.items }
     requires lists { AreGroupMembers g.now lists.now }
-    ensures class { IfOk result (λ row. SaysClass t.now g.now types.now all.now v.0 (λ p V. AreSettled p t.now.known.items parts.now → AreFieldFirsts p t.now.known.items V row.items)) }
-    ensures package { IfOk result (λ row. (p : Program) (V : APath) → IsFilled p t.now → IsAt t.now.known.items v.0 V → (IsClassOf p V → ⊥) → row.items ≡ []) }
+    ensures class { IfOk result (λ row. SaysClass t.now g.now types.now all.now v.0
+        (λ p V. AreSettled p t.now.known.items parts.now → AreFieldFirsts p t.now.known.items V row.items)) }
+    ensures package { IfOk result (λ row. (p : Program) (V : APath) → IsFilled p t.now
+        → IsAt t.now.known.items v.0 V → (IsClassOf p V → ⊥) → row.items ≡ []) }
 {
     if !is_class(t, v.0 as usize) {
         return Ok(Vec::new(alloc));
@@ -220,7 +233,8 @@ pub fn firsts_of(
 ) -> Result<Vec<Vec<FieldFirst>>, AllocError>
     requires { AreGroupMembers g.now lists.now }
     ensures long { IfOk result (λ rows. length rows.items ≡ length t.now.known.items) }
-    ensures firsts { IfOk result (λ rows. SaysOfAll t.now g.now types.now all.now (λ p. AreSettled p t.now.known.items parts.now → FirstsTo p t.now (length t.now.known.items) rows.items)) }
+    ensures firsts { IfOk result (λ rows. SaysOfAll t.now g.now types.now all.now
+        (λ p. AreSettled p t.now.known.items parts.now → FirstsTo p t.now (length t.now.known.items) rows.items)) }
 {
     let mut rows = Vec::new(alloc);
     for k in 0..t.known().len() {

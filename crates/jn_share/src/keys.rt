@@ -171,7 +171,8 @@ pub fn slot_rows(
     lists: &GroupMembers,
     rows: &[Vec<FieldFirst>],
 ) -> Result<Vec<SlotRow>, AllocError>
-    ensures { IfOk result (λ out. SlotRowsTo t.now keys.now lists.now.starts.items rows.now (length t.now.known.items) out.items) }
+    ensures { IfOk result (λ out. SlotRowsTo t.now keys.now lists.now.starts.items rows.now (length
+        t.now.known.items) out.items) }
 {
     let mut out = Vec::new(alloc);
     for k in 0..t.known().len() {
@@ -184,7 +185,8 @@ pub fn slot_rows(
 /// The first class whose group has more than 250 slots.
 pub fn first_over(t: &Table, keys: &[Vec<FieldKey>], lists: &GroupMembers) -> Option<usize>
     ensures some { IfSome result (λ k. k < length t.now.known.items) }
-    ensures over { IfSome result (λ k. SaysOver t.now keys.now lists.now.starts.items k true × NoneOverTo t.now keys.now lists.now.starts.items k) }
+    ensures over { IfSome result (λ k. SaysOver t.now keys.now lists.now.starts.items k true × NoneOverTo t.now
+        keys.now lists.now.starts.items k) }
     ensures none { IfNone result (NoneOverTo t.now keys.now lists.now.starts.items (length t.now.known.items)) }
 {
     for k in 0..t.known().len() {

@@ -39,7 +39,8 @@ fn add_names(
     names: &[Named],
     out: &mut Vec<ListedName>,
 ) -> Result<(), AllocError>
-    ensures { OnOk result (AddsListed out.old.items out.new.items (map (in_list class.now (listing_of list)) names.now)) }
+    ensures { OnOk result (AddsListed out.old.items out.new.items (map (in_list class.now (listing_of list))
+        names.now)) }
 {
     for name in names {
         let at = class.shown(alloc)?;
@@ -59,7 +60,8 @@ fn add_own(
     d: &Decl,
     out: &mut Vec<ListedName>,
 ) -> Result<(), AllocError>
-    ensures { OnOk result (AddsListed out.old.items out.new.items (own_listed d.now.name.name d.now.shares d.now.adapts namespace.now)) }
+    ensures { OnOk result (AddsListed out.old.items out.new.items (own_listed d.now.name.name d.now.shares
+        d.now.adapts namespace.now)) }
 {
     let class = inner(alloc, namespace, d.name.name)?;
     if namespace.depth() == 0 {
@@ -93,7 +95,8 @@ fn add_members(
     members: &[Member],
     out: &mut Vec<ListedName>,
 ) -> Result<(), AllocError>
-    ensures { OnOk result (AddsListed out.old.items out.new.items (listed_by class.now (map listed_in_member members.now))) }
+    ensures { OnOk result (AddsListed out.old.items out.new.items (listed_by class.now (map listed_in_member
+        members.now))) }
 {
     for m in members {
         add_member(alloc, class, m, out)?;
@@ -123,7 +126,8 @@ fn add_decls(
     decls: &[Decl],
     out: &mut Vec<ListedName>,
 ) -> Result<(), AllocError>
-    ensures { OnOk result (AddsListed out.old.items out.new.items (listed_by namespace.now (map listed_in_decl decls.now))) }
+    ensures { OnOk result (AddsListed out.old.items out.new.items (listed_by namespace.now (map listed_in_decl
+        decls.now))) }
 {
     for d in decls {
         add_decl(alloc, namespace, d, out)?;

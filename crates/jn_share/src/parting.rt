@@ -13,7 +13,7 @@ ghost use Rattle.jn_share.specs.Parts.{HavePart, SaysIn, SaysIs, SaysTwin, Cover
 
 use crate::atoms::in_type;
 use crate::groups::Groups;
-use crate::pairs::is_class;
+use crate::pairs::{filled, is_class};
 use crate::prepared::Prepared;
 use jn_base::types::Ty;
 use jn_table::{ClassId, Table};
@@ -32,17 +32,6 @@ fn one_part(parts: &[usize], i: usize, j: usize) -> bool
     }
 }
 
-/// The number, where its row is filled.
-pub fn filled(t: &Table, k: usize) -> Option<ClassId>
-    ensures some { IfSome result (λ id. (id.0 ≡ k) × IsFilledAt t.now id × (k < length t.now.known.items)) }
-    ensures none { IfNone result (length t.now.known.items ≤ k) }
-{
-    if k < t.known().len() {
-        return Some(ClassId(k as u16));
-    }
-    None
-}
-
 /// Whether the path of the number is a class in the type, where `this` has the view of that number.
 fn class_in(t: &Table, v: ClassId, ty: &Ty, u: usize) -> bool
     ensures within { IsTrue result → u < length t.now.known.items }
@@ -54,8 +43,8 @@ fn class_in(t: &Table, v: ClassId, ty: &Ty, u: usize) -> bool
     }
 }
 
-/// Whether the class of the number has a counterpart in the family that is in the type at the view of that number, and has the same
-/// part.
+/// Whether the class of the number has a counterpart in the family that is in the type at the view of that number, and
+/// has the same part.
 fn has_twin(
     t: &Table,
     g: &Groups,
@@ -86,8 +75,8 @@ fn is_twin(t: &Table, parts: &[usize], u: usize, x: ClassId, w: ClassId, ty: &Ty
     }
 }
 
-/// Whether each of the classes that is in the type at the view of the first number has a counterpart that is in it at the second, and
-/// has the same part.
+/// Whether each of the classes that is in the type at the view of the first number has a counterpart that is in it at
+/// the second, and has the same part.
 fn covers_of(
     t: &Table,
     g: &Groups,
@@ -98,8 +87,10 @@ fn covers_of(
     family: ClassId,
     ty: &Ty,
 ) -> bool
-    ensures yes { IsTrue result → SaysCovers t.now g.now v w family (λ p V W. CoversOf p t.now.known.items parts.now among.now V W ty.now) }
-    ensures no { result ≡ false → SaysCovers t.now g.now v w family (λ p V W. Uncovered p (SamePart t.now.known.items parts.now) V W ty.now) }
+    ensures yes { IsTrue result → SaysCovers t.now g.now v w family
+        (λ p V W. CoversOf p t.now.known.items parts.now among.now V W ty.now) }
+    ensures no { result ≡ false → SaysCovers t.now g.now v w family
+        (λ p V W. Uncovered p (SamePart t.now.known.items parts.now) V W ty.now) }
 {
     for u in among {
         if class_in(t, v, ty, *u) && !has_twin(t, g, parts, *u, w, family, ty) {
@@ -109,8 +100,8 @@ fn covers_of(
     true
 }
 
-/// Whether each class of the type at the view of the first number has a counterpart that is in it at the second, and has the same part.
-/// The type is that of a field of the first, and hangs on `this`.
+/// Whether each class of the type at the view of the first number has a counterpart that is in it at the second, and
+/// has the same part. The type is that of a field of the first, and hangs on `this`.
 pub fn covers(
     t: &Table,
     g: &Groups,
@@ -120,8 +111,10 @@ pub fn covers(
     w: ClassId,
     ty: &Ty,
 ) -> bool
-    ensures yes { IsTrue result → (types : AFieldTypes) → SaysTwo t.now g.now types all.now v w (λ p V W. HangsIn p V ty.now → Covers p (SamePart t.now.known.items parts.now) V W ty.now) }
-    ensures no { result ≡ false → (types : AFieldTypes) → SaysTwo t.now g.now types all.now v w (λ p V W. HangsIn p V ty.now → Uncovered p (SamePart t.now.known.items parts.now) V W ty.now) }
+    ensures yes { IsTrue result → (types : AFieldTypes) → SaysTwo t.now g.now types all.now v w
+        (λ p V W. HangsIn p V ty.now → Covers p (SamePart t.now.known.items parts.now) V W ty.now) }
+    ensures no { result ≡ false → (types : AFieldTypes) → SaysTwo t.now g.now types all.now v w
+        (λ p V W. HangsIn p V ty.now → Uncovered p (SamePart t.now.known.items parts.now) V W ty.now) }
 {
     match at(&all.families, v.0 as usize) {
         None => false,

@@ -1,7 +1,7 @@
 ghost use Rattle.std.specs.Prelude.{◌≡◌, ◌≤◌, ◌∷◌, [], ◌↔◌, Some, length, drop, reverse, IfOk, IsTrue};
 ghost use Rattle.jn_base.specs.declared.tree.Name.{Name as AName};
 ghost use Rattle.jn_sem.specs.Sharing.{family_of, in_family};
-ghost use Rattle.jn_share.specs.Pairing.{HaveOneFamily, AreInner};
+ghost use Rattle.jn_share.specs.Pairing.{HaveOneFamily};
 
 use crate::trail::Trail;
 use jn_base::compare::{is_name, same_names};
@@ -67,17 +67,4 @@ pub fn one_path(names: &[Name], others: &[Name]) -> bool
     ensures { IsTrue result ↔ (reverse names.now ≡ reverse others.now) }
 {
     same_names(names, others)
-}
-
-/// Whether both paths have the same names but for the outermost one.
-pub fn are_inner(names: &[Name], others: &[Name]) -> bool
-    ensures { IsTrue result ↔ AreInner (reverse names.now) (reverse others.now) }
-{
-    if names.is_empty() {
-        return false;
-    }
-    if others.is_empty() {
-        return false;
-    }
-    same_names(behind_first(names), behind_first(others))
 }

@@ -33,7 +33,9 @@ fn family_number(t: &Table, families: &[usize], id: ClassId) -> usize
     requires long { length families.now ≡ id.0 }
     requires low { AreLow families.now }
     ensures low { result ≤ id.0 }
-    ensures is { (p : Program) (V : APath) (X : AName) → IsFilled p t.now → FamiliesTo t.now.known.items id.0 families.now → IsAt t.now.known.items id.0 V → family_of V ≡ Some X → IsAt t.now.known.items result (X ∷ []) }
+    ensures is { (p : Program) (V : APath) (X : AName) → IsFilled p t.now
+        → FamiliesTo t.now.known.items id.0 families.now → IsAt t.now.known.items id.0 V → family_of V ≡ Some X
+        → IsAt t.now.known.items result (X ∷ []) }
 {
     match t.row(id).up {
         None => id.0 as usize,
@@ -45,10 +47,11 @@ fn family_number(t: &Table, families: &[usize], id: ClassId) -> usize
 }
 
 /// For each number that of its family.
-fn families_of(alloc: Global, t: &Table) -> Result<Vec<usize>, AllocError>
+pub fn families_of(alloc: Global, t: &Table) -> Result<Vec<usize>, AllocError>
     ensures long { IfOk result (λ all. length all.items ≡ length t.now.known.items) }
     ensures low { IfOk result (λ all. AreLow all.items) }
-    ensures is { IfOk result (λ all. (p : Program) → IsFilled p t.now → FamiliesTo t.now.known.items (length t.now.known.items) all.items) }
+    ensures is { IfOk result (λ all. (p : Program) → IsFilled p t.now
+        → FamiliesTo t.now.known.items (length t.now.known.items) all.items) }
 {
     let mut all = Vec::new(alloc);
     for k in 0..t.known().len() {
@@ -99,7 +102,8 @@ fn decls_of(alloc: Global, t: &Table, types: &[FieldTy]) -> Result<Vec<Vec<usize
 
 /// What is read off the table and the field types.
 pub fn prepare(alloc: Global, t: &Table, types: &FieldTypes) -> Result<Prepared, AllocError>
-    ensures { IfOk result (λ all. (p : Program) → IsFilled p t.now → AreFieldTypes p t.now.known.items types.now.list.items → IsPrepared p t.now types.now.list.items all) }
+    ensures { IfOk result (λ all. (p : Program) → IsFilled p t.now
+        → AreFieldTypes p t.now.known.items types.now.list.items → IsPrepared p t.now types.now.list.items all) }
 {
     let families = families_of(alloc, t)?;
     let classes = class_members(alloc, &families)?;

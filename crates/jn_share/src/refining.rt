@@ -10,8 +10,7 @@ ghost use Rattle.jn_share.specs.Refining.{AreLow, Grows, SaysClass, SaysOfAll, I
 
 use crate::alike::alike;
 use crate::groups::Groups;
-use crate::pairs::is_class;
-use crate::parting::filled;
+use crate::pairs::{filled, is_class};
 use crate::prepared::Prepared;
 use jn_reach::class_members;
 use jn_table::{FieldTypes, Table};
@@ -29,8 +28,10 @@ fn is_like(
     v: usize,
 ) -> bool
     ensures within { IsTrue result → r < length t.now.known.items }
-    ensures yes { IsTrue result → SaysClass t.now g.now types.now all.now v (λ p V. (R : APath) → IsAt t.now.known.items r R → IsClassOf p R × Alike p (SamePart t.now.known.items parts.now) R V) }
-    ensures no { result ≡ false → SaysClass t.now g.now types.now all.now v (λ p V. (R : APath) → IsAt t.now.known.items r R → IsClassOf p R → NotAlike p (SamePart t.now.known.items parts.now) R V) }
+    ensures yes { IsTrue result → SaysClass t.now g.now types.now all.now v (λ p V. (R : APath)
+        → IsAt t.now.known.items r R → IsClassOf p R × Alike p (SamePart t.now.known.items parts.now) R V) }
+    ensures no { result ≡ false → SaysClass t.now g.now types.now all.now v (λ p V. (R : APath)
+        → IsAt t.now.known.items r R → IsClassOf p R → NotAlike p (SamePart t.now.known.items parts.now) R V) }
 {
     match filled(t, r) {
         None => false,
@@ -54,7 +55,8 @@ fn first_like(
     requires { IsStrictlyIncreasing among.now }
     ensures low { result ≤ v }
     ensures among { (result ≡ v) ⊎ Contains among.now result }
-    ensures is { SaysClass t.now g.now types.now all.now v (λ p V. IsFirstLike p t.now.known.items (SamePart t.now.known.items parts.now) (Contains among.now) result V) }
+    ensures is { SaysClass t.now g.now types.now all.now v
+        (λ p V. IsFirstLike p t.now.known.items (SamePart t.now.known.items parts.now) (Contains among.now) result V) }
 {
     for r in among {
         if *r >= v {
@@ -82,7 +84,9 @@ fn next_part(
     requires within { v < length parts.now }
     ensures low { result ≤ v }
     ensures grows { (n : ℕ) → slice_get parts.now v ≡ Some n → n ≤ result }
-    ensures is { SaysClass t.now g.now types.now all.now v (λ p V. (n : ℕ) → slice_get parts.now v ≡ Some n → (slice_get parts.now result ≡ Some n) × IsFirstLike p t.now.known.items (SamePart t.now.known.items parts.now) (λ j. slice_get parts.now j ≡ Some n) result V) }
+    ensures is { SaysClass t.now g.now types.now all.now v (λ p V. (n : ℕ) → slice_get parts.now v ≡ Some n
+        → (slice_get parts.now result ≡ Some n) × IsFirstLike p t.now.known.items (SamePart t.now.known.items
+        parts.now) (λ j. slice_get parts.now j ≡ Some n) result V) }
 {
     match at(rows, parts[v]) {
         None => v,
@@ -103,7 +107,8 @@ fn refine(
     ensures long { IfOk result (λ next. length next.items ≡ length parts.now) }
     ensures low { IfOk result (λ next. AreLow next.items) }
     ensures grows { IfOk result (λ next. Grows parts.now next.items) }
-    ensures refines { IfOk result (λ next. SaysOfAll t.now g.now types.now all.now (λ p. RefinesTo p t.now parts.now next.items (length parts.now))) }
+    ensures refines { IfOk result (λ next. SaysOfAll t.now g.now types.now all.now
+        (λ p. RefinesTo p t.now parts.now next.items (length parts.now))) }
 {
     let rows = class_members(alloc, parts)?;
     let mut next = Vec::new(alloc);
@@ -128,7 +133,8 @@ pub fn settle(
     types: &FieldTypes,
     all: &Prepared,
 ) -> Result<Vec<usize>, AllocError>
-    ensures { IfOk result (λ parts. SaysOfAll t.now g.now types.now all.now (λ p. AreSettled p t.now.known.items parts.items)) }
+    ensures { IfOk result (λ parts. SaysOfAll t.now g.now types.now all.now
+        (λ p. AreSettled p t.now.known.items parts.items)) }
 {
     let mut parts = g.starts(alloc)?;
     let mut next = refine(alloc, t, g, types, all, &parts)?;

@@ -62,7 +62,8 @@ fn make(
 ) -> Result<Made, AllocError>
     requires { AreGroupMembers g.now lists.now }
     ensures long { IfOk result (λ made. length made.rows.items ≡ length t.now.known.items) }
-    ensures firsts { IfOk result (λ made. (p : Program) → SlotsAsked p t.now g.now types.now → FirstsTo p t.now (length t.now.known.items) made.rows.items) }
+    ensures firsts { IfOk result (λ made. (p : Program) → SlotsAsked p t.now g.now types.now
+        → FirstsTo p t.now (length t.now.known.items) made.rows.items) }
     ensures keys { IfOk result (λ made. KeysFor made.rows.items lists.now.numbers.items made.keys.items) }
 {
     let all = prepare(alloc, t, types)?;
@@ -117,8 +118,8 @@ fn entry_at(rows: &[SlotRow], id: ClassId, field: Name) -> Option<&FieldSlot>
 impl Slots {
     ghost use Rattle.jn_share.specs.Slots.{SlotsGive, SlotsRefusedOr, SlotTold, SaysNoSlot, SaysSize, SaysNoSize, SaysHangs};
 
-    /// The slots of a program, by a table in which its universe is filled, its groups and the types of its fields; or the refusal of
-    /// a limit: of its entries, or of the slots of the first class whose group has too many.
+    /// The slots of a program, by a table in which its universe is filled, its groups and the types of its fields; or
+    /// the refusal of a limit: of its entries, or of the slots of the first class whose group has too many.
     pub fn build(
         alloc: Global,
         t: &Table,
@@ -126,7 +127,8 @@ impl Slots {
         types: &FieldTypes,
     ) -> Result<Slots, ShareFault>
         ensures gives { (p : Program) → SlotsAsked p t.now g.now types.now → SlotsGive p t.now.known.items result }
-        ensures refused { (p : Program) → SlotsAsked p t.now g.now types.now → (r : ARefusal) → LimitRefused p r → SlotsRefusedOr r result }
+        ensures refused { (p : Program) → SlotsAsked p t.now g.now types.now → (r : ARefusal) → LimitRefused p r
+            → SlotsRefusedOr r result }
     {
         let lists = group_members(alloc, g)?;
         if entries(t, g, &lists) > 1_048_576 {

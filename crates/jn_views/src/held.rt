@@ -74,7 +74,8 @@ fn held_at(
     u: ClassId,
 ) -> Held
     requires { FamilyTold t.now (atom_of to.now) family }
-    ensures { SaysHeldAt t.now g.now s.now u (λ p U. HeldAt p t.now.known.items (sides from.now to.now m names.now) u U result) }
+    ensures { SaysHeldAt t.now g.now s.now u
+        (λ p U. HeldAt p t.now.known.items (sides from.now to.now m names.now) u U result) }
 {
     match turned(t, g, to, family, u) {
         None => Held::NoCounterpart(u),
@@ -96,8 +97,8 @@ fn is_yes(held: Held) -> bool
     }
 }
 
-/// Whether the constraint from the type to the atom with the masks holds, or what refutes it. `names` gives each mask number its
-/// name.
+/// Whether the constraint from the type to the atom with the masks holds, or what refutes it. `names` gives each mask
+/// number its name.
 pub fn holds(
     t: &Table,
     g: &Groups,

@@ -77,8 +77,10 @@ pub fn first_blocked(
     w: ClassId,
 ) -> Option<Name>
     requires { IsFilledAt t.now w }
-    ensures some { IfSome result (λ f. SaysOfViews t.now s.now u w (λ p U W. IsFirstName p (Blocks p (masked_sides from to names.now) U W) f)) }
-    ensures none { IfNone result (SaysOfViews t.now s.now u w (λ p U W. (f : AName) → HasField p W f → Passes p (masked_sides from to names.now) U W f)) }
+    ensures some { IfSome result (λ f. SaysOfViews t.now s.now u w
+        (λ p U W. IsFirstName p (Blocks p (masked_sides from to names.now) U W) f)) }
+    ensures none { IfNone result (SaysOfViews t.now s.now u w (λ p U W. (f : AName) → HasField p W f
+        → Passes p (masked_sides from to names.now) U W f)) }
 {
     for field in &t.row(w).fields {
         if !passes(s, from, to, names, u, w, *field) {

@@ -1,6 +1,6 @@
 use Rattle.std.proofs.Common.{length, ap}
 use Rattle.std.proofs.lemmas.Result.{IfOk-weaker}
-use Rattle.jn_share.proofs.Making.{links, lowest}
+use Rattle.jn_share.proofs.Making.{links, lowest, firsts_within}
 use Rattle.jn_share.proofs.groups.firsts_of.Goals as goal
 
 pub returns-clause-links : goal.returns-clause-links
@@ -12,3 +12,7 @@ returns-clause-links c =
 pub returns-clause-low : goal.returns-clause-low
 returns-clause-low c =
     IfOk-weaker c.class_firsts.result _ _ (λ firsts h. lowest (length c.known.result.now) _ firsts.items h) c.class_firsts.ensures.firsts
+
+pub returns-clause-within : goal.returns-clause-within
+returns-clause-within c =
+    IfOk-weaker c.class_firsts.result _ _ (λ firsts h. firsts_within firsts.items (lowest (length c.known.result.now) _ firsts.items h)) c.class_firsts.ensures.firsts

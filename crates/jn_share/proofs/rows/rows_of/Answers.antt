@@ -1,22 +1,25 @@
-use Rattle.std.proofs.Common.{◌≤◌, ◌+◌, ◌∙◌, [], ◌∷◌, length, ap, arith}
-use Rattle.std.proofs.lemmas.List.{length-append}
-use Rattle.jn_share.proofs.Partners.{rows_none, rows_more, rows_end}
+use Rattle.std.proofs.Common.{◌≤◌, length, ap, arith}
+use Rattle.jn_share.proofs.Growing.{long_push}
+use Rattle.jn_share.proofs.OwnRows.{rows_none, rows_more, rows_end}
 use Rattle.jn_share.proofs.rows.rows_of.Goals as goal
 
 pub loop-k-init : goal.loop-k-init
 loop-k-init c = record {
   long = ap length c.new-rows.ensures.items;
-  rows = λ p f links. rows_none p c.args.t.now.known.items c.args.firsts.now c.new-rows.result.items;
+  rows = λ p f all. rows_none p c.args.t.now.known.items c.args.firsts.now c.new-rows.result.items;
 }
 
 pub loop-k-preserved : goal.loop-k-preserved
-loop-k-preserved c = record {
-  long = ap length c.in_ok-push.ensures.items ∙ (length-append c.loop-k.rows.items (c.in_ok-row.row ∷ []) ∙ ap (λ n. n + 1) c.loop-k.invariant.long);
-  rows = λ p f links. rows_more p c.args.t.now.known.items c.args.firsts.now c.loop-k.k c.loop-k.rows.items c.push.new.self.items c.in_ok-row.row c.loop-k.invariant.long
-      (c.loop-k.invariant.rows p f links) (λ R a. c.in_ok-row.ensures p R f links a) c.in_ok-push.ensures.items;
-}
+loop-k-preserved c =
+    let i = c.loop-k.invariant in
+    let e = c.in_ok-push.ensures.items in
+    record {
+      long = long_push c.loop-k.rows.items c.push.new.self.items c.row_of.result c.loop-k.k e i.long;
+      rows = λ p f all. rows_more p c.args.t.now.known.items c.args.firsts.now c.loop-k.k c.loop-k.rows.items c.push.new.self.items c.row_of.result i.long
+          (i.rows p f all) (λ R a. c.row_of.ensures p R f all a) e;
+    }
 
 pub returns : goal.returns
-returns c = λ p f links.
+returns c = λ p f all.
     let past : length c.args.t.now.known.items ≤ c.loop-k.k = omega (arith, c.loop-k-test.false, ap length c.known-k-end.ensures) in
-    rows_end p c.args.t.now.known.items c.args.firsts.now c.loop-k.k (length c.args.t.now.known.items) c.loop-k.rows.items past (c.loop-k.invariant.rows p f links)
+    rows_end p c.args.t.now.known.items c.args.firsts.now c.loop-k.k (length c.args.t.now.known.items) c.loop-k.rows.items past (c.loop-k.invariant.rows p f all)

@@ -1,0 +1,3 @@
+pub mod FieldsFound
+pub mod Fitting
+pub mod Limited
