@@ -177,22 +177,20 @@ entry p w ok h V m b x o args ib ih r filled e nn real ai =
       ),
     )) ih r filled e nn real ai
 
--- where it has no constraint, the body of a class above
+-- the body of a class above
 entry_above : (p : Program) → WithinOf p → TreePasses p
-    → (h : Heap) (V B : Path) (m : Name) (b : Body) (x : Header) (o : ℕ) (args : List Value) → IsBody p B m b → Sup p V B
-    → b.method.sharing ≡ [] → IsHeader p b x → RefersTo p h o V
+    → (h : Heap) (V B : Path) (m : Name) (b : Body) (x : Header) (o : ℕ) (args : List Value) → IsBody p B m b
+    → Sup p V B
+    → ((c : Constraint) (k : Pledge) → Contains b.method.sharing c
+    → ConstraintGives p (header_site b.class b.method.name.name) c (Ok k) → Surely (HoldsAt p V (sides_of p k)))
+    → IsHeader p b x → RefersTo p h o V
     → ((g : Name) → HasField p V g → HasValue p h o V g) → length args ≡ length x.vars
     → has_null_path (with_values x.vars args) ≡ false → ((y : Value) → Among args y → IsReal p h y)
     → AreIn p (frame_of (record { class = b.class; method = b.method; vars = x.vars }) (Reference o V) args) h
     → InScope p h (frame_of (record { class = b.class; method = b.method; vars = x.vars })
     (Reference o V) args) no_views x.vars (at_start b x).scope
-entry_above p w ok h V B m b x o args ib higher none ih r filled e nn real ai =
-    entry_at p w ok h V m b x o args (sup_joined higher ib.least.among.super) ib.at
-    (λ c k n i. absurd (nothing c (subst (λ (l : List Constraint). Contains l c) none n))) ih r filled e nn real ai where
-      nothing : (c : Constraint) → Contains [] c → ⊥
-      nothing c n = no_less n.0 n.1 where
-        no_less : (i : ℕ) → i < 0 → ⊥
-        no_less i l = omega (arith, l)
+entry_above p w ok h V B m b x o args ib higher constraints ih r filled e nn real ai =
+    entry_at p w ok h V m b x o args (sup_joined higher ib.least.among.super) ib.at constraints ih r filled e nn real ai
 
 -- ---- all of them
 
@@ -252,8 +250,8 @@ laws p w ok n = record {
   param_once = λ b x i. (header_params p b x i).0.once;
   target_family = target p;
   loop_fits = n.loop_fits;
-  entry_above = λ h V B m b x o args ib higher none ih r filled e nn real ai.
-      entry_above p w ok h V B m b x o args ib higher none ih r filled e nn real ai;
+  entry_above = λ h V B m b x o args ib higher constraints ih r filled e nn real ai.
+      entry_above p w ok h V B m b x o args ib higher constraints ih r filled e nn real ai;
   entry = λ h V m b x o args ib ih r filled e nn real ai. entry p w ok h V m b x o args ib ih r filled e nn real ai;
   body_fits = n.body_fits;
 } where

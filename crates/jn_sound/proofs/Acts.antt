@@ -15,7 +15,7 @@ use Rattle.jn_base.specs.ResolveTypes.{mask_names}
 use Rattle.jn_sem.specs.Sets.{Views, view_at, InType, Respects}
 use Rattle.jn_sem.specs.Values.{Value, Number, Truth, Null, Reference, number, truth, null, no_object, object}
 use Rattle.jn_sem.specs.Acts.{Act, Todo, todo}
-use Rattle.jn_sem.specs.State.{Heap, Frame, view_in, IsIn, HasValue}
+use Rattle.jn_sem.specs.State.{Heap, Frame, Variable, declared_vars, view_in, IsIn, HasValue}
 use Rattle.jn_sem.specs.Run.{acting}
 use Rattle.jn_sem.specs.Does.{Way, Does, AtNull}
 use Rattle.std.specs.Option.{option_map}
@@ -40,8 +40,9 @@ use Rattle.jn_laws.specs.LawsOfViews.{Agree}
 use Rattle.jn_laws.proofs.ByViews.{value_same}
 use Rattle.jn_rules.specs.Questions.{masks_of}
 use Rattle.jn_rules.specs.Exprs.{path_type}
-use Rattle.jn_sound.specs.Takes.{opd, IsLiteral, number as number_literal, truth as truth_literal, null as null_literal}
+use Rattle.jn_sound.specs.Takes.{opd, OwnPaths, IsLiteral, number as number_literal, truth as truth_literal, null as null_literal}
 use Rattle.jn_sound.specs.Sound.{InScope, OperandFits, all_views, NotStuck}
+use Rattle.jn_sound.proofs.Known.{declared_among}
 use Rattle.jn_sound.proofs.Laws.{Laws}
 use Rattle.jn_sound.proofs.Ways.{surely, Safe, safe_by, safe_only, safe_either, safe_some}
 use Rattle.jn_laws.specs.Reading.{ReadAs, itself as read_itself, turned, IsReal}
@@ -64,32 +65,51 @@ same_path_of q r e = cc
 
 -- ---- literals
 
-pub literal_fits : (p : Program) (h : Heap) (s : Scope) (v : Views) (x : Value) (t : Ty) → IsLiteral x t
-    → OperandFits p h s v (opd t None) x
-literal_fits p h s v _ _ number_literal =
+pub literal_fits : (p : Program) (xs : List Variable) (h : Heap) (s : Scope) (v : Views) (x : Value) (t : Ty)
+    → IsLiteral x t → OperandFits p xs h s v (opd t None) x
+literal_fits p xs h s v _ _ number_literal =
     record {
       fits = record { atoms = λ c. absurd c };
       bound = λ q e. absurd (no_path q e);
       is_in = number;
       real = tt;
       path = λ q e. absurd (no_path q e);
+      held = λ y m e. absurd (no_path y.var.path e);
     }
-literal_fits p h s v _ _ truth_literal =
+literal_fits p xs h s v _ _ truth_literal =
     record {
       fits = record { atoms = λ c. absurd c };
       bound = λ q e. absurd (no_path q e);
       is_in = truth;
       real = tt;
       path = λ q e. absurd (no_path q e);
+      held = λ y m e. absurd (no_path y.var.path e);
     }
-literal_fits p h s v _ _ null_literal =
+literal_fits p xs h s v _ _ null_literal =
     record {
       fits = record { atoms = λ c. absurd c };
       bound = λ q e. absurd (no_path q e);
       is_in = null;
       real = tt;
       path = λ q e. absurd (no_path q e);
+      held = λ y m e. absurd (no_path y.var.path e);
     }
+
+-- ---- variables have paths of their own
+
+-- variables with one path are one
+pub own_variable : (xs : List Variable) → OwnPaths (declared_vars xs) → (x y : Variable) → Among xs x → Among xs y
+    → x.var.path ≡ y.var.path → x ≡ y
+own_variable _ own x _ first first e = refl
+own_variable _ own x y first (later m) e = absurd (own.1 y.var (declared_among _ y m) (sym e))
+own_variable _ own x y (later m) first e = absurd (own.1 x.var (declared_among _ x m) e)
+own_variable _ own x y (later m) (later n) e = own_variable _ own.0 x y m n e
+
+-- and none has that of `this`
+not_this_variable : (xs : List Variable) → OwnPaths (declared_vars xs) → (x : Variable) → Among xs x
+    → x.var.path ≡ 0 → ⊥
+not_this_variable _ own _ first e = own.2 e
+not_this_variable _ own x (later m) e = not_this_variable _ own.0 x m e
 
 -- ---- path expressions
 
@@ -105,7 +125,7 @@ own_type p v s q V e x (later a) = elim a [ ]
 
 pub this_operand : {p : Program} {h : Heap} {g : Frame} {w : Views} {vs : List Var} {s : Scope}
     → InScope p h g w vs s → TypeFits s (path_type s 0)
-    → OperandFits p h s (all_views g w) (opd (path_type s 0) (Some 0)) g.this
+    → OperandFits p g.vars h s (all_views g w) (opd (path_type s 0) (Some 0)) g.this
 this_operand {p} {h} {g} {w} {vs} {s} n t = record {
   fits = t;
   bound =
@@ -115,6 +135,8 @@ this_operand {p} {h} {g} {w} {vs} {s} n t = record {
       (object (own_type p (all_views g w) s 0 n.this.view view) (λ f has free. n.this.filled f has));
   real = subst (IsReal p h) (sym n.this.is) n.this.real;
   path = λ q e. subst (λ (r : ℕ). all_views g w r ≡ view_in g.this) (same_path_of 0 q e) refl;
+  held = λ y m e. absurd (not_this_variable g.vars (subst OwnPaths (sym n.declared) n.own) y m
+      (sym (same_path_of 0 y.var.path e)));
 } where
   view : all_views g w 0 ≡ Some n.this.view
   view = ap view_in n.this.is

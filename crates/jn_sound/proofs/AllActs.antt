@@ -10,13 +10,13 @@ use Rattle.jn_steps.specs.Steps.{Leaves}
 use Rattle.jn_sem.specs.Sets.{Views}
 use Rattle.jn_sem.specs.Values.{Value, Truth}
 use Rattle.jn_sem.specs.Acts.{Decide, Choose, Repeat, Return, Todo, todo, acts as acts_of}
-use Rattle.jn_sem.specs.State.{Heap, Frame}
+use Rattle.jn_sem.specs.State.{Heap, Frame, Variable}
 use Rattle.jn_sem.specs.Does.{returns_none, same_truth}
 use Rattle.jn_sem.proofs.HeapLaws.{heap_laws}
 use Rattle.jn_rules.specs.Headers.{Header}
 use Rattle.jn_rules.specs.Stmts.{body_in, is_void}
 use Rattle.jn_sound.specs.Takes.{Opd, opd}
-use Rattle.jn_sound.specs.Fit.{Fits, acts, moves, narrows, decide, choose, repeat, return, leave}
+use Rattle.jn_sound.specs.Fit.{Fits, acts, moves, narrows, settles, decide, choose, repeat, return, leave}
 use Rattle.jn_sound.specs.Sound.{HeapFits, OperandsFit, one, body_of, Left, Stands}
 use Rattle.jn_sound.proofs.Laws.{Laws}
 use Rattle.jn_sound.proofs.Ways.{surely, Safe, safe_it}
@@ -25,7 +25,7 @@ use Rattle.jn_sound.proofs.Frames.{no_void}
 use Rattle.jn_sound.proofs.Fitted.{fitted, did_fits}
 use Rattle.jn_sound.proofs.Decides.{todo_decided, typing_decided, decide_did}
 use Rattle.jn_sound.proofs.Returns.{TruthIs, truth_is, truth_value, return_fits, choose_fits, again_fits}
-use Rattle.jn_sound.proofs.Known.{stands_narrow}
+use Rattle.jn_sound.proofs.Known.{stands_narrow, stands_settle}
 use Rattle.jn_sound.proofs.Steps.{moves_stand, takes_did}
 
 -- the latest operand is a truth value
@@ -34,9 +34,10 @@ record TruthFirst (vals : List Value) : Type 0 where
   pub others : List Value
   pub is : vals ≡ Truth truth ∷ others
 
-truth_first : {p : Program} {h : Heap} {s : Scope} {v : Views} {q : Option ℕ} {ops : List Opd} (vals : List Value) →
-    OperandsFit p h s v (opd ty.Bool q ∷ ops) vals → TruthFirst vals
-truth_first {p} {h} {v = v} _ (one {x = z} {vs = us} j others) = by z us (truth_value p h v z j.is_in) where
+truth_first : {p : Program} {xs : List Variable} {h : Heap} {s : Scope} {v : Views} {q : Option ℕ} {ops : List Opd}
+    (vals : List Value) →
+    OperandsFit p xs h s v (opd ty.Bool q ∷ ops) vals → TruthFirst vals
+truth_first {p} {h = h} {v = v} _ (one {x = z} {vs = us} j others) = by z us (truth_value p h v z j.is_in) where
   by : (z : Value) (us : List Value) → TruthIs z → TruthFirst (z ∷ us)
   by _ us (truth_is {b = b}) = record { truth = b; others = us; is = refl }
 
@@ -86,6 +87,8 @@ acts_fit p n m h f x t k vs s ops w hf (moves {z = z} c r) a =
     acts_fit p n m h f x t k vs z.scope z.ops y.fresh hf r y.stands
 acts_fit p n m h f x t k vs s ops w hf (narrows e l i b c r) a =
     acts_fit p n m h f x t k _ _ [] _ hf r (stands_narrow e l i b c a)
+acts_fit p n m h f x t k vs s _ w hf (settles u q l i b c fits r) a =
+    acts_fit p n m h f x t k _ _ _ _ hf r (stands_settle u q l i b c fits a)
 acts_fit p n m h f x _ k vs s _ w hf (decide and c q e r l) a =
     at_scope p m h f (Decide and c) k _ (length vs) e (decide_fits n hf m k and c q r l a)
 acts_fit p n m h f x _ k vs s _ w hf (choose path u o q e r t) a =

@@ -9,9 +9,8 @@ use Rattle.jn_base.specs.declared.types.Anchor.TheVariants.{Root, Up}
 use Rattle.jn_base.specs.declared.names.Var.{Var}
 use Rattle.jn_base.specs.Paths.{Path}
 use Rattle.jn_base.specs.Universe.{InUniverse}
-use Rattle.jn_base.specs.Atoms.{atoms_in, Among, first, later}
+use Rattle.jn_base.specs.Atoms.{atoms_in, Among}
 use Rattle.jn_base.specs.Scopes.{Bind, Scope, Binds}
-use Rattle.jn_base.specs.Fits.{BindsFit}
 use Rattle.jn_base.specs.Resolve.{is_class, var_named}
 use Rattle.jn_sem.specs.Sets.{Views, Seen, view_at, InType, Respects}
 use Rattle.jn_sem.specs.Values.{Value}
@@ -36,17 +35,11 @@ use Rattle.jn_sound.proofs.Ways.{surely}
 use Rattle.jn_sound.proofs.Safe.{Sure, sure_it, sure_some, sure_test}
 use Rattle.jn_sound.proofs.Stands.{now, same_scope}
 use Rattle.jn_sound.proofs.Views.{agree_in}
-use Rattle.jn_sound.proofs.Known.{view_typed, view_real, some_view, either_path, all_small, declared_among}
-use Rattle.jn_sound.proofs.Locals.{frame_agree, take_whole, count_declared}
+use Rattle.jn_sound.proofs.Known.{bind_once, view_typed, view_real, some_view, either_path, all_small, declared_among}
+use Rattle.jn_sound.proofs.Locals.{frame_agree, count_declared}
+use Rattle.jn_sound.proofs.Calls.{take_whole}
 use Rattle.jn_sound.proofs.Returns.{VariableOf, variable_of, among_take_var}
 use Rattle.jn_sound.proofs.Assigned.{Assigned, assigned_is, among_assigned, declared_assigned, view_other, view_whole, view_own, members, null_assigned, own_one, not_this_path}
-
--- a path has one bind
-pub one_bind : (s : Scope) (b c : Bind) → BindsFit s → Among s b → Among s c → b.path ≡ c.path → b ≡ c
-one_bind _ b _ f first first e = refl
-one_bind _ _ c f first (later n) e = absurd (f.1 (record { bind = c; among = n; is = sym e }))
-one_bind _ b _ f (later m) first e = absurd (f.1 (record { bind = b; among = m; is = e }))
-one_bind _ b c f (later m) (later n) e = one_bind _ b c f.0 m n e
 
 abbrev with_vars : Frame → List Variable → Frame
 with_vars g ys = record g { vars = ys }
@@ -63,7 +56,7 @@ module _ {p : Program} {h : Heap} {g : Frame} {vs : List Var} {s : Scope} {w : V
   v' = all_views (with_vars g ys) w
 
   own : OwnPaths (declared_vars g.vars)
-  own = subst OwnPaths (sym k.declared) may.own
+  own = subst OwnPaths (sym k.declared) k.own
 
   not_this : y.var.path ≡ 0 → ⊥
   not_this = not_this_path (declared_vars g.vars) own y.var (declared_among g.vars y (among_assigned a))
@@ -91,7 +84,7 @@ module _ {p : Program} {h : Heap} {g : Frame} {vs : List Var} {s : Scope} {w : V
   agree_bind b m = agree_in v v' b.ty (λ x c. agree_at x.anchor (λ q j e. may.unmentioned b x q j m c e))
 
   own_bind : (b : Bind) → Among s b → b.path ≡ y.var.path → b ≡ bind y.var.path y.var.ty
-  own_bind b m e = one_bind s b (bind y.var.path y.var.ty) k.binds m may.among e
+  own_bind b m e = bind_once s b (bind y.var.path y.var.ty) k.binds m may.among e
 
   -- the value is in the type of each bind of the variable
   in_bind : (b : Bind) → Among s b → b.path ≡ y.var.path → IsIn p v' h b.ty z
@@ -164,6 +157,7 @@ module _ {p : Program} {h : Heap} {g : Frame} {vs : List Var} {s : Scope} {w : V
     seen = λ x m. seen_at x (members x a own m);
     small = each (λ x. x.var.path < 256) k.small (k.small y (among_assigned a));
     no_null = null_assigned a may.not_final k.no_null;
+    own = k.own;
     this =
         record {
           object = k.this.object;
@@ -283,9 +277,10 @@ assign_at {p} {h} {f} {x} {vs} {s} {ops} {w} n hf m k name v q named may a = at 
         (n.header_one (body_of f) x c a.is_header b)
         (result_same f x vs (length f.method.params) z found.variable
         (assigned (take (length vs) f.vars) name z) a.all_params a.params
-        (n.result_paths (body_of f) x a.is_header) one_new may.own among may_it.not_final)
+        (n.result_paths (body_of f) x a.is_header) one_new a.in_scope.own among may_it.not_final)
 
-  at : (vals : List Value) → OperandsFit p h s (all_views (cut (length vs) f) w) (opd v.ty q ∷ ops) vals
+  at : (vals : List Value) → OperandsFit p (take (length vs) f.vars) h s (all_views (cut (length vs) f) w)
+      (opd v.ty q ∷ ops) vals
       → Sure Q (OnFirst vals missing (λ z us. OnSome (variable (take (length vs) f.vars) name) missing
       (λ c. on_typed p (now (length vs) k f) h c.var.ty z
       (It (Goes (record (now (length vs) k f) { vals = us; vars = assigned (take (length vs) f.vars) name z }) h [])))))

@@ -1,4 +1,5 @@
--- A call, from one typing to another: what the body that it enters may rely on, and where the caller stands with what comes back.
+-- A call, from one typing to another: what the body that it enters may rely on, and where the caller stands with what
+-- comes back.
 use Rattle.std.proofs.Common.{◌≡◌, ◌≤◌, ℕ, List, [], ◌∷◌, length, Option, Some, None, Bool, true, false, refl, sym, ap, ◌∙◌, subst, arith, eq-eqb}
 use Rattle.std.specs.Prelude.{take, cond, nat_eq}
 use Rattle.jn_base.specs.declared.tree.Name.{Name}
@@ -42,7 +43,7 @@ use Rattle.jn_sound.specs.Steps.{Begun, CallsAt, DidAt}
 use Rattle.jn_sound.proofs.Ways.{surely}
 use Rattle.jn_sound.proofs.Safe.{Sure, sure_it, sure_by, sure_only, sure_some, sure_if}
 use Rattle.jn_sound.proofs.Stands.{now, stays_on}
-use Rattle.jn_sound.proofs.Acts.{ObjectIs, null_is, object_is, object_value, has_atoms, not_stuck_at_null}
+use Rattle.jn_sound.proofs.Acts.{ObjectIs, null_is, object_is, object_value, has_atoms, not_stuck_at_null, no_path}
 use Rattle.jn_sound.proofs.Frames.{scope_later, operands_later, not_kept}
 use Rattle.jn_sound.proofs.GetStep.{stands_on}
 use Rattle.jn_sound.proofs.Calls.{PairsFit, no_pairs, Taken, args_taken, take_whole, take_values, count_args, arg_of, args_real, void_subst, inwards, outwards}
@@ -63,12 +64,13 @@ stands_later p h i f x vs s ops w l a = record {
   params = a.params;
   all_params = a.all_params;
   in_scope = scope_later p h i (cut (length vs) f) w vs s l a.in_scope;
-  operands = operands_later p h i s (all_views (cut (length vs) f) w) ops f.vals l a.operands;
+  operands = operands_later p (take (length vs) f.vars) h i s (all_views (cut (length vs) f) w) ops f.vals l a.operands;
 }
 
 pub stands_given : (p : Program) (h : Heap) (f : Frame) (x : Header) (vs : List Var) (s : Scope) (ops : List Opd)
     (w : Views) (t : Ty) (v : Value) → Stands p h f x vs s ops w
-    → is_void t ≡ false → OperandFits p h s (all_views (cut (length vs) f) w) (opd t None) v → Stands p h
+    → is_void t ≡ false → OperandFits p (take (length vs) f.vars) h s (all_views (cut (length vs) f) w) (opd t None) v
+    → Stands p h
     (given (Some v) f) x vs s (with_result f.keeps t ops) w
 stands_given p h f x vs s ops w t v a nv fits = record {
   is_header = a.is_header;
@@ -78,9 +80,11 @@ stands_given p h f x vs s ops w t v a nv fits = record {
   operands = at f.keeps;
 } where
   at : (keeps : Bool)
-      → OperandsFit p h s (all_views (cut (length vs) f) w) (with_result keeps t ops) (kept keeps v f.vals)
+      → OperandsFit p (take (length vs) f.vars) h s (all_views (cut (length vs) f) w) (with_result keeps t ops)
+      (kept keeps v f.vals)
   at true =
-      subst (λ (b : Bool). OperandsFit p h s (all_views (cut (length vs) f) w) (cond (not b) (opd t None ∷ ops) ops)
+      subst (λ (b : Bool). OperandsFit p (take (length vs) f.vars) h s (all_views (cut (length vs) f) w) (cond (not b)
+      (opd t None ∷ ops) ops)
       (v ∷ f.vals)) (sym nv) (one fits a.operands)
   at false = a.operands
 
@@ -91,9 +95,6 @@ pub stands_without : (p : Program) (h : Heap) (f : Frame) (x : Header) (vs : Lis
 stands_without p h f x vs s ops w t a v =
     subst (λ (z : List Opd). Stands p h f x vs s z w) (sym (not_kept f.keeps t ops v)) a
 
-no_path : (q : ℕ) → None ≡ Some q → ⊥
-no_path q e = cc
-
 -- ---- the call
 
 pub call_with : {p : Program} {h : Heap} {f : Frame} {x : Header} {vs : List Var} {s : Scope} {before ops : List Opd}
@@ -101,9 +102,10 @@ pub call_with : {p : Program} {h : Heap} {f : Frame} {x : Header} {vs : List Var
     → (k : List Todo) (keeps : Bool) (q : ℕ) (qs : List ℕ) (args : List Opd) (c : Callee)
     → ArgsFit s (replaced_paths c.vars) (q ∷ qs) c.vars args qs → (is_void c.result ≡ true → keeps ≡ false) →
     TypeFits s (subst_type s (swapped (replaced_paths c.vars) (q ∷ qs)) c.result)
-    → Stands p h f x vs s before w → (values others : List Value) → PairsFit p h s
+    → Stands p h f x vs s before w → (values others : List Value) → PairsFit p (take (length vs) f.vars) h s
     (all_views (cut (length vs) f) w) args values
-    → OperandsFit p h s (all_views (cut (length vs) f) w) ops others → (o : ℕ) (V : Path) → all_views
+    → OperandsFit p (take (length vs) f.vars) h s (all_views (cut (length vs) f) w) ops others → (o : ℕ) (V : Path)
+    → all_views
     (cut (length vs) f) w q ≡ Some V → (b : Body) (y : Header) → IsHeader p b y
     → Alike c.vars y.vars → y.result ≡ c.result
     → (has_null_path (frame_of (record { class = b.class; method = b.method; vars = y.vars })
@@ -129,7 +131,11 @@ call_with {p} {h} {f} {x} {vs} {s} {before} {ops} {w} n hf k keeps q qs args c a
       ready = λ nn ai. surely (begins nn ai);
       kept = λ z i v. kf (ap is_void (sym same ∙ ap (λ (u : Header). u.result) (sym (n.header_one b z y i ih))) ∙ v);
       resumes =
-          λ j v l g. record { fresh = w; stands = at j l g.no_null (n.header_one b g.header y g.is_header ih) v g.leaves };
+          λ j v l g. record {
+            fresh = w;
+            stands = at j l g.no_null
+                (n.header_one b g.header y g.is_header ih) v g.leaves;
+          };
     } where
       v : Views
       v = all_views (cut (length vs) f) w
@@ -150,7 +156,8 @@ call_with {p} {h} {f} {x} {vs} {s} {before} {ops} {w} n hf k keeps q qs args c a
       waits = waiting keeps (now (length vs) k f) others
 
       whole : take (length b.method.params) (with_values y.vars values) ≡ with_values y.vars values
-      whole = ap (λ (i : ℕ). take i (with_values y.vars values)) (sym (n.param_count b y ih)) ∙ take_values y.vars values
+      whole = ap (λ (i : ℕ). take i (with_values y.vars values)) (sym (n.param_count b y ih))
+          ∙ take_values y.vars values
 
       -- the caller in a later heap
       later : (j : Heap) → Later h j → Stands p j waits x vs s ops w
@@ -178,12 +185,12 @@ call_with {p} {h} {f} {x} {vs} {s} {before} {ops} {w} n hf k keeps q qs args c a
           (sym void ∙ subst (λ (z : Header). is_void z.result ≡ false) e g.0)
           (record {
             fits = tf;
-            bound = λ i i'. absurd (no_path i i');
+            bound = λ i j. absurd (no_path i j);
             is_in = in_type nn j u
                 (subst (λ (z : Header). IsIn p (result_views new) j z.result u) e g.1);
             real = g.2;
-            path = λ i i'. absurd
-                (no_path i i');
+            path = λ i j. absurd (no_path i j);
+            held = λ i c j. absurd (no_path i.var.path j);
           })
 
 call_enters : {p : Program} {h : Heap} {f : Frame} {x : Header} {vs : List Var} {s : Scope} {before ops : List Opd}
@@ -191,9 +198,10 @@ call_enters : {p : Program} {h : Heap} {f : Frame} {x : Header} {vs : List Var} 
     → (k : List Todo) (name : Name) (keeps : Bool) (q : ℕ) (qs : List ℕ) (args : List Opd) (c : Callee)
     → ArgsFit s (replaced_paths c.vars) (q ∷ qs) c.vars args qs → (is_void c.result ≡ true → keeps ≡ false) →
     TypeFits s (subst_type s (swapped (replaced_paths c.vars) (q ∷ qs)) c.result)
-    → Stands p h f x vs s before w → (values others : List Value) → PairsFit p h s
+    → Stands p h f x vs s before w → (values others : List Value) → PairsFit p (take (length vs) f.vars) h s
     (all_views (cut (length vs) f) w) args values
-    → OperandsFit p h s (all_views (cut (length vs) f) w) ops others → (o : ℕ) (V : Path) → all_views
+    → OperandsFit p (take (length vs) f.vars) h s (all_views (cut (length vs) f) w) ops others → (o : ℕ) (V : Path)
+    → all_views
     (cut (length vs) f) w q ≡ Some V → RefersTo p h o V
     → ((g : Name) → HasField p V g → HasValue p h o V g) → (b : Body) (y : Header) → IsBody p V name b →
     IsHeader p b y → Alike c.vars y.vars → y.result ≡ c.result
@@ -226,7 +234,8 @@ call_enters {p} {h} {f} {x} {vs} {s} {before} {ops} {w} n hf k name keeps q qs a
             params = take_whole y.vars (length b.method.params) (n.param_count b y ih);
             all_params = count;
             in_scope =
-                subst (λ (X : List Variable). InScope p h (record new { vars = X }) no_views y.vars (at_start b y).scope)
+                subst (λ (X : List Variable). InScope p h (record new { vars = X }) no_views y.vars
+                (at_start b y).scope)
                 (sym (take_values y.vars values))
                 (n.entry h V name b y o values ib ih r filled (count_args c.vars y.vars args qs values af pf al) nn
                 (λ z m. args_real args values pf z m) ai);
@@ -247,8 +256,9 @@ method_known {p} {h} {f} {x} {vs} {s} {before} {ops} {w} n name count t q args c
       v : Views
       v = all_views (cut (length vs) f) w
 
-      got : Taken p h s v count [] f.vals args (opd t q ∷ ops)
-      got = args_taken p h s v count [] [] before f.vals args (opd t q ∷ ops) e no_pairs a.operands
+      got : Taken p (take (length vs) f.vars) h s v count [] f.vals args (opd t q ∷ ops)
+      got = args_taken p (take (length vs) f.vars) h s v count [] [] before f.vals args
+          (opd t q ∷ ops) e no_pairs a.operands
 
       others : (y z : List Value × List Value) → Some y ≡ Some z → y.1 ≡ z.1
       others y z e = let g : y ≡ z = cc in ap (λ (u : List Value × List Value). u.1) g
@@ -258,13 +268,15 @@ method_known {p} {h} {f} {x} {vs} {s} {before} {ops} {w} n name count t q args c
           n.signatures V c.bound name c r.related.other
           (n.method_class s v t name c V a.in_scope.binds a.in_scope.respects i it) refl i.callee
 
-      at_first : OperandsFit p h s v (opd t q ∷ ops) (Reference o V ∷ us) → Surely (BodyAlike p V name (header_of c))
+      at_first : OperandsFit p (take (length vs) f.vars) h s v (opd t q ∷ ops) (Reference o V ∷ us)
+          → Surely (BodyAlike p V name (header_of c))
       at_first (one j r) =
           of_value j.real (object_value p h v t (Reference o V) (has_atoms t (atoms_in t) i.at refl) j.is_in)
 
-      at : (zs : List Value) → zs ≡ Reference o V ∷ us → OperandsFit p h s v (opd t q ∷ ops) zs
+      at : (zs : List Value) → zs ≡ Reference o V ∷ us → OperandsFit p (take (length vs) f.vars) h s v
+          (opd t q ∷ ops) zs
           → Surely (BodyAlike p V name (header_of c))
-      at zs e g = at_first (subst (OperandsFit p h s v (opd t q ∷ ops)) e g)
+      at zs e g = at_first (subst (OperandsFit p (take (length vs) f.vars) h s v (opd t q ∷ ops)) e g)
 
 -- where the receiver is null the run ends; else the body at its view is entered
 pub call_at : {p : Program} {h : Heap} {f : Frame} {x : Header} {vs : List Var} {s : Scope} {before ops : List Opd}
@@ -293,11 +305,12 @@ call_at {p} {h} {f} {x} {vs} {s} {before} {ops} {w} n hf m k name count keeps t 
       Q : Did → Type 0
       Q = DidAt p h f x vs k tau
 
-      got : Taken p h s v count [] f.vals args (opd t (Some q) ∷ ops)
-      got = args_taken p h s v count [] [] before f.vals args (opd t (Some q) ∷ ops) e no_pairs a.operands
+      got : Taken p (take (length vs) f.vars) h s v count [] f.vals args (opd t (Some q) ∷ ops)
+      got = args_taken p (take (length vs) f.vars) h s v count [] [] before f.vals args (opd t
+          (Some q) ∷ ops) e no_pairs a.operands
 
       at_value : (r : Value) (us : List Value) → v q ≡ view_in r → IsReal p h r → ObjectIs p h v t r
-          → OperandsFit p h s v ops us
+          → OperandsFit p (take (length vs) f.vars) h s v ops us
           → Sure Q (on_object r (λ o V. calls p V name r got.values (waiting keeps (now (length vs) k f) us) h))
       at_value _ us own rl null_is others = sure_it _ (surely not_stuck_at_null)
       at_value _ us own rl (object_is {o = o} {V = V} it g) others =
@@ -324,7 +337,7 @@ call_at {p} {h} {f} {x} {vs} {s} {before} {ops} {w} n hf m k name count keeps t 
             wrong : true ≡ false → ⊥
             wrong e = cc
 
-      at : (us : List Value) → OperandsFit p h s v (opd t (Some q) ∷ ops) us
+      at : (us : List Value) → OperandsFit p (take (length vs) f.vars) h s v (opd t (Some q) ∷ ops) us
           → Sure Q (OnFirst us missing (λ r ws. on_object r
           (λ o V. calls p V name r got.values (waiting keeps (now (length vs) k f) ws) h)))
       at _ (one {x = r} {vs = us} j others) =

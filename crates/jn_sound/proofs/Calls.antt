@@ -36,18 +36,19 @@ use Rattle.jn_laws.specs.LawsOfWritten.{HeaderPath, HeaderPaths, of_this as is_t
 -- ---- the arguments among the operands
 
 -- arguments and their values, the earliest first
-pub data PairsFit (p : Program) (h : Heap) (s : Scope) (v : Views) : List Opd → List Value → Type 0 where
-  no_pairs : PairsFit p h s v [] []
-  pair : {o : Opd} {os : List Opd} {x : Value} {xs : List Value} → OperandFits p h s v o x
-      → PairsFit p h s v os xs → PairsFit p h s v (o ∷ os) (x ∷ xs)
+pub data PairsFit (p : Program) (us : List Variable) (h : Heap) (s : Scope) (v : Views)
+    : List Opd → List Value → Type 0 where
+  no_pairs : PairsFit p us h s v [] []
+  pair : {o : Opd} {os : List Opd} {x : Value} {xs : List Value} → OperandFits p us h s v o x
+      → PairsFit p us h s v os xs → PairsFit p us h s v (o ∷ os) (x ∷ xs)
 
-pub record Taken (p : Program) (h : Heap) (s : Scope) (v : Views) (n : ℕ) (before : List Value) (vals : List Value)
-    (args rest : List Opd) : Type 0 where
+pub record Taken (p : Program) (us : List Variable) (h : Heap) (s : Scope) (v : Views) (n : ℕ)
+    (before : List Value) (vals : List Value) (args rest : List Opd) : Type 0 where
   pub values : List Value
   pub others : List Value
   pub are : args_of n before vals ≡ Some (values, others)
-  pub pairs : PairsFit p h s v args values
-  pub fit : OperandsFit p h s v rest others
+  pub pairs : PairsFit p us h s v args values
+  pub fit : OperandsFit p us h s v rest others
 
 pub same_pair : {A B : Type 0} (x y : A × B) → Some x ≡ Some y → (x.0 ≡ y.0) × (x.1 ≡ y.1)
 same_pair {A} {B} x y e = let z : x ≡ y = cc in (ap {B = A} (λ (u : A × B). u.0) z, ap {B = B} (λ (u : A × B). u.1) z)
@@ -55,24 +56,24 @@ same_pair {A} {B} x y e = let z : x ≡ y = cc in (ap {B = A} (λ (u : A × B). 
 no_pair : {A : Type 0} (a : A) → None ≡ Some a → ⊥
 no_pair a e = cc
 
-pub args_taken : (p : Program) (h : Heap) (s : Scope) (v : Views) (n : ℕ) (done : List Opd) (dvals : List Value)
-    (ops : List Opd) (vals : List Value) (args rest : List Opd)
-    → opds_of n done ops ≡ Some (args, rest) → PairsFit p h s v done dvals → OperandsFit p h s v ops vals →
-    Taken p h s v n dvals vals args rest
-args_taken p h s v zero done dvals ops vals args rest e d f =
+pub args_taken : (p : Program) (us : List Variable) (h : Heap) (s : Scope) (v : Views) (n : ℕ) (done : List Opd)
+    (dvals : List Value) (ops : List Opd) (vals : List Value) (args rest : List Opd)
+    → opds_of n done ops ≡ Some (args, rest) → PairsFit p us h s v done dvals → OperandsFit p us h s v ops vals →
+    Taken p us h s v n dvals vals args rest
+args_taken p us h s v zero done dvals ops vals args rest e d f =
     let k = same_pair (done, ops) (args, rest) e in
     record {
       values = dvals;
       others = vals;
       are = refl;
       pairs = subst
-          (λ (os : List Opd). PairsFit p h s v os dvals) k.0 d;
+          (λ (os : List Opd). PairsFit p us h s v os dvals) k.0 d;
       fit = subst
-          (λ (os : List Opd). OperandsFit p h s v os vals) k.1 f;
+          (λ (os : List Opd). OperandsFit p us h s v os vals) k.1 f;
     }
-args_taken p h s v (suc n) done dvals [] vals args rest e d f = absurd (no_pair (args, rest) e)
-args_taken p h s v (suc n) done dvals (o ∷ ops) _ args rest e d (one {x = x} {vs = vals} a b) =
-    let k = args_taken p h s v n (o ∷ done) (x ∷ dvals) ops vals args rest e (pair a d) b in
+args_taken p us h s v (suc n) done dvals [] vals args rest e d f = absurd (no_pair (args, rest) e)
+args_taken p us h s v (suc n) done dvals (o ∷ ops) _ args rest e d (one {x = x} {vs = vals} a b) =
+    let k = args_taken p us h s v n (o ∷ done) (x ∷ dvals) ops vals args rest e (pair a d) b in
     record { values = k.values; others = k.others; are = k.are; pairs = k.pairs; fit = k.fit }
 
 -- ---- the views of the callee
@@ -100,9 +101,10 @@ take_values (v ∷ vs) [] = refl
 take_values (v ∷ vs) (x ∷ xs) = ap (λ (l : List Variable). record { var = v; value = x } ∷ l) (take_values vs xs)
 
 -- the view of a parameter is that of its argument
-param_view : {p : Program} {h : Heap} {s : Scope} {v : Views} {from to : List ℕ} (vars hvars : List Var)
+param_view : {p : Program} {us : List Variable} {h : Heap} {s : Scope} {v : Views} {from to : List ℕ}
+    (vars hvars : List Var)
     (args : List Opd) (qs : List ℕ) (vals : List Value)
-    → ArgsFit s from to vars args qs → PairsFit p h s v args vals → Alike vars hvars → (x : Var) → Among hvars x
+    → ArgsFit s from to vars args qs → PairsFit p us h s v args vals → Alike vars hvars → (x : Var) → Among hvars x
     → v (swapped (map var_path vars) qs x.path) ≡ view_of_var (with_values hvars vals) x.path
 param_view {v = v} _ _ _ _ _ no_args no_pairs no_vars x m = elim m [ ]
 param_view {v = v} _ _ _ _ _ (one_arg {x = y} {xs = ys} {o = o} {q = q} {qs = qs} t e r)
@@ -117,19 +119,21 @@ param_view {v = v} _ _ _ _ _ (one_arg {x = y} {xs = ys} {o = o} {q = q} {qs = qs
       at true i again = f.path q e
       at false i again = again (behind y z zs x d m i)
 
-pub count_args : {p : Program} {h : Heap} {s : Scope} {v : Views} {from to : List ℕ} (vars hvars : List Var)
+pub count_args : {p : Program} {us : List Variable} {h : Heap} {s : Scope} {v : Views} {from to : List ℕ}
+    (vars hvars : List Var)
     (args : List Opd) (qs : List ℕ) (vals : List Value)
-    → ArgsFit s from to vars args qs → PairsFit p h s v args vals → Alike vars hvars → length vals ≡ length hvars
+    → ArgsFit s from to vars args qs → PairsFit p us h s v args vals → Alike vars hvars → length vals ≡ length hvars
 count_args _ _ _ _ _ no_args no_pairs no_vars = refl
 count_args _ _ _ _ _ (one_arg t e r) (pair f g) (one_var u c d l) = ap suc (count_args _ _ _ _ _ r g l)
 
-pub arg_of : {p : Program} {h : Heap} {s : Scope} {v : Views} {from to : List ℕ} (vars hvars : List Var)
+pub arg_of : {p : Program} {us : List Variable} {h : Heap} {s : Scope} {v : Views} {from to : List ℕ}
+    (vars hvars : List Var)
     (args : List Opd) (qs : List ℕ) (vals : List Value)
-    → ArgsFit s from to vars args qs → PairsFit p h s v args vals → Alike vars hvars → (x : Variable) → Among
+    → ArgsFit s from to vars args qs → PairsFit p us h s v args vals → Alike vars hvars → (x : Variable) → Among
     (with_values hvars vals) x
     → IsIn p v h (subst_type s (swapped from to) x.var.ty) x.value × Among hvars x.var
 arg_of _ _ _ _ _ no_args no_pairs no_vars x m = elim m [ ]
-arg_of {p} {h} {s} {v} {from} {to} _ _ _ _ _ (one_arg t e r) (pair {x = a} f g) (one_var u c d l) _ first = (
+arg_of {p} {us} {h} {s} {v} {from} {to} _ _ _ _ _ (one_arg t e r) (pair {x = a} f g) (one_var u c d l) _ first = (
   subst (λ (z : Ty). IsIn p v h (subst_type s (swapped from to) z) a) u
       (subst (λ (z : Ty). IsIn p v h z a) t f.is_in),
   first,
@@ -137,8 +141,9 @@ arg_of {p} {h} {s} {v} {from} {to} _ _ _ _ _ (one_arg t e r) (pair {x = a} f g) 
 arg_of _ _ _ _ _ (one_arg t e r) (pair f g) (one_var u c d l) x (later m) =
     let k = arg_of _ _ _ _ _ r g l x m in (k.0, later k.1)
 
-pub args_real : {p : Program} {h : Heap} {s : Scope} {v : Views} (args : List Opd) (vals : List Value)
-    → PairsFit p h s v args vals → (y : Value) → Among vals y → IsReal p h y
+pub args_real : {p : Program} {us : List Variable} {h : Heap} {s : Scope} {v : Views} (args : List Opd)
+    (vals : List Value)
+    → PairsFit p us h s v args vals → (y : Value) → Among vals y → IsReal p h y
 args_real _ _ no_pairs y m = elim m [ ]
 args_real _ _ (pair f g) _ first = f.real
 args_real _ _ (pair f g) y (later m) = args_real _ _ g y m
@@ -210,10 +215,12 @@ seen_of (x ∷ xs) q y all = at (nat_eq q x.var.path) refl (seen_of xs q) y.0 y.
     wrong i = cc
   at false e again y (later m) i = again (y, m, i) (λ z n. all z (later n))
 
--- WHAT IS KEPT BY ENTERING: in the callee's types the views of the caller, put for the parameters, are the callee's own.
-module _ {p : Program} {h : Heap} {s : Scope} {v : Views} (hvars vars : List Var) (args : List Opd) (qs : List ℕ)
+-- WHAT IS KEPT BY ENTERING: in the callee's types the views of the caller, put for the parameters, are the callee's
+-- own.
+module _ {p : Program} {us : List Variable} {h : Heap} {s : Scope} {v : Views} (hvars vars : List Var)
+    (args : List Opd) (qs : List ℕ)
     (vals : List Value) (q : ℕ) (r : Value)
-    (af : ArgsFit s (replaced_paths vars) (q ∷ qs) vars args qs) (pf : PairsFit p h s v args vals)
+    (af : ArgsFit s (replaced_paths vars) (q ∷ qs) vars args qs) (pf : PairsFit p us h s v args vals)
     (al : Alike vars hvars) (own : v q ≡ view_in r)
     (positive : (y : Var) → Among hvars y → y.path ≡ 0 → ⊥)
     (once : (y z : Var) → Among hvars y → Among hvars z → y.path ≡ z.path → y ≡ z)

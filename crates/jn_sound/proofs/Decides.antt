@@ -1,5 +1,5 @@
 -- An act with two ways: `&&` and `||`. What is still to do, and the typing, go by the truth value on top.
-use Rattle.std.proofs.Common.{◌≡◌, ℕ, List, [], ◌∷◌, length, Option, Some, None, Bool, true, false, refl, sym, ap, ◌∙◌, subst}
+use Rattle.std.proofs.Common.{◌≡◌, ℕ, List, [], ◌∷◌, length, Option, None, Bool, true, false, refl, sym, ap, ◌∙◌, subst}
 use Rattle.std.specs.Prelude.{cond, take}
 use Rattle.jn_base.specs.declared.tree.Expr.{Expr}
 use Rattle.jn_base.specs.declared.tree.Program.{Program}
@@ -18,6 +18,7 @@ use Rattle.jn_sound.specs.Takes.{Opd, opd}
 use Rattle.jn_sound.specs.Takes.{Typing, typing}
 use Rattle.jn_sound.specs.Sound.{HeapFits, StandsAt, OperandFits, OperandsFit, one, cut, all_views}
 use Rattle.jn_sound.specs.Steps.{DidAt}
+use Rattle.jn_sound.proofs.Acts.{no_path}
 use Rattle.jn_sound.proofs.Stands.{now, stays_on}
 use Rattle.jn_sound.proofs.GetStep.{stands_on}
 use Rattle.jn_rules.specs.Headers.{Header}
@@ -28,9 +29,6 @@ todo_decided n e k right = cond right (acts n e k) k
 
 abbrev pub typing_decided : Scope → List Opd → (right : Bool) → Typing
 typing_decided s ops right = cond right (typing s ops) (typing s (opd ty.Bool None ∷ ops))
-
-no_path : (q : ℕ) → None ≡ Some q → ⊥
-no_path q e = cc
 
 long : (vs : List Variable) → length vs ≡ length (declared_vars vs)
 long [] = refl
@@ -48,16 +46,18 @@ decide_did {p} {h} {f} {x} {vs} {s} {ops} m and e k q hf a u us fv d does =
       v : Views
       v = all_views (cut (length vs) f) a.fresh
 
-      below : (vals : List Value) → vals ≡ Truth u ∷ us → OperandsFit p h s v (opd ty.Bool q ∷ ops) vals
-          → OperandsFit p h s v ops us
-      below vals is g = under (subst (OperandsFit p h s v (opd ty.Bool q ∷ ops)) is g) where
-        under : OperandsFit p h s v (opd ty.Bool q ∷ ops) (Truth u ∷ us) → OperandsFit p h s v ops us
+      below : (vals : List Value) → vals ≡ Truth u ∷ us → OperandsFit p (take (length vs) f.vars) h s v
+          (opd ty.Bool q ∷ ops) vals
+          → OperandsFit p (take (length vs) f.vars) h s v ops us
+      below vals is g = under (subst (OperandsFit p (take (length vs) f.vars) h s v (opd ty.Bool q ∷ ops)) is g) where
+        under : OperandsFit p (take (length vs) f.vars) h s v (opd ty.Bool q ∷ ops) (Truth u ∷ us)
+            → OperandsFit p (take (length vs) f.vars) h s v ops us
         under (one g r) = r
 
-      others : OperandsFit p h s v ops us
+      others : OperandsFit p (take (length vs) f.vars) h s v ops us
       others = below f.vals fv a.stands.operands
 
-      top : OperandFits p h s v (opd ty.Bool None) (Truth u)
+      top : OperandFits p (take (length vs) f.vars) h s v (opd ty.Bool None) (Truth u)
       top =
           record {
             fits = record { atoms = λ c. absurd c };
@@ -66,6 +66,7 @@ decide_did {p} {h} {f} {x} {vs} {s} {ops} m and e k q hf a u us fv d does =
             real =
                 tt;
             path = λ r i. absurd (no_path r i);
+            held = λ r c i. absurd (no_path r.var.path i);
           }
 
       wide : length (take (length vs) f.vars) ≡ length vs
@@ -125,12 +126,14 @@ truth_did {p} {h} {f} {x} {vs} {s} {ops} k q then hf a u us fv d does =
       v : Views
       v = all_views (cut (length vs) f) a.fresh
 
-      under : OperandsFit p h s v (opd ty.Bool q ∷ ops) (Truth u ∷ us) → OperandsFit p h s v ops us
+      under : OperandsFit p (take (length vs) f.vars) h s v (opd ty.Bool q ∷ ops) (Truth u ∷ us)
+          → OperandsFit p (take (length vs) f.vars) h s v ops us
       under (one g r) = r
 
-      below : (vals : List Value) → vals ≡ Truth u ∷ us → OperandsFit p h s v (opd ty.Bool q ∷ ops) vals
-          → OperandsFit p h s v ops us
-      below vals is g = under (subst (OperandsFit p h s v (opd ty.Bool q ∷ ops)) is g)
+      below : (vals : List Value) → vals ≡ Truth u ∷ us → OperandsFit p (take (length vs) f.vars) h s v
+          (opd ty.Bool q ∷ ops) vals
+          → OperandsFit p (take (length vs) f.vars) h s v ops us
+      below vals is g = under (subst (OperandsFit p (take (length vs) f.vars) h s v (opd ty.Bool q ∷ ops)) is g)
 
 pub choose_did : {p : Program} {h : Heap} {f : Frame} {x : Header} {vs : List Var} {s : Scope} {ops : List Opd}
     (m path : ℕ) (left right : List Stmt) (k : List Todo) (q : Option ℕ) → HeapFits p h

@@ -56,7 +56,7 @@ module _ (b : Body) where
       (subst (λ (l : List Var). BindsFit (S l)) (sym (append_assoc vs (x ∷ []) ws)) f))
 
   -- a bind there is that of `this`, or of a variable
-  bind_of : (vs : List Var) (c : Bind) → Among (S vs) c
+  pub bind_of : (vs : List Var) (c : Bind) → Among (S vs) c
       → (c ≡ this_bind C) ⊎ ((x : Var) × Among vs x × (c ≡ var_bind x))
   bind_of vs c m = at (reverse_among (this_bind C ∷ map var_bind vs) c m) where
     of_var : (xs : List Var) → Among (map var_bind xs) c → (x : Var) × Among xs x × (c ≡ var_bind x)
@@ -195,6 +195,7 @@ module _ {p : Program} {h : Heap} {g : Frame} (all : List Variable) (k : Argumen
     seen = λ x m. elim m [ ];
     small = λ x m. elim m [ ];
     no_null = refl;
+    own = tt;
     this = t;
   } where
     W : Views

@@ -1,4 +1,5 @@
--- Three lemmas that later acts need: of finitely many things at once; of constraints with `this` at a class; of a store.
+-- Three lemmas that later acts need: of finitely many things at once; of constraints with `this` at a class; of a
+-- store.
 use Rattle.std.proofs.Common.{◌≡◌, ℕ, zero, suc, List, [], ◌∷◌, ◌++◌, Option, Some, Bool, true, false, refl, sym, ap, ◌∙◌, subst, ◌⊎◌, inl, inr}
 use Rattle.std.specs.Prelude.{drop, cond, slice_get, slice_set, unwrap_or}
 use Rattle.std.proofs.lemmas.List.{append-nil}

@@ -23,7 +23,7 @@ use Rattle.jn_sem.specs.Asks.{OnTest, holds, fails, OnIf, It}
 use Rattle.jn_sem.specs.Acts.{Todo}
 use Rattle.std.specs.Prelude.{slice_get, IsSome}
 use Rattle.std.specs.Option.{option_map, option_and_then}
-use Rattle.jn_sem.specs.State.{Object, stored_value, slot_value, Heap, Frame, has_null_path, HasValue}
+use Rattle.jn_sem.specs.State.{Variable, Object, stored_value, slot_value, Heap, Frame, has_null_path, HasValue}
 use Rattle.jn_sem.specs.Does.{Ending, Ends, AtNull, Zero, Arena, Depth, Stuck, Entry, Did, Does, kept}
 use Rattle.jn_sem.specs.Run.{Charged, Running, Then, over, ended, settled_at, settled, given, given_first, frame_of, AreIn, begins, enters, proceeds, acting, charged, frames_charged, Charge, start, shown, outcome_of, Run, resumed as resumes_next}
 use Rattle.jn_steps.specs.Reports.{Reports}
@@ -31,7 +31,7 @@ use Rattle.jn_sem.specs.LawsOfHeaps.{Later, GrownAt}
 use Rattle.jn_sem.proofs.HeapLaws.{heap_laws}
 use Rattle.jn_rules.specs.Stmts.{In, body_in, is_void}
 use Rattle.jn_sound.specs.Takes.{Opd, opd, with_result}
-use Rattle.jn_sound.specs.Fit.{Fits, ends, acts, moves, narrows, decide, choose, repeat, return, leave}
+use Rattle.jn_sound.specs.Fit.{Fits, ends, acts, moves, narrows, settles as settles_fits, decide, choose, repeat, return, leave}
 use Rattle.jn_sound.specs.Takes.{Typing}
 use Rattle.jn_sound.specs.Sound.{StandsAt, GivesBack, HeapFits, ThisFits, InScope, OperandsFit, none, one, all_views, body_of, Works, Waits, Starts, before, made, over as start_over, Waiting, starts, waits, FramesFit, start as start_fits, work, Sound, NotStuck, Stays, EntersFit, LeavesFit, EntersWith, DidFit, SoundThen}
 use Rattle.jn_sound.proofs.Laws.{Laws}
@@ -96,13 +96,14 @@ scope_later p h i f w vs s l n = record {
   seen = n.seen;
   small = n.small;
   no_null = n.no_null;
+  own = n.own;
   this = this_later p h i f l n.this;
 }
 
-pub operands_later : (p : Program) (h i : Heap) (s : Scope) (v : Views) (ops : List Opd) (vs : List Value)
-    → Later h i → OperandsFit p h s v ops vs → OperandsFit p i s v ops vs
-operands_later p h i s v _ _ l none = none
-operands_later p h i s v _ _ l (one {o = o} {x = x} a b) =
+pub operands_later : (p : Program) (xs : List Variable) (h i : Heap) (s : Scope) (v : Views) (ops : List Opd)
+    (vs : List Value) → Later h i → OperandsFit p xs h s v ops vs → OperandsFit p xs i s v ops vs
+operands_later p xs h i s v _ _ l none = none
+operands_later p xs h i s v _ _ l (one {o = o} {x = x} a b) =
     one (record {
       fits = a.fits;
       bound = a.bound;
@@ -110,7 +111,8 @@ operands_later p h i s v _ _ l (one {o = o} {x = x} a b) =
       real =
           real_later p h i x l a.real;
       path = a.path;
-    }) (operands_later p h i s v _ _ l b)
+      held = a.held;
+    }) (operands_later p xs h i s v _ _ l b)
 
 waits_later : (p : Program) (h i : Heap) (g f : Frame) → Later h i → Waits p h g f → Waits p i g f
 waits_later p h i g f l w = record {
@@ -205,6 +207,7 @@ at_end p b _ _ _ _ e (ends v) = v
 at_end p b _ _ _ _ e (acts n t f) = absurd (not_nil e)
 at_end p b _ _ _ _ e (moves m f) = at_end p b _ _ _ _ e f
 at_end p b _ _ _ _ e (narrows n m l o c f) = at_end p b _ _ _ _ e f
+at_end p b _ _ _ _ e (settles_fits u q l n o c i f) = at_end p b _ _ _ _ e f
 at_end p b _ _ _ _ e (decide and c q n f g) = absurd (not_nil e)
 at_end p b _ _ _ _ e (choose path one_side other q n f g) = absurd (not_nil e)
 at_end p b _ _ _ _ e (repeat path c body q n t i j f) = absurd (not_nil e)
@@ -237,7 +240,8 @@ resumed : (p : Program) (h : Heap) (g f : Frame) → HeapFits p h
     (given v f) (given v f).todo
 resumed p h g f hf w v x i l =
     at v (w.resumes h v ((heap_laws.heaps p).itself h) (gives_back p h w.entry g v x hf w.stays w.no_null i l)) where
-      at : (v : Option Value) → StandsAt p h (given v f) w.header w.vars w.typing → Works p h (given v f) (given v f).todo
+      at : (v : Option Value) → StandsAt p h (given v f) w.header w.vars w.typing
+          → Works p h (given v f) (given v f).todo
       at None a = works_stand f.todo a w.fits
       at (Some u) a = works_stand f.todo a w.fits
 

@@ -1,6 +1,6 @@
 -- Reading a field, from one typing to another; and which field it is.
 use Rattle.std.proofs.Common.{◌≡◌, ℕ, List, [], ◌∷◌, length, Option, Some, None, Bool, refl, sym, ap, ◌∙◌, subst}
-use Rattle.std.specs.Prelude.{IsSome}
+use Rattle.std.specs.Prelude.{IsSome, take}
 use Rattle.jn_base.specs.declared.tree.Name.{Name}
 use Rattle.jn_base.specs.declared.tree.Program.{Program}
 use Rattle.jn_base.specs.declared.types.Ty.{Ty}
@@ -39,7 +39,7 @@ use Rattle.jn_sound.specs.Sound.{Stands}
 use Rattle.jn_sound.specs.Steps.{GoesAt, DidAt}
 use Rattle.jn_sound.proofs.Ways.{surely}
 use Rattle.jn_sound.proofs.Safe.{Sure, sure_it, sure_by, sure_only, sure_either, sure_some}
-use Rattle.jn_sound.proofs.Stands.{now, stays_on, scope_on, views_on}
+use Rattle.jn_sound.proofs.Stands.{now, stays_on, scope_on, vars_on}
 use Rattle.jn_sound.proofs.Acts.{no_path, ObjectIs, null_is, object_is, object_value, has_atoms, the_value, field_in, read_real, not_stuck_at_null}
 use Rattle.jn_laws.specs.Reading.{SlotFits, ReadAs, itself as read_itself, turned, RefersTo, IsReal}
 use Rattle.jn_rules.specs.Headers.{Header}
@@ -49,7 +49,7 @@ use Rattle.jn_laws.specs.Surely.{Surely}
 
 pub stands_on : {p : Program} {h : Heap} {f : Frame} {x : Header} {vs : List Var} {s : Scope} {ops : List Opd}
     {w : Views} → Stands p h f x vs s ops w
-    → (k : List Todo) (keeps : Bool) (more : List Opd) (vals : List Value) → OperandsFit p h s
+    → (k : List Todo) (keeps : Bool) (more : List Opd) (vals : List Value) → OperandsFit p (take (length vs) f.vars) h s
     (all_views (cut (length vs) f) w) more vals
     → Stands p h (record (now (length vs) k f) { vals = vals; keeps = keeps }) x vs s more w
 stands_on {p} {h} {f} {x} {vs} {s} {ops} {w} a k keeps more vals g = record {
@@ -57,12 +57,12 @@ stands_on {p} {h} {f} {x} {vs} {s} {ops} {w} a k keeps more vals g = record {
   params = a.params;
   all_params = a.all_params;
   in_scope = scope_on f a.in_scope k keeps vals;
-  operands = views_on (λ v. OperandsFit p h s v more vals) f (length vs) w k keeps vals g;
+  operands = vars_on (λ V v. OperandsFit p V h s v more vals) f (length vs) w k keeps vals g;
 }
 
 pub goes_at : {p : Program} {h : Heap} {f : Frame} {x : Header} {vs : List Var} {s : Scope} {ops : List Opd}
     {w : Views} → HeapFits p h → Stands p h f x vs s ops w
-    → (k : List Todo) (more : List Opd) (vals : List Value) → OperandsFit p h s
+    → (k : List Todo) (more : List Opd) (vals : List Value) → OperandsFit p (take (length vs) f.vars) h s
     (all_views (cut (length vs) f) w) more vals
     → GoesAt p h f x vs k (typing s more) (record (now (length vs) k f) { vals = vals }) h
 goes_at {p} {h} {f} {x} {vs} {s} {ops} {w} e a k more vals g = record {
@@ -104,7 +104,7 @@ pub field_known : {p : Program} {h : Heap} {f : Frame} {x : Header} {vs : List V
     → IsFoundField p s t name c → Stands p h f x vs s (opd t q ∷ ops) w → (o : ℕ) (V : Path) (us : List Value) →
     f.vals ≡ Reference o V ∷ us → FieldType p V name c.ty
 field_known {p} {h} {f} {x} {vs} {s} {ops} {w} n name t q c i a o V us e =
-    at (subst (OperandsFit p h s v (opd t q ∷ ops)) e a.operands) where
+    at (subst (OperandsFit p (take (length vs) f.vars) h s v (opd t q ∷ ops)) e a.operands) where
       v : Views
       v = all_views (cut (length vs) f) w
 
@@ -113,7 +113,7 @@ field_known {p} {h} {f} {x} {vs} {s} {ops} {w} n name t q c i a o V us e =
           n.field_at V i.bound name c.ty r.related.other
           (n.field_class s v t name c V a.in_scope.binds a.in_scope.respects i it) i.type
 
-      at : OperandsFit p h s v (opd t q ∷ ops) (Reference o V ∷ us) → FieldType p V name c.ty
+      at : OperandsFit p (take (length vs) f.vars) h s v (opd t q ∷ ops) (Reference o V ∷ us) → FieldType p V name c.ty
       at (one j others) =
           of_value j.real (object_value p h v t (Reference o V) (has_atoms t (atoms_in t) i.at refl) j.is_in)
 
@@ -141,7 +141,8 @@ get_at {p} {h} {f} {x} {vs} {s} {ops} {w} n hf m k name t q c i free tf a = at f
 
   at_slot : (o : ℕ) (V : Path) (vals : List Value) → v q ≡ Some V → RefersTo p h o V
       → FieldsFilled p (mask_names p) (HasValue p h o V) (masks_of t) V
-      → OperandsFit p h s v ops vals → (d : Ty) → FieldType p V name d → d ≡ c.ty → (sl : Slot) → IsSlot p V name sl
+      → OperandsFit p (take (length vs) f.vars) h s v ops vals → (d : Ty) → FieldType p V name d → d ≡ c.ty
+      → (sl : Slot) → IsSlot p V name sl
       → Sure Q (OnSome (slot_value h o sl) (ends_with (Stuck why.Masked)) (λ y. on_read p V d y (λ z. gives z vals)))
   at_slot o V vals e r g others d fd de sl is =
       sure_some (slot_value h o sl) (ends_with (Stuck why.Masked))
@@ -155,6 +156,7 @@ get_at {p} {h} {f} {x} {vs} {s} {ops} {w} n hf m k name t q c i free tf a = at f
             (field_in n a.in_scope.binds a.in_scope.respects V name d q z e fd is_in);
         real = read_real p h V d val.0 z ra fit.real;
         path = λ b y. absurd (no_path b y);
+        held = λ b c y. absurd (no_path b.var.path y);
       }) others)))))) where
         filled : HasValue p h o V name
         filled = g name (n.field_has V name d fd) free
@@ -172,7 +174,7 @@ get_at {p} {h} {f} {x} {vs} {s} {ops} {w} n hf m k name t q c i free tf a = at f
         fit = hf.slots o r.object V name sl d val.0 r.at r.related fd is stored
 
   at_value : (y : Value) (vals : List Value) → v q ≡ view_in y → IsReal p h y → ObjectIs p h v t y
-      → OperandsFit p h s v ops vals
+      → OperandsFit p (take (length vs) f.vars) h s v ops vals
       → Sure Q (on_object y (λ o V. OnOnly (FieldType p V name) missing
       (λ d. OnOnly (IsSlot p V name) missing
       (λ sl. OnSome (slot_value h o sl) (ends_with (Stuck why.Masked))
@@ -186,7 +188,7 @@ get_at {p} {h} {f} {x} {vs} {s} {ops} {w} n hf m k name t q c i free tf a = at f
       (λ d fd. sure_only (n.slot_at V name class (n.field_has V name d fd)) (λ A B j l. n.slot_one V name B A l j)
       (λ sl is. at_slot o V vals e r g others d fd (n.field_one V name d c.ty fd type) sl is))
 
-  at : (vals : List Value) → OperandsFit p h s v (opd t (Some q) ∷ ops) vals
+  at : (vals : List Value) → OperandsFit p (take (length vs) f.vars) h s v (opd t (Some q) ∷ ops) vals
       → Sure Q (OnFirst vals missing (λ y ys. on_object y
       (λ o V. OnOnly (FieldType p V name) missing
       (λ d. OnOnly (IsSlot p V name) missing

@@ -25,8 +25,9 @@ use Rattle.jn_sem.specs.State.{Heap, Variable, Frame, frame_views, view_of_var, 
 use Rattle.jn_sem.proofs.TypeSets.{values_below}
 use Rattle.jn_sem.proofs.Under.{type_later, fits_whole}
 use Rattle.jn_rules.specs.Exprs.{bind}
-use Rattle.jn_sound.specs.Takes.{Opd, opd}
-use Rattle.jn_sound.specs.Fit.{Loosened, Narrowed, none, dropped, kept, Covers}
+use Rattle.jn_sound.specs.Takes.{Opd, opd, OwnPaths}
+use Rattle.jn_sound.specs.KnownScopes.{Covers}
+use Rattle.jn_sound.specs.Fit.{Loosened, Narrowed, none, dropped, kept}
 use Rattle.jn_sound.specs.Sound.{InScope, OperandFits, OperandsFit, none as no_opds, one, cut, all_views}
 use Rattle.jn_laws.specs.LawsOfViews.{AgreeOn}
 use Rattle.jn_laws.proofs.ByViews.{type_same, value_same, fits_agree, holds_same, view_same}
@@ -135,11 +136,12 @@ either_path q r = by (nat_eq r q) refl where
 -- WHAT IS KNOWN: `named`
 fresh_on_top : {p : Program} {h : Heap} {s : Scope} (f : Frame) (w : Views) (q : ℕ) (u : Ty) (V : Option Path)
     → BindsFit (bind q u ∷ s) → (more : List Opd) (vals : List Value)
-    → OperandsFit p h s (all_views f w) more vals → OperandsFit p h (bind q u ∷ s) (all_views f (also q V w)) more vals
+    → OperandsFit p f.vars h s (all_views f w) more vals
+    → OperandsFit p f.vars h (bind q u ∷ s) (all_views f (also q V w)) more vals
 fresh_on_top f w q u V b _ vals no_opds = no_opds
 fresh_on_top {p} {h} {s} f w q u V b _ _ (one {o = o} {x = y} i m) =
     one (operand_same (all_views f w) (all_views f (also q V w)) o y (agree_new f s q V w b.1)
-    (λ t n. type_later b n) (λ r n. record { bind = n.bind; among = later n.among; is = n.is }) i)
+    (λ t n. type_later b n) (λ r n. record { bind = n.bind; among = later n.among; is = n.is }) (λ z m n. m) i)
     (fresh_on_top f w q u V b _ _ m)
 
 more_scope : {p : Program} {h : Heap} {g : Frame} {vs : List Var} {s : Scope} {w : Views} (u : Ty) (q : ℕ)
@@ -159,6 +161,7 @@ more_scope {p} {h} {g} {vs} {s} {w} u q o far b new n = record {
   seen = n.seen;
   small = n.small;
   no_null = n.no_null;
+  own = n.own;
   this = n.this;
 } where
   v : Views
@@ -201,7 +204,8 @@ stands_named {p} {h} {f} {x} {vs} {s} {ops} {w} t u q far free fits below a = at
   b : BindsFit (bind q u ∷ s)
   b = (a.in_scope.binds, free, fits)
 
-  at : (vals : List Value) → OperandsFit p h s (all_views g w) (opd t None ∷ ops) vals → f.vals ≡ vals
+  at : (vals : List Value) → OperandsFit p (take (length vs) f.vars) h s (all_views g w) (opd t None ∷ ops) vals
+      → f.vals ≡ vals
       → Named p h f x vs (bind q u ∷ s) (opd t (Some q) ∷ ops)
   at _ (one {x = y} {vs = vals} i m) e = record {
     fresh = also q (view_in y) w;
@@ -213,11 +217,13 @@ stands_named {p} {h} {f} {x} {vs} {s} {ops} {w} t u q far free fits below a = at
           named_scope u q y far b (values_below a.in_scope.binds a.in_scope.respects (mask_names p)
           (HasValue p h) t u y below i.is_in) i.real a.in_scope;
       operands =
-          subst (OperandsFit p h (bind q u ∷ s) (all_views g (also q (view_in y) w)) (opd t (Some q) ∷ ops)) (sym e)
+          subst (OperandsFit p (take (length vs) f.vars) h (bind q u ∷ s) (all_views g (also q (view_in y) w))
+          (opd t (Some q) ∷ ops)) (sym e)
           (one top (fresh_on_top g w q u (view_in y) b ops vals m));
     };
   } where
-    top : OperandFits p h (bind q u ∷ s) (all_views g (also q (view_in y) w)) (opd t (Some q)) y
+    top : OperandFits p (take (length vs) f.vars) h (bind q u ∷ s) (all_views g (also q (view_in y) w))
+        (opd t (Some q)) y
     top = record {
       fits = type_later b i.fits;
       bound = λ r k. record { bind = bind q u; among = first; is = same r k };
@@ -228,7 +234,11 @@ stands_named {p} {h} {f} {x} {vs} {s} {ops} {w} t u q far free fits below a = at
       path =
           λ r k. subst (λ (z : ℕ). all_views g (also q (view_in y) w) z ≡ view_in y) (same r k)
           (at_new g q (view_in y) w far);
+      held = λ z k e. absurd (apart z.var.path (a.in_scope.small z k) (same z.var.path e));
     } where
+      apart : (n : ℕ) → n < 256 → q ≡ n → ⊥
+      apart n l e = omega (arith, far, l, e)
+
       same : (r : ℕ) → Some q ≡ Some r → q ≡ r
       same r k = cc
 
@@ -356,7 +366,18 @@ not_null_prefix (suc n) (x ∷ xs) e = at (is_null_path x) e (not_null_prefix n 
   at true e again = cc
   at false e again = again e
 
-bind_once : (s : Scope) (b c : Bind) → BindsFit s → Among s b → Among s c → b.path ≡ c.path → b ≡ c
+own_prefix : (n : ℕ) (vs : List Var) → OwnPaths vs → OwnPaths (take n vs)
+own_prefix zero vs o = tt
+own_prefix (suc n) [] o = tt
+own_prefix (suc n) (v ∷ vs) o = (own_prefix n vs o.0, λ u m. o.1 u (among_prefix n vs u m), o.2) where
+  among_prefix : (n : ℕ) (us : List Var) (u : Var) → Among (take n us) u → Among us u
+  among_prefix zero us u m = elim m [ ]
+  among_prefix (suc n) [] u m = elim m [ ]
+  among_prefix (suc n) (w ∷ us) _ first = first
+  among_prefix (suc n) (w ∷ us) u (later m) = later (among_prefix n us u m)
+
+-- a path has one bind
+pub bind_once : (s : Scope) (b c : Bind) → BindsFit s → Among s b → Among s c → b.path ≡ c.path → b ≡ c
 bind_once _ b _ f first first e = refl
 bind_once _ b c f first (later m) e = absurd (f.1 (record { bind = c; among = m; is = sym e }))
 bind_once _ b c f (later a) first e = absurd (f.1 (record { bind = b; among = a; is = e }))
@@ -399,6 +420,7 @@ narrow_scope {p} {h} {g} {vs} {s} {w} n t l b c k = record {
   seen = λ y a. frame_prefix n g y a ∙ k.seen y (among_take n g.vars y a);
   small = λ y a. k.small y (among_take n g.vars y a);
   no_null = not_null_prefix n g.vars k.no_null;
+  own = own_prefix n vs k.own;
   this =
       record {
         object = k.this.object;
@@ -504,3 +526,54 @@ stands_narrow {p} {h} {f} {x} {vs} {us} {s} {t} e l n b c a = record {
 } where
   short : length us ≤ length vs
   short = subst (λ (zs : List Var). length zs ≤ length vs) (sym e) (take_short (length us) vs)
+
+-- WHAT IS KNOWN: `settles`
+pub stands_settle : {p : Program} {h : Heap} {f : Frame} {x : Header} {vs : List Var} {s t : Scope} {ops : List Opd}
+    {w : Views} (u : Ty) (q : Option ℕ) → length f.method.params ≤ length vs → Narrowed s t → BindsFit t → Covers vs t
+    → TypeFits t u → Stands p h f x vs s (opd u q ∷ ops) w → Stands p h f x vs t (opd u None ∷ []) no_views
+stands_settle {p} {h} {f} {x} {vs} {s} {t} {ops} {w} u q l n b c fits a = record {
+  is_header = narrow.is_header;
+  params = narrow.params;
+  all_params = narrow.all_params;
+  in_scope = narrow.in_scope;
+  operands = at f.vals a.operands;
+} where
+  narrow : Stands p h f x vs t [] no_views
+  narrow = stands_narrow (whole vs) l n b c a where
+    whole : (us : List Var) → us ≡ take (length us) us
+    whole [] = refl
+    whole (u ∷ us) = ap (λ (r : List Var). u ∷ r) (whole us)
+
+  agree : AgreeOn t (all_views (cut (length vs) f) w) (all_views (cut (length vs) f) no_views)
+  agree = record { each = λ q m. path q (c.only q m) } where
+    path : (q : ℕ) → (q ≡ 0) ⊎ ((z : Var) × Among vs z × (z.path ≡ q))
+        → all_views (cut (length vs) f) w q ≡ all_views (cut (length vs) f) no_views q
+    path q (inl e) =
+        subst (λ (r : ℕ). all_views (cut (length vs) f) w r ≡ all_views (cut (length vs) f) no_views r) (sym e) refl
+    path q (inr z) =
+        let y = var_of (take (length vs) f.vars) z.0
+        (subst (λ (l : List Var). Among l z.0) (sym a.in_scope.declared) z.1) in
+        let small : y.variable.var.path < 256 = a.in_scope.small y.variable y.among in
+        subst (λ (r : ℕ). all_views (cut (length vs) f) w r ≡ all_views (cut (length vs) f) no_views r)
+        (ap (λ (v : Var). v.path) y.is ∙ z.2)
+        (all_small (cut (length vs) f) w y.variable.var.path small
+        ∙ sym (all_small (cut (length vs) f) no_views y.variable.var.path small))
+
+  no_path : (r : ℕ) → None ≡ Some r → ⊥
+  no_path r e = cc
+
+  at : (vals : List Value)
+      → OperandsFit p (take (length vs) f.vars) h s (all_views (cut (length vs) f) w) (opd u q ∷ ops) vals
+      → OperandsFit p (take (length vs) f.vars) h t (all_views (cut (length vs) f) no_views) (opd u None ∷ []) vals
+  at _ (one {x = y} i r) =
+      one (record {
+        fits = fits;
+        bound = λ r e. absurd (no_path r e);
+        is_in =
+            value_same p (all_views (cut (length vs) f) w) (all_views (cut (length vs) f) no_views) h u y
+            (fits_agree t (all_views (cut (length vs) f) w) (all_views (cut (length vs) f) no_views) u agree fits)
+            i.is_in;
+        real = i.real;
+        path = λ r e. absurd (no_path r e);
+        held = λ r m e. absurd (no_path r.var.path e);
+      }) no_opds

@@ -37,7 +37,12 @@ use Rattle.jn_sem.specs.Acts.{Todo, acts}
 use Rattle.jn_rules.specs.Stmts.{In}
 use Rattle.jn_sound.specs.Takes.{opd}
 use Rattle.jn_sound.specs.Fit.{Narrowed, Fits, IsLoop}
-use Rattle.jn_sound.specs.Sound.{InScope}
+use Rattle.jn_sound.specs.Sound.{InScope, sides_of}
+use Rattle.std.specs.Prelude.{Contains, Ok}
+use Rattle.jn_base.specs.declared.tree.Constraint.{Constraint}
+use Rattle.jn_sem.specs.Holds.{HoldsAt}
+use Rattle.jn_rules.specs.Plans.{Pledge}
+use Rattle.jn_rules.specs.Questions.{ConstraintGives, header_site}
 use Rattle.jn_sound.specs.Callees.{Callee, IsCallee, IsCalled}
 use Rattle.jn_rules.specs.Headers.{Header}
 use Rattle.jn_rule_laws.specs.LawsOfHeaders.{IsHeader}
@@ -85,7 +90,8 @@ pub record Laws (p : Program) : Type 0 where
   pub signatures : (V B : Path) (m : Name) (c : Callee) → IsClass p V → Sup p V B → c.bound ≡ B → IsCallee p m c
       → Surely (BodyAlike p V m (header_of c))
   pub body_one : (V : Path) (m : Name) (b c : Body) → IsClass p V → IsBody p V m b → IsBody p V m c → b ≡ c
-  -- headers: as many parameters as are declared, numbered from 1; types mention `this` and final parameters of class type
+  -- headers: as many parameters as are declared, numbered from 1; types mention `this` and final parameters of class
+  -- type
   pub param_count : (b : Body) (x : Header) → IsHeader p b x → length x.vars ≡ length b.method.params
   pub param_paths : (b : Body) (x : Header) → IsHeader p b x → (y : Var) → Among x.vars y → HeaderPaths x.vars y.ty
   pub result_paths : (b : Body) (x : Header) → IsHeader p b x → HeaderPaths x.vars x.result
@@ -108,9 +114,12 @@ pub record Laws (p : Program) : Type 0 where
       → AreIn p (frame_of (record { class = b.class; method = b.method; vars = x.vars }) (Reference o V) args) h
       → InScope p h (frame_of (record { class = b.class; method = b.method; vars = x.vars })
       (Reference o V) args) no_views x.vars (at_start b x).scope
-  -- and so does one of a class above the receiver's, where its header has no sharing constraint
+  -- and so does one of a class above the receiver's, where the constraints in its header hold at the receiver's view
   pub entry_above : (h : Heap) (V B : Path) (m : Name) (b : Body) (x : Header) (o : ℕ) (args : List Value)
-      → IsBody p B m b → Sup p V B → b.method.sharing ≡ [] → IsHeader p b x → RefersTo p h o V
+      → IsBody p B m b → Sup p V B
+      → ((c : Constraint) (k : Pledge) → Contains b.method.sharing c
+      → ConstraintGives p (header_site b.class b.method.name.name) c (Ok k) → Surely (HoldsAt p V (sides_of p k)))
+      → IsHeader p b x → RefersTo p h o V
       → ((g : Name) → HasField p V g → HasValue p h o V g) → length args ≡ length x.vars
       → has_null_path (with_values x.vars args) ≡ false → ((y : Value) → Among args y → IsReal p h y)
       → AreIn p (frame_of (record { class = b.class; method = b.method; vars = x.vars }) (Reference o V) args) h
@@ -138,7 +147,7 @@ among_left : (xs ys : List Var) (y : Var) → Among xs y → Among (xs ++ ys) y
 among_left _ ys _ first = first
 among_left _ ys y (later a) = later (among_left _ ys y a)
 
-among_right : (xs : List Var) (x y : Var) → Among (xs ++ x ∷ []) y → Among xs y ⊎ (y ≡ x)
+pub among_right : (xs : List Var) (x y : Var) → Among (xs ++ x ∷ []) y → Among xs y ⊎ (y ≡ x)
 among_right [] x _ first = inr refl
 among_right [] x y (later a) = elim a [ ]
 among_right (z ∷ zs) x _ first = inl first

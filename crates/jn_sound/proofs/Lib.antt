@@ -11,14 +11,19 @@ pub mod GetStep
 pub mod Calls
 pub mod CallStep
 pub mod Puts
+pub mod Unmasks
 pub mod Steps
 pub mod Decides
 pub mod Locals
 pub mod Assigned
 pub mod Assigns
+pub mod MadeClass
 pub mod Makes
 pub mod FreshPaths
 pub mod MakesWith
+pub mod Granted
+pub mod Targets
+pub mod HeaderViews
 pub mod Supers
 pub mod Entered
 pub mod Accepted
@@ -32,3 +37,6 @@ pub mod Extras
 pub mod SharedViews
 pub mod NullViews
 pub mod Forms
+pub mod MaskSets
+pub mod StartKnown
+pub mod BodiesPass

@@ -1,5 +1,5 @@
 -- A local fits.
-use Rattle.std.proofs.Common.{◌≡◌, ◌<◌, ℕ, zero, suc, List, [], ◌∷◌, ◌++◌, length, Option, Some, None, Bool, true, false, refl, sym, ap, ◌∙◌, subst, arith, ◌⊎◌, inl, inr, eqb-true, eq-eqb}
+use Rattle.std.proofs.Common.{◌≡◌, ◌<◌, ℕ, suc, List, [], ◌∷◌, ◌++◌, length, Option, Some, None, Bool, true, false, refl, sym, ap, ◌∙◌, subst, arith, ◌⊎◌, inl, inr, eqb-true, eq-eqb}
 use Rattle.std.specs.Prelude.{take, cond, nat_eq, nat_lt, not, ◌||◌, IsSome}
 use Rattle.std.proofs.lemmas.List.{take-take, take-append-le, length-append, map-append}
 use Rattle.jn_base.specs.declared.tree.Name.{Name}
@@ -25,9 +25,9 @@ use Rattle.jn_sem.proofs.HeapLaws.{heap_laws}
 use Rattle.jn_sem.proofs.FindingLaws.{finds_one}
 use Rattle.jn_sem.proofs.Under.{type_later, fits_whole}
 use Rattle.jn_rules.specs.Exprs.{bind}
-use Rattle.jn_sound.specs.Takes.{Opd, opd}
+use Rattle.jn_sound.specs.Takes.{Opd, opd, OwnPaths}
 use Rattle.jn_sound.specs.Sound.{HeapFits, InScope, OperandFits, OperandsFit, none as no_opds, one, cut, all_views}
-use Rattle.jn_sound.proofs.Laws.{Laws}
+use Rattle.jn_sound.proofs.Laws.{Laws, among_right}
 use Rattle.jn_sound.proofs.Ways.{surely}
 use Rattle.jn_sound.proofs.Safe.{Sure, sure_it, sure_only, sure_test, sure_if}
 use Rattle.jn_sound.specs.Steps.{GoesAt, DidAt}
@@ -40,6 +40,7 @@ use Rattle.jn_sound.specs.Sound.{Stands}
 use Rattle.jn_sound.proofs.Stands.{now, operand_same, same_scope}
 use Rattle.jn_sound.proofs.Known.{view_typed, view_real, either_path, all_small, var_of, respects_new}
 use Rattle.jn_sound.proofs.Acts.{not_stuck_at_null}
+use Rattle.jn_sound.proofs.Calls.{take_whole}
 use Rattle.jn_rules.specs.Headers.{Header}
 use Rattle.jn_laws.specs.Reading.{IsReal}
 use Rattle.jn_laws.specs.LawsOfWritten.{HeaderPath, HeaderPaths, of_this as is_this, of_param as is_param}
@@ -85,6 +86,17 @@ not_null_more (x ∷ xs) y e f = at (is_null_path x) e (not_null_more xs y) wher
   at true e again = cc
   at false e again = again e f
 
+-- one more path of its own
+own_more : (vs : List Var) (v : Var) → OwnPaths vs → ((u : Var) → Among vs u → u.path ≡ v.path → ⊥)
+    → (v.path ≡ 0 → ⊥) → OwnPaths (vs ++ v ∷ [])
+own_more [] v o new nz = (tt, λ u m e. elim m [ ], nz)
+own_more (x ∷ xs) v o new nz = (own_more xs v o.0 (λ u m. new u (later m)) nz, other, o.2) where
+  other : (u : Var) → Among (xs ++ v ∷ []) u → u.path ≡ x.path → ⊥
+  other u m e = at (among_right xs v u m) where
+    at : Among xs u ⊎ (u ≡ v) → ⊥
+    at (inl a) = o.1 u a e
+    at (inr i) = new x first (sym e ∙ ap (λ (w : Var). w.path) i)
+
 module _ {p : Program} {h : Heap} {g : Frame} {vs : List Var} {s : Scope} {w : Views} (y : Variable)
     (k : InScope p h g w vs s) (small : y.var.path < 256)
     (free : Binds s y.var.path → ⊥) (not_this : y.var.path ≡ 0 → ⊥) (fits : TypeFits s y.var.ty)
@@ -98,6 +110,11 @@ module _ {p : Program} {h : Heap} {g : Frame} {vs : List Var} {s : Scope} {w : V
 
   others_free : (x : Variable) → Among g.vars x → x.var.path ≡ y.var.path → ⊥
   others_free x m e = let b = k.bound x m in free (record { bind = b.0; among = b.1; is = b.2 ∙ e })
+
+  others_new : (u : Var) → Among vs u → u.path ≡ y.var.path → ⊥
+  others_new u m e =
+      let z = var_of g.vars u (subst (λ (l : List Var). Among l u) (sym k.declared) m) in
+      others_free z.variable z.among (ap (λ (v : Var). v.path) z.is ∙ e)
 
   frame_old : (q : ℕ) → (q ≡ y.var.path → ⊥) → frame_views g q ≡ frame_views (more g y) q
   frame_old q o = ap (λ (u : Option Path). cond (nat_eq q 0) (view_in g.this) u) (sym (view_old g.vars y q o))
@@ -172,6 +189,7 @@ module _ {p : Program} {h : Heap} {g : Frame} {vs : List Var} {s : Scope} {w : V
     seen = λ x m. at x (among_more g.vars y x m);
     small = each (λ x. x.var.path < 256) k.small small;
     no_null = not_null_more g.vars y k.no_null nn;
+    own = own_more vs y.var k.own others_new not_this;
     this =
         record {
           object = k.this.object;
@@ -187,28 +205,33 @@ module _ {p : Program} {h : Heap} {g : Frame} {vs : List Var} {s : Scope} {w : V
     at x (inl a) = sym (frame_old x.var.path (others_free x a)) ∙ k.seen x a
     at x (inr i) = subst (λ (z : Variable). frame_views (more g y) z.var.path ≡ view_in z.value) (sym i) frame_new
 
-  pub local_opds : (ops : List Opd) (vals : List Value) → OperandsFit p h s (all_views g w) ops vals
-      → OperandsFit p h (bind y.var.path y.var.ty ∷ s) (all_views (more g y) w) ops vals
+  pub local_opds : (ops : List Opd) (vals : List Value) → OperandsFit p g.vars h s (all_views g w) ops vals
+      → OperandsFit p (g.vars ++ y ∷ []) h (bind y.var.path y.var.ty ∷ s) (all_views (more g y) w) ops vals
   local_opds _ vals no_opds = no_opds
   local_opds _ _ (one {o = o} {x = x} i m) =
       one (operand_same v v' o x agree (λ t n. type_later binds_more n)
-      (λ r n. record { bind = n.bind; among = later n.among; is = n.is }) i) (local_opds _ _ m)
+      (λ r n. record { bind = n.bind; among = later n.among; is = n.is }) old i) (local_opds _ _ m) where
+        old : (z : Variable) → Among (g.vars ++ y ∷ []) z → Binds s z.var.path → Among g.vars z
+        old z n b = at (among_more g.vars y z n) where
+          at : Among g.vars z ⊎ (z ≡ y) → Among g.vars z
+          at (inl c) = c
+          at (inr e) = absurd (free (subst (λ (u : Variable). Binds s u.var.path) e b))
 
 -- ---- the act
-
-pub take_whole : {A : Type 0} (xs : List A) (n : ℕ) → length xs ≡ n → take n xs ≡ xs
-take_whole [] zero e = refl
-take_whole [] (suc n) e = refl
-take_whole (x ∷ xs) zero e = absurd (no e) where
-  no : {n : ℕ} → suc n ≡ 0 → ⊥
-  no e = omega (arith, e)
-take_whole {A} (x ∷ xs) (suc n) e = ap (λ (l : List A). x ∷ l) (take_whole xs n (down e)) where
-  down : {m n : ℕ} → suc m ≡ suc n → m ≡ n
-  down e = omega (arith, e)
 
 pub count_declared : (xs : List Variable) → length (declared_vars xs) ≡ length xs
 count_declared [] = refl
 count_declared (x ∷ xs) = ap suc (count_declared xs)
+
+-- the view of a path that a written type mentions is the frame's own
+pub frame_path : {p : Program} {h : Heap} {g : Frame} {vs : List Var} {s : Scope} {w : Views}
+    → InScope p h g w vs s → (q : ℕ) → HeaderPath vs q → all_views g w q ≡ frame_views g q
+frame_path {g = g} {w = w} k q (is_this e) =
+    subst (λ (z : ℕ). all_views g w z ≡ frame_views g z) (sym e) refl
+frame_path {g = g} {w = w} k q (is_param z m e f c) =
+    let y = var_of g.vars z (subst (λ (l : List Var). Among l z) (sym k.declared) m) in
+    subst (λ (r : ℕ). all_views g w r ≡ frame_views g r) (ap (λ (u : Var). u.path) y.is ∙ e)
+    (all_small g w y.variable.var.path (k.small y.variable y.among))
 
 -- the views of the frame alone are enough for a type that is written
 pub frame_agree : {p : Program} {h : Heap} {g : Frame} {vs : List Var} {s : Scope} {w : Views} (t : Ty)
@@ -216,16 +239,9 @@ pub frame_agree : {p : Program} {h : Heap} {g : Frame} {vs : List Var} {s : Scop
     → AgreeIn (all_views g w) (frame_views g) t
 frame_agree {g = g} {vs = vs} {w = w} t k hp =
     agree_in (all_views g w) (frame_views g) t (λ x m. at x.anchor (λ b j e. hp x b j m e)) where
-      path : (q : ℕ) → HeaderPath vs q → all_views g w q ≡ frame_views g q
-      path q (is_this e) = subst (λ (z : ℕ). all_views g w z ≡ frame_views g z) (sym e) refl
-      path q (is_param z m e f c) =
-          let y = var_of g.vars z (subst (λ (l : List Var). Among l z) (sym k.declared) m) in
-          subst (λ (r : ℕ). all_views g w r ≡ frame_views g r) (ap (λ (u : Var). u.path) y.is ∙ e)
-          (all_small g w y.variable.var.path (k.small y.variable y.among))
-
       at : (a : Anchor) → ((b j : ℕ) → a ≡ Up b j → HeaderPath vs b) → Agree (all_views g w) (frame_views g) a
       at Root g = tt
-      at (Up b j) g = path b (g b j refl)
+      at (Up b j) g = frame_path k b (g b j refl)
 
 pub local_at : {p : Program} {h : Heap} {f : Frame} {x : Header} {vs : List Var} {s : Scope} {ops : List Opd}
     {w : Views} → Laws p → HeapFits p h → (m : ℕ) (k : List Todo)
@@ -255,8 +271,9 @@ local_at {p} {h} {f} {x} {vs} {s} {ops} {w} n hf m k fixed term name path t q is
           free (subst (Binds s) (sym e) (a.in_scope.respects.bound 0
           (subst (λ (o : Option Path). IsSome o) (sym (ap view_in a.in_scope.this.is)) refl)))
 
-      bound_well : (y : Value) (us : List Value) → OperandFits p h s (all_views (cut (length vs) f) w) (opd t q) y
-          → OperandsFit p h s (all_views (cut (length vs) f) w) ops us
+      bound_well : (y : Value) (us : List Value) → OperandFits p (take (length vs) f.vars) h s (all_views (cut
+          (length vs) f) w) (opd t q) y
+          → OperandsFit p (take (length vs) f.vars) h s (all_views (cut (length vs) f) w) ops us
           → is_null_path (bound_to (var name path fixed t) y) ≡ false
           → GoesAt p h f x (vs ++ var name path fixed t ∷ []) k (typing (bind path t ∷ s) ops)
           (record (now (length vs) k f) {
@@ -288,7 +305,7 @@ local_at {p} {h} {f} {x} {vs} {s} {ops} {w} n hf m k fixed term name path t q is
                 (same_scope (more (cut (length vs) f) Y) us k f.keeps
                 (local_scope Y a.in_scope small free not_this fits j.is_in j.real nn));
             operands =
-                subst (λ (V : List Variable). OperandsFit p h (bind path t ∷ s)
+                subst (λ (V : List Variable). OperandsFit p V h (bind path t ∷ s)
                 (all_views (record f { vars = V }) w) ops us) (sym whole)
                 (local_opds Y a.in_scope small free not_this fits j.is_in j.real nn ops us others);
           };
@@ -305,8 +322,9 @@ local_at {p} {h} {f} {x} {vs} {s} {ops} {w} n hf m k fixed term name path t q is
             take_whole (take (length vs) f.vars ++ Y ∷ []) (length (vs ++ X ∷ []))
             (omega (arith, count, length-append vs (X ∷ []), length-append (take (length vs) f.vars) (Y ∷ [])))
 
-      typed : (y : Value) (us : List Value) → OperandFits p h s (all_views (cut (length vs) f) w) (opd t q) y
-          → OperandsFit p h s (all_views (cut (length vs) f) w) ops us
+      typed : (y : Value) (us : List Value) → OperandFits p (take (length vs) f.vars) h s (all_views (cut
+          (length vs) f) w) (opd t q) y
+          → OperandsFit p (take (length vs) f.vars) h s (all_views (cut (length vs) f) w) ops us
           → Sure Q (binds p (now (length vs) k f) h (var name path fixed t) y us)
       typed y us j others =
           sure_if (not (is_null_path (bound_to (var name path fixed t) y))) (λ e. sure_it _ (surely not_stuck_at_null))
@@ -317,7 +335,8 @@ local_at {p} {h} {f} {x} {vs} {s} {ops} {w} n hf m k fixed term name path t q is
             not_true true e = cc
             not_true false e = refl
 
-      at : (vals : List Value) → OperandsFit p h s (all_views (cut (length vs) f) w) (opd t q ∷ ops) vals
+      at : (vals : List Value) → OperandsFit p (take (length vs) f.vars) h s (all_views (cut (length vs) f) w)
+          (opd t q ∷ ops) vals
           → Sure Q (OnFirst vals missing (λ y us. OnOnly (TypeIs p (site_of (now (length vs) k f)) term) missing
           (λ d. binds p (now (length vs) k f) h (var name path fixed d) y us)))
       at _ (one {x = y} {vs = us} j others) =

@@ -1,7 +1,6 @@
 -- A new object, from one typing to another.
-use Rattle.std.proofs.Common.{◌≡◌, ℕ, List, [], ◌∷◌, ◌++◌, ◌+◌, length, Option, Some, None, Bool, true, false, refl, sym, ap, ◌∙◌, subst, eq-eqb}
-use Rattle.std.specs.Prelude.{cond, nat_eq, nat_le, reverse}
-use Rattle.std.proofs.lemmas.List.{reverse-reverse, append_assoc}
+use Rattle.std.proofs.Common.{◌≡◌, ℕ, List, [], ◌∷◌, ◌+◌, length, Option, Some, None, Bool, true, false, refl, sym, ap, ◌∙◌, subst, eq-eqb}
+use Rattle.std.specs.Prelude.{cond, nat_eq, nat_le, take}
 use Rattle.jn_steps.specs.Steps.{Enters, Faults}
 use Rattle.jn_base.specs.declared.tree.Name.{Name}
 use Rattle.jn_base.specs.declared.tree.Term.{Term}
@@ -9,35 +8,31 @@ use Rattle.jn_base.specs.declared.tree.Param.{Param}
 use Rattle.jn_base.specs.declared.tree.Program.{Program}
 use Rattle.jn_base.specs.declared.names.Role.TheVariants as role
 use Rattle.jn_base.specs.declared.names.Var.{Var}
-use Rattle.jn_base.specs.declared.types.Anchor.{Anchor}
-use Rattle.jn_base.specs.declared.types.Anchor.TheVariants.{Root}
 use Rattle.jn_base.specs.declared.types.Ty.{Ty}
 use Rattle.jn_base.specs.Paths.{Path}
-use Rattle.jn_base.specs.Supers.{Sup, itself}
-use Rattle.jn_base.specs.Atoms.{Atom, anchor_at, atoms_in, Among, first, later}
+use Rattle.jn_base.specs.Atoms.{Atom, anchor_at, atom_at, Among}
 use Rattle.jn_base.specs.Scopes.{Scope, bound_of, bound}
 use Rattle.jn_base.specs.Fits.{TypeFits}
-use Rattle.jn_base.specs.ResolveTypes.{mask_names}
-use Rattle.jn_sem.specs.Sets.{Views, AnchorSeen, view_at, eval, InAtom}
-use Rattle.jn_sem.specs.Values.{Value, Reference, object}
-use Rattle.jn_sem.specs.Normal.{same_path, after}
+use Rattle.jn_sem.specs.Sets.{Views, view_at}
+use Rattle.jn_sem.specs.Sharing.{IsClass}
+use Rattle.jn_sem.specs.Values.{Value, Reference, HasField}
 use Rattle.jn_sem.specs.NormalFunction.{normal_type}
 use Rattle.jn_sem.specs.Terms.{TermIs}
 use Rattle.jn_sem.specs.Acts.{Make, Todo}
-use Rattle.jn_sem.specs.State.{Stored, Heap, Frame, Variable, HasValue, frame_views, has_null_path, with_values, with_object}
+use Rattle.jn_sem.specs.State.{Stored, Heap, Frame, Variable, HasValue, IsIn, frame_views, has_null_path, with_values, with_object}
 use Rattle.jn_sem.specs.Does.{Body, IsBody, IsConstructorBody, Did, Does, AreFresh, Arena, IsNewClass, constructs, makes, kept, waiting, ends, on_cells, on_entry}
 use Rattle.jn_sem.specs.Run.{given}
 use Rattle.jn_sem.specs.Asks.{It}
 use Rattle.jn_sem.specs.LawsOfHeaps.{Later}
 use Rattle.jn_sem.proofs.FindingLaws.{finds_one}
-use Rattle.jn_sem.proofs.TypeSets.{values_subst}
-use Rattle.jn_sem.proofs.NormalTypes.{type_subst_is}
 use Rattle.jn_laws.proofs.Universes.{sizes_there}
 use Rattle.jn_rules.specs.Exprs.{made_exact}
 use Rattle.jn_rules.specs.Headers.{Header}
 use Rattle.jn_rule_laws.specs.LawsOfHeaders.{IsHeader}
 use Rattle.jn_sound.specs.Takes.{Opd, opd, typing, NewClass}
-use Rattle.jn_sound.specs.Sound.{HeapFits, OperandFits, OperandsFit, one, cut, all_views, Stands, StandsAt}
+use Rattle.jn_laws.specs.LawsOfWritten.{HeaderPaths}
+use Rattle.jn_sound.proofs.MadeClass.{made_seen, made_class, made_super, made_in, made_named, same_last, constructor_bare}
+use Rattle.jn_sound.specs.Sound.{HeapFits, InScope, OperandFits, OperandsFit, one, cut, all_views, Stands, StandsAt}
 use Rattle.jn_sound.specs.Steps.{CallsAt, GoesAt, DidAt}
 use Rattle.jn_sound.proofs.Laws.{Laws}
 use Rattle.jn_sound.proofs.Ways.{surely}
@@ -62,100 +57,62 @@ no_values : (vs : List Var) → with_values vs [] ≡ []
 no_values [] = refl
 no_values (v ∷ vs) = refl
 
--- the value of the anchor Root is one by all views
-pub root_at : (v w : ℕ → Path) (a : Anchor) → a ≡ Root → anchor_at v a ≡ anchor_at w a
-root_at v w a e = subst (λ (b : Anchor). anchor_at v b ≡ anchor_at w b) (sym e) refl
-
--- the class that is made is in its own exact type
-pub exact_in : (p : Program) (v : Views) (s : Scope) (a : Atom) → a.anchor ≡ Root
-    → (u : Atom) → Among (atoms_in (made_exact a)) u → InAtom p v u (bound s a)
-exact_in p v s a e _ first = record {
-  seen = subst (AnchorSeen v) (sym e) tt;
-  inside = record { exact = at; super = subst (λ (W : Path). Sup p (bound s a) W) at itself };
-} where
-  at : bound s a ≡ reverse (reverse (a.names ++ a.exact)) ++ eval v a.anchor
-  at =
-      ap (λ (l : Path). a.names ++ (a.exact ++ l)) (root_at (bound_of s) (view_at v) a.anchor e) ∙
-      sym (append_assoc a.names a.exact (eval v a.anchor)) ∙
-      ap (λ (l : Path). l ++ eval v a.anchor) (sym (reverse-reverse (a.names ++ a.exact)))
-exact_in p v s a e u (later b) = elim b [ ]
-
 -- it goes on with the object, by which nothing else changes
 module _ {p : Program} {h : Heap} {f : Frame} {x : Header} {vs : List Var} {s : Scope} {ops : List Opd} {w : Views}
-    (n : Laws p) (hf : HeapFits p h) (m : ℕ) (k : List Todo) (term : Term) (keeps : Bool) (y : Atom)
-    (is : TermIs p role.New (record { class = f.class; method = f.method.name.name; vars = vs }) term y)
-    (new : NewClass p s y) (tf : TypeFits s (normal_type s (made_exact y))) (a : Stands p h f x vs s ops w) where
-  abbrev V : Path
-  V = bound s y
-
-  abbrev t : Ty
-  t = normal_type s (made_exact y)
-
+    (n : Laws p) (hf : HeapFits p h) (m : ℕ) (k : List Todo) (term : Term) (keeps : Bool) (t : Ty) (V : Path)
+    (class_is : IsNewClass p (now (length vs) k f) term V) (class : IsClass p V)
+    (no_params : (b : Body) → IsConstructorBody p V b → b.method.params ≡ [])
+    (in_it : (i : Heap) (o : ℕ) → ((z : Name) → HasField p V z → HasValue p i o V z)
+    → IsIn p (all_views (cut (length vs) f) w) i t (Reference o V))
+    (tf : TypeFits s t) (a : Stands p h f x vs s ops w) where
   abbrev behind : List Opd
-  behind = cond keeps (opd (normal_type s (made_exact y)) None ∷ ops) ops
+  behind = cond keeps (opd t None ∷ ops) ops
 
   abbrev Q : Did → Type 0
-  Q = DidAt p h f x vs k (typing s (cond keeps (opd (normal_type s (made_exact y)) None ∷ ops) ops))
+  Q = DidAt p h f x vs k (typing s (cond keeps (opd t None ∷ ops) ops))
 
   abbrev r : Value
-  r = Reference (length h.objects) (bound s y)
+  r = Reference (length h.objects) V
 
-  class_is : IsNewClass p (now (length vs) k f) term (bound s y)
-  class_is = record {
-    atom = y;
-    resolved =
-        subst (λ (l : List Var). TermIs p role.New (record { class = f.class; method = f.method.name.name; vars = l })
-        term y) (sym a.in_scope.declared) is;
-    seen = subst (AnchorSeen (frame_views (now (length vs) k f))) (sym new.root) tt;
-    is =
-        ap (λ (l : Path). y.names ++ (y.exact ++ l))
-        (root_at (bound_of s) (view_at (frame_views (now (length vs) k f))) y.anchor new.root);
-  }
-
-  module _ (size : ℕ) (xs : List Stored) (fresh : AreFresh p (bound s y) xs) where
+  module _ (size : ℕ) (xs : List Stored) (fresh : AreFresh p V xs) where
     abbrev i : Heap
-    i = with_object h size (record { made = bound s y; stored = xs })
+    i = with_object h size (record { made = V; stored = xs })
 
-    made : MadeAt p h size (bound s y) xs
-    made = made_at p n h size (bound s y) xs hf new.class fresh
+    made : MadeAt p h size V xs
+    made = made_at p n h size V xs hf class fresh
 
-    operand : OperandFits p (with_object h size (record { made = bound s y; stored = xs })) s
-        (all_views (cut (length vs) f) w) (opd (normal_type s (made_exact y)) None)
-        (Reference (length h.objects) (bound s y))
+    operand : OperandFits p (take (length vs) f.vars) (with_object h size (record { made = V; stored = xs })) s
+        (all_views (cut (length vs) f) w) (opd t None)
+        (Reference (length h.objects) V)
     operand = record {
       fits = tf;
       bound = λ b e. absurd (no_path b e);
-      is_in =
-          (values_subst a.in_scope.respects (mask_names p) (HasValue p i) same_path (made_exact y) t r seen
-          ((type_subst_is s same_path (made_exact y) t).1 refl)).0
-          (object (exact_in p (all_views (cut (length vs) f) w) s y new.root) (λ g has free. made.filled g has));
+      is_in = in_it i (length h.objects) made.filled;
       real = made.refers;
       path = λ b e. absurd (no_path b e);
-    } where
-      seen : (u : Atom) → Among (atoms_in (made_exact y)) u
-          → AnchorSeen (after same_path (all_views (cut (length vs) f) w)) u.anchor
-      seen _ first = subst (AnchorSeen (after same_path (all_views (cut (length vs) f) w))) (sym new.root) tt
-      seen u (later b) = elim b [ ]
+      held = λ b c e. absurd (no_path b.var.path e);
+    }
 
-    before : Stands p (with_object h size (record { made = bound s y; stored = xs })) f x vs s ops w
+    before : Stands p (with_object h size (record { made = V; stored = xs })) f x vs s ops w
     before = stands_later p h i f x vs s ops w made.later a
 
-    with_it : (b : Bool) → OperandsFit p (with_object h size (record { made = bound s y; stored = xs })) s
-        (all_views (cut (length vs) f) w) (cond b (opd (normal_type s (made_exact y)) None ∷ ops) ops)
-        (kept b (Reference (length h.objects) (bound s y)) f.vals)
+    with_it : (b : Bool) → OperandsFit p (take (length vs) f.vars) (with_object h size
+        (record { made = V; stored = xs })) s
+        (all_views (cut (length vs) f) w) (cond b (opd t None ∷ ops) ops)
+        (kept b (Reference (length h.objects) V) f.vals)
     with_it true = one operand before.operands
     with_it false = before.operands
 
-    stands : (b : Bool) → Stands p (with_object h size (record { made = bound s y; stored = xs }))
+    stands : (b : Bool) → Stands p (with_object h size (record { made = V; stored = xs }))
         (record (now (length vs) k f) {
-          vals = kept keeps (Reference (length h.objects) (bound s y)) f.vals;
+          vals = kept keeps (Reference (length h.objects) V) f.vals;
           keeps = b;
-        }) x vs s (cond keeps (opd (normal_type s (made_exact y)) None ∷ ops) ops) w
+        }) x vs s (cond keeps (opd t None ∷ ops) ops) w
     stands b = stands_on before k b behind (kept keeps r f.vals) (with_it keeps)
 
-    goes_well : GoesAt p h f x vs k (typing s (cond keeps (opd (normal_type s (made_exact y)) None ∷ ops) ops))
-        (record (now (length vs) k f) { vals = kept keeps (Reference (length h.objects) (bound s y)) f.vals })
-        (with_object h size (record { made = bound s y; stored = xs }))
+    goes_well : GoesAt p h f x vs k (typing s (cond keeps (opd t None ∷ ops) ops))
+        (record (now (length vs) k f) { vals = kept keeps (Reference (length h.objects) V) f.vals })
+        (with_object h size (record { made = V; stored = xs }))
     goes_well = record {
       later = made.later;
       heap = made.heap;
@@ -164,13 +121,13 @@ module _ {p : Program} {h : Heap} {f : Frame} {x : Header} {vs : List Var} {s : 
       stands = record { fresh = w; stands = stands f.keeps };
     }
 
-    calls_well : (b : Body) (c : Name) (z : Header) → IsBody p (bound s y) c b → IsHeader p b z
+    calls_well : (b : Body) (c : Name) (z : Header) → IsBody p V c b → IsHeader p b z
         → b.method.params ≡ []
-        → CallsAt p h f x vs k (typing s (cond keeps (opd (normal_type s (made_exact y)) None ∷ ops) ops))
+        → CallsAt p h f x vs k (typing s (cond keeps (opd t None ∷ ops) ops))
         (record { class = b.class; method = b.method; vars = z.vars })
-        (Reference (length h.objects) (bound s y) ∷ [])
-        (waiting false (now (length vs) k f) (kept keeps (Reference (length h.objects) (bound s y)) f.vals))
-        (with_object h size (record { made = bound s y; stored = xs }))
+        (Reference (length h.objects) V ∷ [])
+        (waiting false (now (length vs) k f) (kept keeps (Reference (length h.objects) V) f.vals))
+        (with_object h size (record { made = V; stored = xs }))
     calls_well b c z ib ih np = record {
       later = made.later;
       heap = made.heap;
@@ -186,23 +143,23 @@ module _ {p : Program} {h : Heap} {f : Frame} {x : Header} {vs : List Var} {s : 
       none : length z.vars ≡ 0
       none = n.param_count b z ih ∙ ap (λ (l : List Param). length l) np
 
-      resumed : (j : Heap) (v : Option Value) → Later (with_object h size (record { made = bound s y; stored = xs })) j
+      resumed : (j : Heap) (v : Option Value) → Later (with_object h size (record { made = V; stored = xs })) j
           → StandsAt p j (given v (waiting false (now (length vs) k f)
-          (kept keeps (Reference (length h.objects) (bound s y)) f.vals))) x vs
-          (typing s (cond keeps (opd (normal_type s (made_exact y)) None ∷ ops) ops))
+          (kept keeps (Reference (length h.objects) V) f.vals))) x vs
+          (typing s (cond keeps (opd t None ∷ ops) ops))
       resumed j None l = record { fresh = w; stands = stands_later p i j _ x vs s behind w l (stands false) }
       resumed j (Some v) l = record { fresh = w; stands = stands_later p i j _ x vs s behind w l (stands false) }
 
     wrong : true ≡ false → ⊥
     wrong e = cc
 
-    enters : (b : Body) → IsConstructorBody p (bound s y) b
+    enters : (b : Body) → IsConstructorBody p V b
         → Sure Q (on_entry p b [] (λ e. on_cells m h size (It
         (Enters e (r ∷ []) (waiting false (now (length vs) k f) (kept keeps r f.vals)) i))))
     enters b ib =
-        let c = constructor_named p (bound s y) b ib in
-        let z = header_there p n (bound s y) c.0 b c.1 in
-        let np = new.no_params b ib in
+        let c = constructor_named p V b ib in
+        let z = header_there p n V c.0 b c.1 in
+        let np = no_params b ib in
         sure_if (nat_eq 0 (length b.method.params))
         (λ no. absurd (wrong (sym (eq-eqb 0 (length b.method.params)
         (sym (ap (λ (l : List Param). length l) np))) ∙ no)))
@@ -215,20 +172,53 @@ module _ {p : Program} {h : Heap} {f : Frame} {x : Header} {vs : List Var} {s : 
         (sym ((finds_one p).params b vars z.0.vars iv z.1.params))
         (calls_well b c.0 z.0 c.1 z.1 np))))))
 
-    constructs_well : Sure Q (constructs p m (bound s y) [] keeps (now (length vs) k f) f.vals h size xs)
+    constructs_well : Sure Q (constructs p m V [] keeps (now (length vs) k f) f.vals h size xs)
     constructs_well =
         sure_found (sure_if (nat_le (h.used + size) m) {Else = ends Arena}
         (λ no. sure_it (Faults Arena) (surely not_stuck_arena)) (λ yes. sure_it _ (surely goes_well)))
         (λ b ib. enters b ib)
 
-  pub make_at : Sure (DidAt p h f x vs k (typing s (cond keeps (opd (normal_type s (made_exact y)) None ∷ ops) ops)))
+  make_class : Sure (DidAt p h f x vs k (typing s (cond keeps (opd t None ∷ ops) ops)))
       (Does p m (Make term 0 keeps) (now (length vs) k f) h)
-  make_at =
-      sure_only (surely (bound s y, class_is)) (λ A B j l. (finds_one p).new_class (now (length vs) k f) term B A l j)
+  make_class =
+      sure_only (surely (V, class_is)) (λ A B j l. (finds_one p).new_class (now (length vs) k f) term B A l j)
       (λ W iw. subst (λ (z : Path). Sure Q (makes p m z [] keeps (now (length vs) k f) f.vals h))
-      (sym ((finds_one p).new_class (now (length vs) k f) term W (bound s y) iw class_is))
-      (sure_test (surely new.class) (λ c.
-      sure_only (sizes_there p (bound s y) new.class) (λ A B j l. (finds_one p).size (bound s y) B A l j)
+      (sym ((finds_one p).new_class (now (length vs) k f) term W V iw class_is))
+      (sure_test (surely class) (λ c.
+      sure_only (sizes_there p V class) (λ A B j l. (finds_one p).size V B A l j)
       (λ size si.
-      sure_only (n.fields.fresh n.within.formed n.within.named (bound s y) new.class)
-      (λ A B j l. n.once.fresh (bound s y) B A l j) (λ xs fresh. constructs_well size xs fresh)))))
+      sure_only (n.fields.fresh n.within.formed n.within.named V class)
+      (λ A B j l. n.once.fresh V B A l j) (λ xs fresh. constructs_well size xs fresh)))))
+
+-- the class that the term stands for, by the views of the frame
+pub new_class_is : {p : Program} {h : Heap} {vs : List Var} {s : Scope} {w : Views} (f : Frame) (k : List Todo)
+    (term : Term) (y : Atom) → InScope p h (cut (length vs) f) w vs s → HeaderPaths vs (made_exact y)
+    → TermIs p role.New (record { class = f.class; method = f.method.name.name; vars = vs }) term y
+    → IsNewClass p (now (length vs) k f) term (atom_at (view_at (frame_views (cut (length vs) f))) y)
+new_class_is {p} {vs = vs} f k term y in_scope paths is = record {
+  atom = y;
+  resolved =
+      subst (λ (l : List Var). TermIs p role.New (record { class = f.class; method = f.method.name.name; vars = l })
+      term y) (sym in_scope.declared) is;
+  seen = made_seen in_scope y paths;
+  is = refl;
+}
+
+pub make_at : {p : Program} {h : Heap} {f : Frame} {x : Header} {vs : List Var} {s : Scope} {ops : List Opd}
+    {w : Views} → Laws p → HeapFits p h → (m : ℕ) (k : List Todo) (term : Term) (keeps : Bool) (y : Atom)
+    → TermIs p role.New (record { class = f.class; method = f.method.name.name; vars = vs }) term y
+    → NewClass p vs s y → TypeFits s (normal_type s (made_exact y)) → Stands p h f x vs s ops w
+    → Sure (DidAt p h f x vs k
+    (typing s (cond keeps (opd (normal_type s (made_exact y)) None ∷ ops) ops)))
+    (Does p m (Make term 0 keeps) (now (length vs) k f) h)
+make_at {p} {f = f} {vs = vs} {s = s} n hf m k term keeps y is new tf a =
+    let V : Path = atom_at (view_at (frame_views (cut (length vs) f))) y in
+    let class : IsClass p V = made_class a.in_scope y new.paths new.class in
+    make_class n hf m k term keeps (normal_type s (made_exact y)) V
+    (new_class_is f k term y a.in_scope new.paths is) class
+    (constructor_bare n V (bound s y)
+    (same_last y.names y.exact (anchor_at (view_at (frame_views (cut (length vs) f))) y.anchor)
+    (anchor_at (bound_of s) y.anchor) (made_named p
+    (record { class = f.class; method = f.method.name.name; vars = vs }) term y is)) class
+    (made_super a.in_scope y new.paths new.class.universe) new.no_params)
+    (λ i o filled. made_in a.in_scope y new.paths i o filled) tf a

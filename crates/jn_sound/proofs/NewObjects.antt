@@ -94,7 +94,8 @@ zero_found p V _ _ s v (more {x = f} {y = x} {xs = fs} {ys = ys} r rs) e =
       same e = cc
 
       at : (b : Bool) → same_slot x.slot s ≡ b
-          → option_map (λ (z : Stored). z.value) (cond b (Some x) (find (λ (z : Stored). same_slot z.slot s) ys)) ≡ Some v
+          → option_map (λ (z : Stored). z.value) (cond b (Some x) (find (λ
+          (z : Stored). same_slot z.slot s) ys)) ≡ Some v
           → (stored_value ys s ≡ Some v → ZeroOf p V s v) → ZeroOf p V s v
       at true i e again = record { field = f; stored = x; fresh = r; slot = slots_equal x.slot s i; value = same e }
       at false i e again = again e

@@ -1,6 +1,6 @@
 -- A view change of null to a target that hangs on a path.
 use Rattle.std.proofs.Common.{◌≡◌, ◌<◌, ℕ, suc, List, [], ◌∷◌, ◌++◌, length, Option, Some, None, true, refl, sym, ap, ◌∙◌, subst, arith}
-use Rattle.std.specs.Prelude.{IsSome, drop, unwrap_or}
+use Rattle.std.specs.Prelude.{IsSome, drop, unwrap_or, take}
 use Rattle.std.proofs.lemmas.List.{length-append}
 use Rattle.jn_base.specs.declared.tree.Name.{Name}
 use Rattle.jn_base.specs.declared.tree.ViewTerm.{ViewTerm}
@@ -42,7 +42,7 @@ use Rattle.jn_sound.proofs.Calls.{path_seen, not_null_at}
 use Rattle.jn_sound.proofs.SharedViews.{NullIs, null_value, is_null_value}
 
 -- a path with a name has a family
-has_family : (P : Path) → 0 < length P → (Y : Name) × (family_of P ≡ Some Y)
+pub has_family : (P : Path) → 0 < length P → (Y : Name) × (family_of P ≡ Some Y)
 has_family [] l = absurd (omega (arith, l))
 has_family (X ∷ []) l = (X, refl)
 has_family (C ∷ (D ∷ P)) l = has_family (D ∷ P) (long P) where
@@ -50,7 +50,7 @@ has_family (C ∷ (D ∷ P)) l = has_family (D ∷ P) (long P) where
   long Q = omega arith
 
 -- a path that a written type mentions has a view
-path_there : {p : Program} {h : Heap} {g : Frame} {vs : List Var} {s : Scope} {w : Views} → InScope p h g w vs s
+pub path_there : {p : Program} {h : Heap} {g : Frame} {vs : List Var} {s : Scope} {w : Views} → InScope p h g w vs s
     → (q : ℕ) → HeaderPath vs q → IsSome (frame_views g q)
 path_there {g = g} k q (is_this e) =
     subst (λ (r : ℕ). IsSome (frame_views g r)) (sym e)
@@ -65,20 +65,20 @@ path_there {p} {h} {g} {w = w} k q (is_param z m e f c) =
     (path_seen p h (all_views g w) b.0.ty y.variable (k.values y.variable b.0 y.among b.1 b.2) (b.4 ∙ class) fixed class
     (not_null_at g.vars y.variable k.no_null y.among)))
 
-anchor_there : (v : Views) (a : Anchor) → ((q k : ℕ) → a ≡ Up q k → IsSome (v q)) → AnchorSeen v a
+pub anchor_there : (v : Views) (a : Anchor) → ((q k : ℕ) → a ≡ Up q k → IsSome (v q)) → AnchorSeen v a
 anchor_there v Root each = tt
 anchor_there v (Up q k) each = each q k refl
 
-anchor_agrees : (v w : Views) (a : Anchor) → Agree v w a → AnchorSeen w a → AnchorSeen v a
+pub anchor_agrees : (v w : Views) (a : Anchor) → Agree v w a → AnchorSeen w a → AnchorSeen v a
 anchor_agrees v w Root e n = tt
 anchor_agrees v w (Up q k) e n = subst (λ (o : Option Path). IsSome o) (sym e) n
 
-eval_agrees : (v w : Views) (a : Anchor) → Agree v w a → eval v a ≡ eval w a
+pub eval_agrees : (v w : Views) (a : Anchor) → Agree v w a → eval v a ≡ eval w a
 eval_agrees v w Root e = refl
 eval_agrees v w (Up q k) e = ap (λ (o : Option Path). drop k (unwrap_or o [])) e
 
 -- as many names as in the bound
-same_length : (names exact P B : Path) → length P ≡ length B → 0 < length (names ++ (exact ++ B))
+pub same_length : (names exact P B : Path) → length P ≡ length B → 0 < length (names ++ (exact ++ B))
     → 0 < length (names ++ (exact ++ P))
 same_length names exact P B e l = omega (
   arith,
@@ -127,7 +127,8 @@ null_on_path_at {p} {h} {f} {x} {vs} {s} {ops} {w} hf capacity k term y q hp lon
       (anchor_agrees (all_views (cut (length vs) f) w) (frame_views (cut (length vs) f)) y.atom.anchor same seen)))
       long
 
-  by : (z : Value) (us : List Value) → NullIs z → OperandsFit p h s (all_views (cut (length vs) f) w) ops us
+  by : (z : Value) (us : List Value) → NullIs z → OperandsFit p (take (length vs) f.vars) h s (all_views (cut
+      (length vs) f) w) ops us
       → Sure Q (OnOnly (IsTargetFamily p (now (length vs) k f) term) missing
       (λ Y. on_viewed p Y z (λ u. goes (now (length vs) k f) (u ∷ us) h)))
   by _ us null_value others =
@@ -146,9 +147,11 @@ null_on_path_at {p} {h} {f} {x} {vs} {s} {ops} {w} hf capacity k term y q hp lon
         is_in = no_object;
         real = tt;
         path = λ b e. absurd (no_path b e);
+        held = λ b c e. absurd (no_path b.var.path e);
       }) others))))
 
-  at : (vals : List Value) → OperandsFit p h s (all_views (cut (length vs) f) w) (opd ty.Null q ∷ ops) vals
+  at : (vals : List Value) → OperandsFit p (take (length vs) f.vars) h s (all_views (cut (length vs) f) w)
+      (opd ty.Null q ∷ ops) vals
       → Sure Q (OnFirst vals missing (λ z us. OnOnly (IsTargetFamily p (now (length vs) k f) term) missing
       (λ Y. on_viewed p Y z (λ u. goes (now (length vs) k f) (u ∷ us) h))))
   at _ (one {x = z} {vs = us} j others) =

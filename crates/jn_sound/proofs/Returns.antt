@@ -32,7 +32,7 @@ use Rattle.jn_sem.proofs.FindingLaws.{finds_one}
 use Rattle.jn_rules.specs.Questions.{masks_of}
 use Rattle.jn_rules.specs.Exprs.{bind, path_type, masks_at}
 use Rattle.jn_rules.specs.Stmts.{body_in, is_void}
-use Rattle.jn_sound.specs.Takes.{Opd, opd, opd_of}
+use Rattle.jn_sound.specs.Takes.{Opd, opd, opd_of, OwnPaths}
 use Rattle.jn_sound.specs.Fit.{Narrowed, IsLoop, Fits, repeat, narrows}
 use Rattle.jn_sound.specs.Sound.{HeapFits, InScope, OperandFits, OperandsFit, none as no_opds, one, cut, all_views, result_views, body_of, Left}
 use Rattle.jn_sound.proofs.Laws.{Laws}
@@ -43,8 +43,9 @@ use Rattle.jn_laws.proofs.ByViews.{value_same}
 use Rattle.jn_sound.specs.Sound.{Stands}
 use Rattle.jn_sound.proofs.Stands.{now, goes_on}
 use Rattle.jn_sound.proofs.Known.{all_small, var_of, take_declared, frame_prefix}
-use Rattle.jn_sound.proofs.Acts.{ActFits, own_type, no_path, same_path_of, object_value, ObjectIs, null_is, object_is}
-use Rattle.jn_sound.proofs.Locals.{frame_agree, take_whole}
+use Rattle.jn_sound.proofs.Acts.{ActFits, own_type, own_variable, no_path, same_path_of, object_value, ObjectIs, null_is, object_is}
+use Rattle.jn_sound.proofs.Locals.{frame_agree}
+use Rattle.jn_sound.proofs.Calls.{take_whole}
 use Rattle.jn_sound.proofs.Calls.{not_null_at}
 use Rattle.jn_rules.specs.Headers.{Header}
 use Rattle.jn_rule_laws.specs.LawsOfHeaders.{ResultIs}
@@ -102,7 +103,8 @@ return_fits {p} {h} {f} {x} {vs} {s} {w} {ops} n hf m k q nv a = at f.vals a.ope
     at_anchor Root e = tt
     at_anchor (Up r j) e = path r (e r j refl)
 
-  leaves : (y : Value) → OperandFits p h s (all_views (cut (length vs) f) w) (opd x.result q) y
+  leaves : (y : Value) → OperandFits p (take (length vs) f.vars) h s (all_views (cut (length vs) f) w)
+      (opd x.result q) y
       → (t : Option TypeTerm) → ResultIs p (body_of f) x.vars t x.result
       → Safe p h f (returns p (now (length vs) k f) h t y)
   leaves y j None e = absurd (wrong (sym (ap is_void e) ∙ nv)) where
@@ -135,7 +137,8 @@ return_fits {p} {h} {f} {x} {vs} {s} {w} {ops} n hf m k q nv a = at f.vals a.ope
         returns_at : Ty → Way
         returns_at z = on_typed p (now (length vs) k f) h z y (It (Leaves (Some y) h))
 
-  at : (vals : List Value) → OperandsFit p h s (all_views (cut (length vs) f) w) (opd x.result q ∷ ops) vals
+  at : (vals : List Value) → OperandsFit p (take (length vs) f.vars) h s (all_views (cut (length vs) f) w)
+      (opd x.result q ∷ ops) vals
       → Safe p h f (OnFirst vals missing (λ y us. returns p (now (length vs) k f) h f.method.result y))
   at _ (one {x = y} j others) = leaves y j f.method.result a.is_header.result
 
@@ -199,7 +202,7 @@ variable_of xs vs x v d e =
     (ap reverse (sym d) ∙ sym (declared_reverse xs)) e) in
     record { variable = k.0; is = k.1; among = among_back xs k.0 k.2; var = k.3 }
 
-masks_bound : (s : Scope) (b : Bind) → BindsFit s → Among s b → masks_at s b.path ≡ masks_of b.ty
+pub masks_bound : (s : Scope) (b : Bind) → BindsFit s → Among s b → masks_at s b.path ≡ masks_of b.ty
 masks_bound _ b f (first {xs = s}) =
     ap (λ (z : Bool). cond z (masks_of b.ty) (masks_at s b.path)) (eq-eqb b.path b.path refl)
 masks_bound _ b f (later {y = c} {xs = s} a) = at (nat_eq b.path c.path) refl (masks_bound s b f.0 a) where
@@ -212,7 +215,7 @@ masks_bound _ b f (later {y = c} {xs = s} a) = at (nat_eq b.path c.path) refl (m
 pub read_operand : {p : Program} {h : Heap} {g : Frame} {vs : List Var} {s : Scope} {w : Views} (v : Var)
     (y : Variable) → InScope p h g w vs s → Among g.vars y → y.var ≡ v
     → TypeFits s (opd_of s v).ty → ((v.fixed && is_class v.ty) ≡ false → Among s (bind v.path v.ty)) →
-    OperandFits p h s (all_views g w) (opd_of s v) y.value
+    OperandFits p g.vars h s (all_views g w) (opd_of s v) y.value
 read_operand {p} {h} {g} {vs} {s} {w} v y k a e = at (v.fixed && is_class v.ty) refl where
   views : Views
   views = all_views g w
@@ -226,7 +229,7 @@ read_operand {p} {h} {g} {vs} {s} {w} v y k a e = at (v.fixed && is_class v.ty) 
 
   at : (b : Bool) → (v.fixed && is_class v.ty) ≡ b
       → TypeFits s (cond b (opd (path_type s v.path) (Some v.path)) (opd v.ty None)).ty
-      → ((v.fixed && is_class v.ty) ≡ false → Among s (bind v.path v.ty)) → OperandFits p h s (all_views g w)
+      → ((v.fixed && is_class v.ty) ≡ false → Among s (bind v.path v.ty)) → OperandFits p g.vars h s (all_views g w)
       (cond b (opd (path_type s v.path) (Some v.path)) (opd v.ty None)) y.value
   at false i t m = record {
     fits = t;
@@ -234,6 +237,7 @@ read_operand {p} {h} {g} {vs} {s} {w} v y k a e = at (v.fixed && is_class v.ty) 
     is_in = k.values y (bind v.path v.ty) a (m i) (sym path_is);
     real = k.real y a;
     path = λ q z. absurd (no_path q z);
+    held = λ x m z. absurd (no_path x.var.path z);
   }
   at true i t m = record {
     fits = t;
@@ -249,6 +253,8 @@ read_operand {p} {h} {g} {vs} {s} {w} v y k a e = at (v.fixed && is_class v.ty) 
         (null_not (not_null_at g.vars y k.no_null a));
     real = k.real y a;
     path = λ q z. subst (λ (r : ℕ). all_views g w r ≡ view_in y.value) (same_path_of v.path q z) view_is;
+    held = λ x m z. ap (λ (u : Variable). u.value) (own_variable g.vars (subst OwnPaths (sym k.declared) k.own) y x a m
+        (path_is ∙ same_path_of v.path x.var.path z));
   } where
     b : (c : Bind) × Among s c × (c.path ≡ y.var.path) × (atoms_in c.ty ≡ atoms_in y.var.ty) ×
         (is_class c.ty ≡ is_class y.var.ty)
@@ -312,7 +318,8 @@ truth_fits {p} {h} {f} {x} {vs} {s} {ops} {w} hf k q then fit a = at f.vals a.op
       → Safe p h f (on_truth z (λ b. goes_with (now (length vs) k f) us (then b) h))
   by _ us (truth_is {b = b}) = safe_it _ (surely (goes_on hf a (then b) [] us no_opds (fit b)))
 
-  at : (vals : List Value) → OperandsFit p h s (all_views (cut (length vs) f) w) (opd ty.Bool q ∷ ops) vals
+  at : (vals : List Value) → OperandsFit p (take (length vs) f.vars) h s (all_views (cut (length vs) f) w)
+      (opd ty.Bool q ∷ ops) vals
       → Safe p h f (OnFirst vals missing (λ z us. on_truth z (λ b. goes_with (now (length vs) k f) us (then b) h)))
   at _ (one {x = z} {vs = us} j others) = by z us (truth_value p h _ z j.is_in)
 
@@ -346,7 +353,7 @@ again_fits {p} {h} {f} {x} {vs} {s} {t} {ops} {w} n hf m k path e body q loop na
       fit true =
           subst (λ (i : ℕ). Fits p (body_in (body_of f) x)
           (stmts_acts i path body (acts i e (todo i (Repeat path e body) ∷ k))) vs s []) (sym (counted a))
-          (narrows whole enough nar loop.scoped.binds loop.scoped.covers
+          (narrows whole enough nar loop.known.scope.scope.binds loop.known.covers
           (n.loop_fits (body_in (body_of f) x) vs t path e body (todo (length vs) (Repeat path e body) ∷ k) loop
           (λ u o. repeat path e body None refl loop o enough rest)))
-      fit false = narrows whole enough nar loop.scoped.binds loop.scoped.covers rest
+      fit false = narrows whole enough nar loop.known.scope.scope.binds loop.known.covers rest

@@ -24,6 +24,9 @@ module _ {Q : Did → Type 0} where
     at d (found a x g) = (go a x.is).each d g
     at d (not_found n e) = absurd (there (λ x. n x.0 (record { is = x.1; one = λ b i. one x.0 b x.1 i })))
 
+  pub sure_to : {R : Did → Type 0} {W : Way} → ((d : Did) → R d → Surely (Q d)) → Sure R W → Sure Q W
+  sure_to go s = record { each = λ d w. and_so (s.each d w) (go d) }
+
   pub sure_either : {Is : Type 0} {Else Go : Way} → ((Is → ⊥) → Sure Q Else) → (Is → Sure Q Go)
       → Sure Q (OnTest Is Else Go)
   sure_either {Is} {Else} {Go} s go = record { each = at } where

@@ -1,6 +1,6 @@
 -- A view change that the sharing of the whole program grants fits.
 use Rattle.std.proofs.Common.{◌≡◌, ℕ, List, ◌∷◌, ◌++◌, length, Option, None, true, refl, sym, ap, ◌∙◌, subst}
-use Rattle.std.specs.Prelude.{IsSome}
+use Rattle.std.specs.Prelude.{IsSome, take}
 use Rattle.jn_base.specs.declared.tree.Name.{Name}
 use Rattle.jn_base.specs.declared.tree.ViewTerm.{ViewTerm}
 use Rattle.jn_base.specs.declared.tree.Program.{Program}
@@ -87,13 +87,16 @@ shared_at {p} {h} {f} {x} {vs} {s} {ops} {w} n hf capacity k term t y q c root i
         (view_at (frame_views (now (length vs) k f))) (record (atom_of y.atom) { anchor = z })) (sym e) refl
 
   going : (z : Value) (us : List Value)
-      → OperandFits p h s (all_views (cut (length vs) f) w) (opd (normal_type s (target_type y)) None) z
-      → OperandsFit p h s (all_views (cut (length vs) f) w) ops us → Sure Q (goes (now (length vs) k f) (z ∷ us) h)
+      → OperandFits p (take (length vs) f.vars) h s (all_views (cut (length vs) f) w) (opd (normal_type s
+      (target_type y)) None) z
+      → OperandsFit p (take (length vs) f.vars) h s (all_views (cut (length vs) f) w) ops us
+      → Sure Q (goes (now (length vs) k f) (z ∷ us) h)
   going z us j others =
       sure_it _ (surely (goes_at hf a k (opd (normal_type s (target_type y)) None ∷ ops) (z ∷ us) (one j others)))
 
   operand : (z : Value) → IsIn p (all_views (cut (length vs) f) w) h (target_type y) z → IsReal p h z
-      → OperandFits p h s (all_views (cut (length vs) f) w) (opd (normal_type s (target_type y)) None) z
+      → OperandFits p (take (length vs) f.vars) h s (all_views (cut (length vs) f) w) (opd (normal_type s
+      (target_type y)) None) z
   operand z i r = record {
     fits = tf;
     bound = λ b e. absurd (no_path b e);
@@ -103,6 +106,7 @@ shared_at {p} {h} {f} {x} {vs} {s} {ops} {w} n hf capacity k term t y q c root i
         ((type_subst_is s same_path (target_type y) (normal_type s (target_type y))).1 refl)).0 i;
     real = r;
     path = λ b e. absurd (no_path b e);
+    held = λ b c e. absurd (no_path b.var.path e);
   } where
     seen : (u : Atom) → Among (atoms_in (target_type y)) u
         → AnchorSeen (after same_path (all_views (cut (length vs) f) w)) u.anchor
@@ -144,7 +148,7 @@ shared_at {p} {h} {f} {x} {vs} {s} {ops} {w} n hf capacity k term t y q c root i
   }
 
   at_value : (z : Value) (us : List Value) → IsReal p h z → ObjectIs p h (all_views (cut (length vs) f) w) t z
-      → OperandsFit p h s (all_views (cut (length vs) f) w) ops us
+      → OperandsFit p (take (length vs) f.vars) h s (all_views (cut (length vs) f) w) ops us
       → Sure Q (OnOnly (IsTargetFamily p (now (length vs) k f) term) missing
       (λ Y. on_viewed p Y z (λ u. goes (now (length vs) k f) (u ∷ us) h)))
   at_value _ us r null_is others =
@@ -176,7 +180,8 @@ shared_at {p} {h} {f} {x} {vs} {s} {ops} {w} n hf capacity k term t y q c root i
             (sharing_laws p).joined r.object.made V g.view r.related g.turns.counterpart.related;
       })) others)))
 
-  at : (vals : List Value) → OperandsFit p h s (all_views (cut (length vs) f) w) (opd t q ∷ ops) vals
+  at : (vals : List Value) → OperandsFit p (take (length vs) f.vars) h s (all_views (cut (length vs) f) w)
+      (opd t q ∷ ops) vals
       → Sure Q (OnFirst vals missing (λ z us. OnOnly (IsTargetFamily p (now (length vs) k f) term) missing
       (λ Y. on_viewed p Y z (λ u. goes (now (length vs) k f) (u ∷ us) h))))
   at _ (one {x = z} {vs = us} j others) = at_value z us j.real (object_value p h _ t z c j.is_in) others
@@ -222,7 +227,7 @@ null_view_at {p} {h} {f} {x} {vs} {s} {ops} {w} n hf capacity k term y q root is
   in_target : IsIn p v h (normal_type s (target_type y)) Null
   in_target = no_object
 
-  by : (z : Value) (us : List Value) → NullIs z → OperandsFit p h s v ops us
+  by : (z : Value) (us : List Value) → NullIs z → OperandsFit p (take (length vs) f.vars) h s v ops us
       → Sure Q (OnOnly (IsTargetFamily p (now (length vs) k f) term) missing
       (λ Y. on_viewed p Y z (λ u. goes (now (length vs) k f) (u ∷ us) h)))
   by _ us null_value others =
@@ -240,11 +245,11 @@ null_view_at {p} {h} {f} {x} {vs} {s} {ops} {w} n hf capacity k term y q root is
         bound = λ b e. absurd (no_path b e);
         is_in = in_target;
         real = tt;
-        path = λ b e.
-            absurd (no_path b e);
+        path = λ b e. absurd (no_path b e);
+        held = λ b c e. absurd (no_path b.var.path e);
       }) others))))
 
-  at : (vals : List Value) → OperandsFit p h s v (opd ty.Null q ∷ ops) vals
+  at : (vals : List Value) → OperandsFit p (take (length vs) f.vars) h s v (opd ty.Null q ∷ ops) vals
       → Sure Q (OnFirst vals missing (λ z us. OnOnly (IsTargetFamily p (now (length vs) k f) term) missing
       (λ Y. on_viewed p Y z (λ u. goes (now (length vs) k f) (u ∷ us) h))))
   at _ (one {x = z} {vs = us} j others) = by z us (is_null_value p h v z j.is_in) others

@@ -67,13 +67,13 @@ invert_at {p} {h} {f} {x} {vs} {s} {ops} {w} hf m k q a = at f.vals a.operands w
   Q : Did → Type 0
   Q = DidAt p h f x vs k (typing s (opd ty.Bool None ∷ ops))
 
-  by : (z : Value) (us : List Value) → TruthIs z → OperandsFit p h s v ops us
+  by : (z : Value) (us : List Value) → TruthIs z → OperandsFit p (take (length vs) f.vars) h s v ops us
       → Sure Q (on_truth z (λ b. goes (now (length vs) k f) (Truth (not b) ∷ us) h))
   by _ us (truth_is {b = b}) others =
       sure_it _ (surely (goes_at hf a k _ (Truth (not b) ∷ us)
-      (one (literal_fits p h s v (Truth (not b)) ty.Bool truth_literal) others)))
+      (one (literal_fits p (take (length vs) f.vars) h s v (Truth (not b)) ty.Bool truth_literal) others)))
 
-  at : (vals : List Value) → OperandsFit p h s v (opd ty.Bool q ∷ ops) vals
+  at : (vals : List Value) → OperandsFit p (take (length vs) f.vars) h s v (opd ty.Bool q ∷ ops) vals
       → Sure Q (OnFirst vals missing (λ z us. on_truth z (λ b. goes (now (length vs) k f) (Truth (not b) ∷ us) h)))
   at _ (one {x = z} {vs = us} j others) = by z us (truth_value p h v z j.is_in) others
 
@@ -88,13 +88,13 @@ negate_at {p} {h} {f} {x} {vs} {s} {ops} {w} hf m k q a = at f.vals a.operands w
   Q : Did → Type 0
   Q = DidAt p h f x vs k (typing s (opd ty.Int None ∷ ops))
 
-  by : (z : Value) (us : List Value) → NumberIs z → OperandsFit p h s v ops us
+  by : (z : Value) (us : List Value) → NumberIs z → OperandsFit p (take (length vs) f.vars) h s v ops us
       → Sure Q (on_number z (λ i. goes (now (length vs) k f) (Number (negation_of i) ∷ us) h))
   by _ us (number_is {z = z}) others =
       sure_it _ (surely (goes_at hf a k _ (Number (negation_of z) ∷ us)
-      (one (literal_fits p h s v (Number (negation_of z)) ty.Int number_literal) others)))
+      (one (literal_fits p (take (length vs) f.vars) h s v (Number (negation_of z)) ty.Int number_literal) others)))
 
-  at : (vals : List Value) → OperandsFit p h s v (opd ty.Int q ∷ ops) vals
+  at : (vals : List Value) → OperandsFit p (take (length vs) f.vars) h s v (opd ty.Int q ∷ ops) vals
       → Sure Q (OnFirst vals missing (λ z us. on_number z
       (λ i. goes (now (length vs) k f) (Number (negation_of i) ∷ us) h)))
   at _ (one {x = z} {vs = us} j others) = by z us (number_value p h v z j.is_in) others
@@ -236,18 +236,21 @@ operate_at {p} {h} {f} {x} {vs} {s} {ops} {w} hf m k o t u q r i a = at f.vals a
   Q : Did → Type 0
   Q = DidAt p h f x vs k (typing s (opd (operator_type o) None ∷ ops))
 
-  made : (d : Made) (us : List Value) → MadeFits d (operator_type o) → OperandsFit p h s v ops us
+  made : (d : Made) (us : List Value) → MadeFits d (operator_type o)
+      → OperandsFit p (take (length vs) f.vars) h s v ops us
       → Sure Q (on_made d (λ z. goes (now (length vs) k f) (z ∷ us) h))
   made _ us (gives {v = z} l) others =
-      sure_it _ (surely (goes_at hf a k _ (z ∷ us) (one (literal_fits p h s v z (operator_type o) l) others)))
+      sure_it _ (surely (goes_at hf a k _ (z ∷ us) (one (literal_fits p (take (length vs) f.vars) h s v z
+      (operator_type o) l) others)))
   made _ us fails others = sure_it _ (surely not_stuck_zero)
 
-  second : (b : Value) (rest : List Value) → OperandFits p h s v (opd u r) b → OperandsFit p h s v (opd t q ∷ ops) rest
+  second : (b : Value) (rest : List Value) → OperandFits p (take (length vs) f.vars) h s v (opd u r) b
+      → OperandsFit p (take (length vs) f.vars) h s v (opd t q ∷ ops) rest
       → Sure Q (OnFirst rest missing (λ c us. on_made (result_of o c b) (λ z. goes (now (length vs) k f) (z ∷ us) h)))
   second b _ j (one {x = c} {vs = us} l others) =
       made (result_of o c b) us (made_fits p h v o t u c b i l.is_in j.is_in) others
 
-  at : (vals : List Value) → OperandsFit p h s v (opd u r ∷ (opd t q ∷ ops)) vals
+  at : (vals : List Value) → OperandsFit p (take (length vs) f.vars) h s v (opd u r ∷ (opd t q ∷ ops)) vals
       → Sure Q (OnFirst vals missing (λ b rest. OnFirst rest missing
       (λ c us. on_made (result_of o c b) (λ z. goes (now (length vs) k f) (z ∷ us) h))))
   at _ (one {x = b} {vs = rest} j others) = second b rest j others
@@ -259,11 +262,13 @@ pub print_number_at : {p : Program} {h : Heap} {f : Frame} {x : Header} {vs : Li
     → Stands p h f x vs s (opd ty.Int q ∷ ops) w → Sure (DidAt p h f x vs k (typing s ops))
     (Does p m Print (now (length vs) k f) h)
 print_number_at {p} {h} {f} {x} {vs} {s} {ops} {w} hf m k q a = at f.vals a.operands where
-  by : (z : Value) (us : List Value) → NumberIs z → OperandsFit p h s (all_views (cut (length vs) f) w) ops us
+  by : (z : Value) (us : List Value) → NumberIs z → OperandsFit p (take (length vs) f.vars) h s (all_views (cut
+      (length vs) f) w) ops us
       → Sure (DidAt p h f x vs k (typing s ops)) (prints_value (now (length vs) k f) z us h)
   by _ us number_is others = sure_it _ (surely (goes_at hf a k ops us others))
 
-  at : (vals : List Value) → OperandsFit p h s (all_views (cut (length vs) f) w) (opd ty.Int q ∷ ops) vals
+  at : (vals : List Value) → OperandsFit p (take (length vs) f.vars) h s (all_views (cut (length vs) f) w)
+      (opd ty.Int q ∷ ops) vals
       → Sure (DidAt p h f x vs k (typing s ops))
       (OnFirst vals missing (λ z us. prints_value (now (length vs) k f) z us h))
   at _ (one {x = z} {vs = us} j others) = by z us (number_value p h _ z j.is_in) others
@@ -273,11 +278,13 @@ pub print_truth_at : {p : Program} {h : Heap} {f : Frame} {x : Header} {vs : Lis
     → Stands p h f x vs s (opd ty.Bool q ∷ ops) w → Sure (DidAt p h f x vs k (typing s ops))
     (Does p m Print (now (length vs) k f) h)
 print_truth_at {p} {h} {f} {x} {vs} {s} {ops} {w} hf m k q a = at f.vals a.operands where
-  by : (z : Value) (us : List Value) → TruthIs z → OperandsFit p h s (all_views (cut (length vs) f) w) ops us
+  by : (z : Value) (us : List Value) → TruthIs z → OperandsFit p (take (length vs) f.vars) h s (all_views (cut
+      (length vs) f) w) ops us
       → Sure (DidAt p h f x vs k (typing s ops)) (prints_value (now (length vs) k f) z us h)
   by _ us truth_is others = sure_it _ (surely (goes_at hf a k ops us others))
 
-  at : (vals : List Value) → OperandsFit p h s (all_views (cut (length vs) f) w) (opd ty.Bool q ∷ ops) vals
+  at : (vals : List Value) → OperandsFit p (take (length vs) f.vars) h s (all_views (cut (length vs) f) w)
+      (opd ty.Bool q ∷ ops) vals
       → Sure (DidAt p h f x vs k (typing s ops))
       (OnFirst vals missing (λ z us. prints_value (now (length vs) k f) z us h))
   at _ (one {x = z} {vs = us} j others) = by z us (truth_value p h _ z j.is_in) others

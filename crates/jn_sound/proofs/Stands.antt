@@ -5,6 +5,7 @@ use Rattle.std.proofs.lemmas.List.{take-take}
 use Rattle.jn_base.specs.declared.tree.Program.{Program}
 use Rattle.jn_base.specs.declared.types.Ty.{Ty}
 use Rattle.jn_base.specs.declared.names.Var.{Var}
+use Rattle.jn_base.specs.Atoms.{Among}
 use Rattle.jn_base.specs.Scopes.{Scope, Binds}
 use Rattle.jn_base.specs.Fits.{TypeFits}
 use Rattle.jn_base.specs.ResolveTypes.{mask_names}
@@ -44,6 +45,7 @@ same_scope f vals k keeps n = record {
   seen = n.seen;
   small = n.small;
   no_null = n.no_null;
+  own = n.own;
   this =
       record {
         object = n.this.object;
@@ -75,9 +77,16 @@ pub views_on : (T : Views → Type 0) (f : Frame) (n : ℕ) (w : Views) (k : Lis
 views_on T f n w k keeps vals t =
     subst (λ (V : List Variable). T (all_views (record f { vars = V }) w)) (sym (twice n f)) t
 
+-- of its variables and their views
+pub vars_on : (T : List Variable → Views → Type 0) (f : Frame) (n : ℕ) (w : Views) (k : List Todo) (keeps : Bool)
+    (vals : List Value) → T (take n f.vars) (all_views (cut n f) w)
+    → T (take n (take n f.vars)) (all_views (cut n (record (now n k f) { vals = vals; keeps = keeps })) w)
+vars_on T f n w k keeps vals t =
+    subst (λ (V : List Variable). T V (all_views (record f { vars = V }) w)) (sym (twice n f)) t
+
 pub works_on : {p : Program} {h : Heap} {f : Frame} {x : Header} {vs : List Var} {s : Scope} {ops : List Opd}
     {w : Views} → Stands p h f x vs s ops w
-    → (k : List Todo) (keeps : Bool) (more : List Opd) (vals : List Value) → OperandsFit p h s
+    → (k : List Todo) (keeps : Bool) (more : List Opd) (vals : List Value) → OperandsFit p (take (length vs) f.vars) h s
     (all_views (cut (length vs) f) w) more vals
     → Fits p (body_in (body_of f) x) k vs s more → Works p h
     (record (now (length vs) k f) { vals = vals; keeps = keeps }) k
@@ -95,7 +104,7 @@ works_on {p} {h} {f} {x} {vs} {s} {ops} {w} a k keeps more vals g t = record {
       (sym (twice (length vs) f))
       (same_scope (cut (length vs) f) vals k keeps a.in_scope);
   operands =
-      subst (λ (V : _). OperandsFit p h s (all_views (record f { vars = V }) w) more vals)
+      subst (λ (V : List Variable). OperandsFit p V h s (all_views (record f { vars = V }) w) more vals)
       (sym (twice (length vs) f)) g;
   fits = t;
 }
@@ -114,7 +123,7 @@ stays_on {p} {f = f} {vs = vs} a k keeps vals = record {
 
 pub goes_on : {p : Program} {h : Heap} {f : Frame} {x : Header} {vs : List Var} {s : Scope} {ops : List Opd}
     {w : Views} → HeapFits p h → Stands p h f x vs s ops w
-    → (k : List Todo) (more : List Opd) (vals : List Value) → OperandsFit p h s
+    → (k : List Todo) (more : List Opd) (vals : List Value) → OperandsFit p (take (length vs) f.vars) h s
     (all_views (cut (length vs) f) w) more vals
     → Fits p (body_in (body_of f) x) k vs s more → GoesFit p h f (record (now (length vs) k f) { vals = vals }) h
 goes_on {p} {h} {f} {x} {vs} e a k more vals g t = record {
@@ -126,15 +135,17 @@ goes_on {p} {h} {f} {x} {vs} e a k more vals g t = record {
 
 -- ---- operands
 
-pub operand_same : {p : Program} {h : Heap} {s t : Scope} (v w : Views) (o : Opd) (x : Value) → AgreeOn s v w
-    → ((u : Ty) → TypeFits s u → TypeFits t u)
-    → ((q : ℕ) → Binds s q → Binds t q) → OperandFits p h s v o x → OperandFits p h t w o x
-operand_same {p} {h} {s} v w o x a fit bind g = record {
+pub operand_same : {p : Program} {xs ys : List Variable} {h : Heap} {s t : Scope} (v w : Views) (o : Opd) (x : Value)
+    → AgreeOn s v w → ((u : Ty) → TypeFits s u → TypeFits t u) → ((q : ℕ) → Binds s q → Binds t q)
+    → ((y : Variable) → Among ys y → Binds s y.var.path → Among xs y) → OperandFits p xs h s v o x
+    → OperandFits p ys h t w o x
+operand_same {p} {h = h} {s = s} v w o x a fit bind old g = record {
   fits = fit o.ty g.fits;
   bound = λ q i. bind q (g.bound q i);
   is_in = value_same p v w h o.ty x (fits_agree s v w o.ty a g.fits) g.is_in;
   real = g.real;
   path = λ q i. sym (a.each q (g.bound q i)) ∙ g.path q i;
+  held = λ y m e. g.held y (old y m (g.bound y.var.path e)) e;
 }
 
 -- an operand in a type above its own
@@ -153,7 +164,8 @@ stands_wider {p} {h} {f} {x} {vs} {s} {ops} {w} t u q l fits a =
       v : Views
       v = all_views (cut (length vs) f) w
 
-      at : (vals : List Value) → OperandsFit p h s v (opd t q ∷ ops) vals → OperandsFit p h s v (opd u q ∷ ops) vals
+      at : (vals : List Value) → OperandsFit p (take (length vs) f.vars) h s v (opd t q ∷ ops) vals
+          → OperandsFit p (take (length vs) f.vars) h s v (opd u q ∷ ops) vals
       at _ (one {x = y} g r) =
           one (record {
             fits = fits;
@@ -162,4 +174,5 @@ stands_wider {p} {h} {f} {x} {vs} {s} {ops} {w} t u q l fits a =
                 (mask_names p) (HasValue p h) t u y l g.is_in;
             real = g.real;
             path = g.path;
+            held = g.held;
           }) r

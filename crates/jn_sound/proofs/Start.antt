@@ -32,7 +32,7 @@ use Rattle.jn_sound.proofs.Ways.{surely, and_so}
 use Rattle.jn_sound.proofs.Safe.{Sure, sure_it, sure_only, sure_test, sure_if, sure_found}
 use Rattle.jn_sound.proofs.Frames.{StartFits, then_it, start_settled, begun_over}
 use Rattle.jn_sound.proofs.Fitted.{works_begun}
-use Rattle.jn_sound.proofs.Locals.{take_whole}
+use Rattle.jn_sound.proofs.Calls.{take_whole}
 use Rattle.jn_sound.proofs.Calls.{take_values}
 use Rattle.jn_sound.proofs.NewObjects.{MadeAt, made_at}
 
@@ -145,7 +145,8 @@ module _ {p : Program} (n : Laws p) (depth : ℕ) (out : List ℕ) where
         nothing (v ∷ vs) x a = elim a [ ]
 
         entering : (x : Then)
-            → enters p (record { class = b.class; method = b.method; vars = vars }) (Reference o V ∷ []) (g ∷ []) i out x
+            → enters p (record { class = b.class; method = b.method; vars = vars }) (Reference o V ∷ [])
+            (g ∷ []) i out x
             → Surely (SoundThen p x)
         entering x c = begun_over p n i new (g ∷ []) out x hf (λ nn. surely (λ z a. absurd (nothing vars z a)))
             (λ nn ai. surely (bare_works n hf V m b vars o ib np y ih e r filled)) (starts s keeps) c

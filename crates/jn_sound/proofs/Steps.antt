@@ -16,7 +16,7 @@ use Rattle.jn_sound.specs.Sound.{HeapFits, one, body_of, Stays, LeavesFit, Left}
 use Rattle.jn_sound.proofs.Laws.{Laws}
 use Rattle.jn_sound.specs.Takes.{Typing, typing}
 use Rattle.jn_sound.specs.Sound.{StandsAt, GivesBack}
-use Rattle.jn_sound.specs.Takes.{Moves, same, named, wider, unseen, Takes, push, this, read, invert, negate, operate, get, call, shared, null_view, null_on_path, put, local, assign, make, make_with, super, print_number, print_truth, print_text}
+use Rattle.jn_sound.specs.Takes.{Moves, same, named, wider, unseen, Takes, push, this, read, invert, negate, operate, get, call, shared, null_view, null_on_path, granted, put, unmask, local, assign, make, make_with, super, print_number, print_truth, print_text}
 use Rattle.jn_sound.specs.Steps.{entered, GoesAt, CallsAt, DidAt, Standing}
 use Rattle.jn_sem.specs.Acts.{Return, todo}
 use Rattle.std.specs.Prelude.{false, true}
@@ -29,6 +29,8 @@ use Rattle.jn_sound.proofs.Acts.{literal_fits}
 use Rattle.jn_sound.proofs.Simple.{read_at, invert_at, negate_at, operate_at, print_number_at, print_truth_at}
 use Rattle.jn_sound.proofs.SharedViews.{shared_at, null_view_at}
 use Rattle.jn_sound.proofs.Puts.{put_at}
+use Rattle.jn_sound.proofs.Unmasks.{unmask_at}
+use Rattle.jn_sound.proofs.HeaderViews.{granted_at}
 use Rattle.jn_sound.proofs.Assigns.{assign_at}
 use Rattle.jn_sound.proofs.Makes.{make_at}
 use Rattle.jn_sound.proofs.MakesWith.{make_with_at}
@@ -51,7 +53,8 @@ use Rattle.std.specs.Prelude.{take, ◌≤◌}
 use Rattle.jn_base.specs.Scopes.{Scope}
 use Rattle.jn_base.specs.Fits.{BindsFit}
 use Rattle.jn_sem.specs.Sets.{no_views}
-use Rattle.jn_sound.specs.Fit.{Narrowed, Covers}
+use Rattle.jn_sound.specs.KnownScopes.{Covers}
+use Rattle.jn_sound.specs.Fit.{Narrowed}
 use Rattle.jn_sound.proofs.Known.{stands_named, stands_unseen, stands_narrow}
 use Rattle.jn_sound.proofs.Acts.{this_operand}
 use Rattle.jn_sound.proofs.GetStep.{goes_at, get_at}
@@ -84,8 +87,9 @@ pub takes_did : {p : Program} {h : Heap} {f : Frame} {x : Header} {vs us : List 
     → Laws p → (m : ℕ) (k : List Todo)
     → Takes p (body_in (body_of f) x) vs a t us z → HeapFits p h → StandsAt p h f x vs t → Sure (DidAt p h f x us k z)
     (Does p m a (now (length vs) k f) h)
-takes_did {p} {h} {f} n m k (push {s = s} v t l) hf a =
-    sure_it _ (surely (goes_at hf a.stands k _ (v ∷ f.vals) (one (literal_fits p h s _ v t l) a.stands.operands)))
+takes_did {p} {h} {f} {vs = vs} n m k (push {s = s} v t l) hf a =
+    sure_it _ (surely (goes_at hf a.stands k _ (v ∷ f.vals) (one (literal_fits p (take
+    (length vs) f.vars) h s _ v t l) a.stands.operands)))
 takes_did {f = f} n m k (this fits) hf a =
     sure_it _ (surely (goes_at hf a.stands k _ (f.this ∷ f.vals)
     (one (this_operand a.stands.in_scope fits) a.stands.operands)))
@@ -99,15 +103,18 @@ takes_did n m k (call name count keeps t q qs args c i free e af kf fits) hf a =
 takes_did n m k (shared term t y q c root is sh fits) hf a = shared_at n hf m k term t y q c root is sh fits a.stands
 takes_did n m k (null_view term y q root is fits) hf a = null_view_at n hf m k term y q root is fits a.stands
 takes_did n m k (null_on_path term y q hp long is fits) hf a = null_on_path_at hf m k term y q hp long is fits a.stands
+takes_did n m k (granted term t y q c there grant) hf a = granted_at n hf m k term t y q c there grant a.stands
 takes_did n m k (put y t q r c i) hf a = put_at n hf m k y t q r c i a.stands
+takes_did n m k (unmask y t q r c masks i formed kept) hf a =
+    unmask_at n hf m k y t q r c masks i formed kept a.stands
 takes_did n m k (local fixed term y path t q is small free fits hp) hf a =
     local_at n hf m k fixed term y path t q is small free fits hp a.stands
 takes_did n m k (assign y v q e may) hf a = assign_at n hf m k y v q e may a.stands
 takes_did n m k (make term keeps y is new fits) hf a = make_at n hf m k term keeps y is new fits a.stands
 takes_did n m k (make_with term count keeps y q qs args c is new b unused e af fits) hf a =
     make_with_at n hf m k term count keeps y q qs args c is new b unused e af fits a.stands
-takes_did n m k (super term y count keeps qs args c is class higher callee none e af kf fits) hf a =
-    super_at n hf m k term y count keeps qs args c is class higher callee none e af kf fits a.stands
+takes_did n m k (super term y count keeps qs args c z is callee grant e af kf fits) hf a =
+    super_at n hf m k term y count keeps qs args c z is callee grant e af kf fits a.stands
 takes_did n m k (print_number q) hf a = print_number_at hf m k q a.stands
 takes_did n m k (print_truth q) hf a = print_truth_at hf m k q a.stands
 takes_did {p} {f = f} {vs = vs} n m k (print_text t y e) hf a =
@@ -143,7 +150,8 @@ standing_leaves {p} {e} {f = f} {i = i} {v = v} a l =
     record { heap = l.heap; no_null = a.no_null; header = l.header; is_header = header; leaves = at v l.gives } where
       header : IsHeader p (body_of e) l.header
       header = subst (λ (m : Method). IsHeader p (record { class = e.class; method = m }) l.header) a.stays.method
-          (subst (λ (Q : Path). IsHeader p (record { class = Q; method = f.method }) l.header) a.stays.class l.is_header)
+          (subst (λ (Q : Path). IsHeader p
+          (record { class = Q; method = f.method }) l.header) a.stays.class l.is_header)
 
       at : (v : Option Value) → LeavesFit p i f l.header v → LeavesFit p i e l.header v
       at None g = g
@@ -193,7 +201,8 @@ standing_ends {p} {e} {x} {f = f} {h = h} a none =
 
       header : IsHeader p (body_of e) x
       header = subst (λ (m : Method). IsHeader p (record { class = e.class; method = m }) x) a.stays.method
-          (subst (λ (Q : Path). IsHeader p (record { class = Q; method = f.method }) x) a.stays.class a.at.stands.is_header)
+          (subst (λ (Q : Path). IsHeader p
+          (record { class = Q; method = f.method }) x) a.stays.class a.at.stands.is_header)
 
 -- a result
 pub standing_returns : {p : Program} {e : Frame} {x : Header} {vs : List Var} {t : Typing} {f : Frame} {h : Heap} →

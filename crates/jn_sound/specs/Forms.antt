@@ -1,4 +1,5 @@
--- What the rules say of an answer, of a field and of a call, as what moves and what an act takes: the rules turned round.
+-- What the rules say of an answer, of a field and of a call, as what moves and what an act takes: the rules turned
+-- round.
 use Rattle.std.specs.Prelude.{◌≡◌, ◌<◌, ℕ, List, [], ◌∷◌, length, true, Some, Ok}
 use Rattle.jn_base.specs.declared.tree.Name.{Name}
 use Rattle.jn_base.specs.declared.tree.Expr.{Expr}

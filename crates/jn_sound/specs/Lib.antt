@@ -1,4 +1,5 @@
 pub mod Callees
+pub mod KnownScopes
 pub mod Takes
 pub mod Fit
 pub mod Sound

@@ -52,7 +52,8 @@ SoundFrom =
 
 -- ---- what it follows from
 
--- A program's first state is Sound, and each charge of a Sound state surely leads to a Sound state, or ends the run and is not Stuck.
+-- A program's first state is Sound, and each charge of a Sound state surely leads to a Sound state, or ends the run
+-- and is not Stuck.
 pub record StaysSound (p : Program) : Type 0 where
   pub first : Sound p start
   pub next : (capacity depth : ℕ) (s : Running) (x : Then) → Sound p s → Charge p capacity depth s x
@@ -61,7 +62,8 @@ pub record StaysSound (p : Program) : Type 0 where
 abbrev pub ChargesKeepSound : Type 0
 ChargesKeepSound = (p : Program) → IsWithinLimits p → TreePasses p → Needs p → StaysSound p
 
--- One rule an act: where a frame stands as the act takes it, it surely does what leads to where it stands as the act gives it.
+-- One rule an act: where a frame stands as the act takes it, it surely does what leads to where it stands as the act
+-- gives it.
 abbrev pub ActsLeadOn : Type 0
 ActsLeadOn =
     (p : Program) → IsWithinLimits p → TreePasses p → Needs p → (capacity : ℕ) (h : Heap) (f : Frame) (x : Header)

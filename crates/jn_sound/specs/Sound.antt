@@ -31,7 +31,7 @@ use Rattle.jn_sem.specs.Holds.{Sides}
 use Rattle.jn_base.specs.Atoms.{atom_of}
 use Rattle.std.specs.Prelude.{Ok}
 use Rattle.jn_rules.specs.Stmts.{body_in, is_void}
-use Rattle.jn_sound.specs.Takes.{Opd, Typing}
+use Rattle.jn_sound.specs.Takes.{Opd, Typing, OwnPaths}
 use Rattle.jn_sound.specs.Fit.{Fits}
 use Rattle.jn_laws.specs.Surely.{Surely}
 use Rattle.jn_laws.specs.Reading.{RefersTo, IsReal, SlotFits}
@@ -79,6 +79,7 @@ pub record InScope (p : Program) (h : Heap) (f : Frame) (w : Views) (vs : List V
   pub seen : (x : Variable) → Among f.vars x → frame_views f x.var.path ≡ view_in x.value
   pub small : (x : Variable) → Among f.vars x → x.var.path < 256
   pub no_null : has_null_path f.vars ≡ false
+  pub own : OwnPaths vs
   pub this : ThisFits p h f
 
 -- the frame without the variables of blocks that have ended
@@ -91,19 +92,23 @@ result_views f = frame_views (cut (length f.method.params) f)
 
 -- ---- operands
 
-pub record OperandFits (p : Program) (h : Heap) (s : Scope) (v : Views) (o : Opd) (value : Value) : Type 0 where
+pub record OperandFits (p : Program) (xs : List Variable) (h : Heap) (s : Scope) (v : Views) (o : Opd)
+    (value : Value) : Type 0 where
   -- its type and its path are of the scope
   pub fits : TypeFits s o.ty
   pub bound : (q : ℕ) → o.path ≡ Some q → Binds s q
   pub is_in : IsIn p v h o.ty value
   pub real : IsReal p h value
   pub path : (q : ℕ) → o.path ≡ Some q → v q ≡ view_in value
+  -- a path that is a variable has the variable's value
+  pub held : (x : Variable) → Among xs x → o.path ≡ Some x.var.path → value ≡ x.value
 
--- the latest operands; nothing is known of those before them
-pub data OperandsFit (p : Program) (h : Heap) (s : Scope) (v : Views) : List Opd → List Value → Type 0 where
-  none : {vs : List Value} → OperandsFit p h s v [] vs
-  one : {o : Opd} {ops : List Opd} {x : Value} {vs : List Value} → OperandFits p h s v o x
-      → OperandsFit p h s v ops vs → OperandsFit p h s v (o ∷ ops) (x ∷ vs)
+-- the latest operands, where these variables are in scope; nothing is known of those before them
+pub data OperandsFit (p : Program) (xs : List Variable) (h : Heap) (s : Scope) (v : Views)
+    : List Opd → List Value → Type 0 where
+  none : {vs : List Value} → OperandsFit p xs h s v [] vs
+  one : {o : Opd} {ops : List Opd} {x : Value} {vs : List Value} → OperandFits p xs h s v o x
+      → OperandsFit p xs h s v ops vs → OperandsFit p xs h s v (o ∷ ops) (x ∷ vs)
 
 abbrev pub body_of : Frame → Body
 body_of f = record { class = f.class; method = f.method }
@@ -116,14 +121,15 @@ pub record Stands (p : Program) (h : Heap) (f : Frame) (x : Header) (vs : List V
   pub params : take (length f.method.params) vs ≡ x.vars
   pub all_params : length f.method.params ≤ length vs
   pub in_scope : InScope p h (cut (length vs) f) w vs s
-  pub operands : OperandsFit p h s (all_views (cut (length vs) f) w) ops f.vals
+  pub operands : OperandsFit p (take (length vs) f.vars) h s (all_views (cut (length vs) f) w) ops f.vals
 
 -- with some views of the fresh paths
 pub record StandsAt (p : Program) (h : Heap) (f : Frame) (x : Header) (vs : List Var) (t : Typing) : Type 0 where
   pub fresh : Views
   pub stands : Stands p h f x vs t.scope t.ops fresh
 
--- what a step of the frame at work may do: it is said of the frame before the step, and of what is still to be shown of it
+-- what a step of the frame at work may do: it is said of the frame before the step, and of what is still to be shown
+-- of it
 pub record Stays (p : Program) (f g : Frame) : Type 0 where
   pub class : g.class ≡ f.class
   pub method : g.method ≡ f.method
@@ -156,11 +162,11 @@ pub record Works (p : Program) (h : Heap) (f : Frame) (k : List Todo) : Type 0 w
   pub ops : List Opd
   pub fresh : Views
   pub in_scope : InScope p h (cut (length vars) f) fresh vars scope
-  pub operands : OperandsFit p h scope (all_views (cut (length vars) f) fresh) ops f.vals
+  pub operands : OperandsFit p (take (length vars) f.vars) h scope (all_views (cut (length vars) f) fresh) ops f.vals
   pub fits : Fits p (body_in (body_of f) header) k vars scope ops
 
--- A body that waits for the frame g, which goes on from the frame with which its body was entered: with whatever that gives back, in
--- any later heap, it stands where what it has still to do fits.
+-- A body that waits for the frame g, which goes on from the frame with which its body was entered: with whatever that
+-- gives back, in any later heap, it stands where what it has still to do fits.
 pub record Waits (p : Program) (h : Heap) (g f : Frame) : Type 0 where
   pub entry : Frame
   pub stays : Stays p entry g

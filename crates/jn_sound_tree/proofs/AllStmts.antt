@@ -1,5 +1,6 @@
--- Statements one after the other, and the statements that fit so far.
+-- Statements one after the other.
 use Rattle.std.proofs.Common.{◌≡◌, ◌≤◌, arith, List, [], ◌∷◌, length, Bool, true, false, ◌⊎◌, inl, inr, refl, sym, subst}
+use Rattle.jn_base.specs.declared.tree.Stmt.{Stmt}
 use Rattle.std.specs.Prelude.{◌||◌, Ok}
 use Rattle.jn_base.specs.declared.tree.Program.{Program}
 use Rattle.jn_base.specs.Atoms.{first, later}
@@ -11,9 +12,9 @@ use Rattle.jn_rules.specs.Stmts.{In, Before, stmt_types, stmts_type, stops, all_
 use Rattle.jn_rules.proofs.FormLaws.{forms_are}
 use Rattle.jn_rules.proofs.PlanLaws.{then_came}
 use Rattle.jn_sound.specs.Fit.{Fits}
-use Rattle.jn_sound_tree.specs.Stmts.{StmtKnown, StmtGoes, InOrder, StatementsFit}
-use Rattle.jn_sound_tree.proofs.Stmts.{prints, prints_text, returns, same_before}
-use Rattle.jn_sound_tree.proofs.Locals.{local_fits}
+use Rattle.jn_sound.specs.KnownScopes.{StmtKnown}
+use Rattle.jn_sound_tree.specs.Stmts.{StmtGoes, EachFits, InOrder}
+use Rattle.jn_sound_tree.proofs.Stmts.{same_before}
 use Rattle.jn_sound_tree.proofs.Behind.{all_move}
 
 -- the first one stops, or those behind it do
@@ -21,8 +22,8 @@ pub either_stops : (a c : Bool) → (a || c) ≡ true → (a ≡ true) ⊎ (c �
 either_stops true c e = inl refl
 either_stops false c e = inr e
 
-pub in_order : (p : Program) (b : In) → InOrder p b
-in_order p b [] fit others x y known few g = (
+pub in_order : (p : Program) (b : In) (ss : List Stmt) → EachFits p b ss → InOrder p b ss
+in_order p b [] fit inside x y known few g = (
   subst (StmtKnown p b) (sym is) known,
   λ k f. subst (λ (z : List Todo). Fits p b z x.vars x.scope [])
       (sym (acts_are.stmts (length x.vars) x.next [] k).none) (at k f),
@@ -35,13 +36,13 @@ in_order p b [] fit others x y known few g = (
     no : false ≡ true → ⊥
     no e = cc
   at k (inr f) = subst (λ (z : Before). Fits p b k z.vars z.scope []) is f
-in_order p b (s ∷ ss) fit others x y known few g =
+in_order p b (s ∷ ss) fit inside x y known few g =
     let c = then_came (stmt_types b s x) (stmts_type b ss) y
     (subst (λ (z : Plan Before). Gives p z (Ok y)) ((forms_are.stmts b x).more s ss) g) in
     let small : c.first.next ≤ 256 =
     (let l = (all_move p b ss c.first y c.then).grows in omega (arith, few, l)) in
-    let one = fit s first x c.first known small others c.gave in
-    let rest = in_order p b ss (λ z m. fit z (later m)) others c.first y one.known few c.then in
+    let one = fit s first x c.first known small (inside s first) c.gave in
+    let rest = in_order p b ss (λ z m. fit z (later m)) (λ z m. inside z (later m)) c.first y one.known few c.then in
     (rest.0, λ k f. joined k c.first one (rest.1 k) f) where
       joined : (k : List Todo) (m : Before) → StmtGoes p b s x m →
           ((all_stop ss ≡ true) ⊎ Fits p b k y.vars y.scope [] → Fits p b
@@ -54,15 +55,3 @@ in_order p b (s ∷ ss) fit others x y known few g =
             (stmts_acts (length x.vars) x.next (s ∷ ss) k) x.vars x.scope []
         at (inl w) = one.fits ss k (inl w)
         at (inr w) = one.fits ss k (inr (rest (inl w)))
-
-pub statements_fit : StatementsFit
-statements_fit p b deep formed = (
-  record {
-    prints = prints p b deep formed;
-    prints_text = prints_text p b deep formed;
-    returns =
-        returns p b deep formed;
-  },
-  local_fits p b deep formed,
-  in_order p b,
-)

@@ -32,7 +32,7 @@ use Rattle.jn_rules.proofs.PlanLaws.{then_came, wanted, took, found_was}
 use Rattle.jn_member_laws.specs.LawsOfForms.{Grown, none as none_more, more as one_more}
 use Rattle.jn_sound_tree.specs.Behind.{BindApart, MasksApart, none as apart_none, one as apart_one, Over, Moved, StatementsMove}
 use Rattle.jn_sound_tree.proofs.Stmts.{same_before}
-use Rattle.jn_sound_tree.proofs.MaskSets.{formed_of, mask_small}
+use Rattle.jn_sound.proofs.MaskSets.{formed_of, mask_small}
 use Rattle.jn_sound_tree.proofs.Locals.{noted}
 
 -- ---- scopes
@@ -139,7 +139,7 @@ remasked_apart o b m a w = let r = remasked_as m b.ty in record {
 bind_itself : (b : Bind) → BindApart b b
 bind_itself b = record { path = refl; atoms = refl; class = refl; plain = λ e. refl; fewer = λ i h. h }
 
-masks_apart : (s : Scope) (q : ℕ) (m : Masks) → MasksWithin m (masks_at s q) → MasksApart s (with_masks s q m)
+pub masks_apart : (s : Scope) (q : ℕ) (m : Masks) → MasksWithin m (masks_at s q) → MasksApart s (with_masks s q m)
 masks_apart [] q m w = apart_none
 masks_apart (b ∷ s) q m w = at (nat_eq q b.path) w (masks_apart s q m) where
   at : (c : Bool) → MasksWithin m (cond c (masks_of b.ty) (masks_at s q))

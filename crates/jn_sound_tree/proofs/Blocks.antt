@@ -17,8 +17,6 @@ use Rattle.jn_base.specs.Fits.{BindsFit}
 use Rattle.jn_base.specs.Resolve.{is_class}
 use Rattle.jn_sem.specs.Acts.{Todo, todo, Repeat, acts, stmts_acts, path_behind}
 use Rattle.jn_sem.proofs.ActLaws.{acts_are}
-use Rattle.jn_laws.specs.LawsOfWritten.{Shallow}
-use Rattle.jn_laws.specs.LawsOfSources.{WellFormed}
 use Rattle.jn_laws.specs.LawsOfScopes.{ScopesAlike, none as alike_none, one as alike_one}
 use Rattle.jn_laws.proofs.AlikeScopes.{alike_back, binds_like, bound_like, fits_like, binds_fit_like}
 use Rattle.jn_rules.specs.Plans.{done}
@@ -30,12 +28,15 @@ use Rattle.jn_rules.proofs.PlanLaws.{then_came, wanted}
 use Rattle.jn_member_laws.specs.LawsOfForms.{Grown, none as none_grown, more as more_grown, TypeKnown}
 use Rattle.jn_sound.specs.Takes.{opd}
 use Rattle.jn_sound.specs.Fit.{Fits, Narrowed, IsLoop, narrows, repeat, dropped}
-use Rattle.jn_sound_tree.specs.Tree.{GoesTo, as_they_are, OtherForms, here_in}
-use Rattle.jn_sound_tree.specs.Stmts.{MasksFormed, StmtKnown, StmtGoes, StmtFits}
+use Rattle.std.proofs.lemmas.List.Elements.{Contains-append_left}
+use Rattle.jn_base.specs.Forms.{Termed, of_expr}
+use Rattle.jn_base.proofs.FormEquations.{at_while}
+use Rattle.jn_body_laws.specs.BodyForms.{TermsNamed}
+use Rattle.jn_sound.specs.KnownScopes.{here_in, MasksFormed, StmtKnown, StandsIn, in_block}
+use Rattle.jn_sound_tree.specs.Tree.{GoesTo, as_they_are}
+use Rattle.jn_sound_tree.specs.Stmts.{BodyKnown, StmtGoes, StmtFits, EachFits}
 use Rattle.jn_sound_tree.specs.Behind.{MasksApart, none as apart_none, one as apart_one, Over, Moved}
-use Rattle.jn_sound_tree.specs.Blocks.{EachFits}
-use Rattle.jn_sound_tree.proofs.Scopes.{grown_binds, grown_among}
-use Rattle.jn_sound_tree.proofs.Exprs.{by_tree}
+use Rattle.jn_sound_tree.proofs.Scopes.{grown_binds, grown_among, no_ops}
 use Rattle.jn_sound_tree.proofs.Stmts.{narrowed_itself, narrowed_fresh, same_before, stops_by, passed, asked}
 use Rattle.jn_sound_tree.proofs.Behind.{apart_itself, left_over, all_move, blocks_move}
 use Rattle.jn_sound_tree.proofs.AllStmts.{in_order}
@@ -119,7 +120,7 @@ known_at p b x known s n apart masks plain more few = record {
   numbered q (inl e) = omega (arith, e)
   numbered q (inr v) = let k = known.older v.0 v.1 in let e = v.2 in omega (arith, k, e, more, few)
 
-module _ (p : Program) (b : In) (deep : Shallow p) (formed : WellFormed p) where
+module _ (p : Program) (b : In) (its : BodyKnown p b) where
   -- ---- a block
 
   -- what is known behind a block
@@ -140,15 +141,15 @@ module _ (p : Program) (b : In) (deep : Shallow p) (formed : WellFormed p) where
     pub fits : (k : List Todo) → (all_stop ss ≡ true) ⊎ Fits p b k x.vars y.scope [] → Fits p b
         (stmts_acts (length x.vars) x.next ss k) x.vars x.scope []
 
-  pub block_goes : (ss : List Stmt) → EachFits p b ss → ((vs : List Var) → OtherForms p b (here_in b vs))
+  pub block_goes : (ss : List Stmt) → EachFits p b ss → ((s : Stmt) → Among ss s → StandsIn b.method.body s)
       → (x y : Before)
       → StmtKnown p b x → y.next ≤ 256 → Gives p (block_typed (map (stmt_types b) ss) x) (Ok y) → BlockGoes ss x y
-  block_goes ss each others x y known few g =
+  block_goes ss each inside x y known few g =
       let c = then_came (run_through (map (stmt_types b) ss) x) (λ z. done (out_of x z)) y g in
       let is = same_before (out_of x c.first) y c.then in
       let m = all_move p b ss x c.first c.gave in
       let small : c.first.next ≤ 256 = subst (λ (z : Before). z.next ≤ 256) is few in
-      let go = in_order p b ss each others x c.first known small c.gave in
+      let go = in_order p b ss each inside x c.first known small c.gave in
       subst (BlockGoes ss x) (sym (is ∙ ap (λ (s : Scope). with_scope x s c.first.next) (left_over x c.first m.over)))
       (goes c.first m small go.0 go.1) where
         goes : (z : Before) (m : Moved x z (path_behind ss x.next)) → z.next ≤ 256 → StmtKnown p b z
@@ -173,9 +174,9 @@ module _ (p : Program) (b : In) (deep : Shallow p) (formed : WellFormed p) where
               out.scope.scope.binds out.covers w)
 
   pub block_fits : (ss : List Stmt) → EachFits p b ss → StmtFits p b (stmt.Block ss)
-  block_fits ss each x y known few others g =
-      let go = block_goes ss each others x y known few
-      (asked p b deep formed (stmt.Block ss) x y _ ((forms_are.stmts b x).block ss) g) in
+  block_fits ss each x y known few inside g =
+      let go = block_goes ss each (λ s m. in_block ss inside m) x y known few
+      (asked p b its (stmt.Block ss) x y _ ((forms_are.stmts b x).block ss) g) in
       record { known = go.known; fits = λ us k f. fits go us k f } where
         stop : all_stop ss ≡ stops (stmt.Block ss)
         stop = sym (stops_by (Stmt-F.Block ss) (stmt.Block ss) (stmt.rolls-Block ss))
@@ -204,27 +205,32 @@ module _ (p : Program) (b : In) (deep : Shallow p) (formed : WellFormed p) where
   bool_is ty.Void e = cc
   bool_is (ty.Class xs m) e = cc
 
+  -- the terms of a loop's condition
+  pub condition_named : (e : Expr) (body : List Stmt) (at : Place) → StandsIn b.method.body (stmt.While e body at)
+      → TermsNamed (of_expr e)
+  condition_named e body at inside t c =
+      subst TermsNamed (at_while e body at) (its.formed (stmt.While e body at) inside).terms t
+      (Contains-append_left (of_expr e) _ (Termed t) c)
+
   pub loop_fits : (e : Expr) (body : List Stmt) (at : Place) → StmtFits p b (stmt.While e body at)
-  loop_fits e body at x y known few others g =
-      let a = asked p b deep formed (stmt.While e body at) x y _ ((forms_are.stmts b x).loop e body at) g in
+  loop_fits e body at x y known few inside g =
+      let a = asked p b its (stmt.While e body at) x y _ ((forms_are.stmts b x).loop e body at) g in
       let c = then_came (typed b x e x.scope) _ y a in
       let w = wanted (is_bool c.first.ty) _ (loop_typed (map (stmt_types b) body) x) y c.then in
       let d = then_came (block_typed (map (stmt_types b) body) x) _ y w.then in
       let l = blocks_move p b body x d.first d.gave in
       let is = same_before _ y d.then in
       let small : d.first.next ≤ 256 = subst (λ (z : Before). z.next ≤ 256) is few in
-      let one = by_tree p b (here_in b x.vars) deep formed (others x.vars) e x.scope c.first known.scope c.gave in
+      let one = its.exprs x.vars e (condition_named e body at inside) x.scope c.first known.scope c.gave in
       subst (StmtGoes p b (stmt.While e body at) x) (sym is)
       (goes c.first w.test one d.first.next l.next l.grows small (record {
-        scoped = record {
-          binds = known.scope.scope.binds;
-          covers = known.covers;
-          paths = known.scope.site.paths;
-          older = known.older;
-          small = (let k = l.grows in omega (arith, k, small));
-        };
+        known = known;
+        method = its.method;
+        at = at;
+        inside = inside;
         after = y;
         typed = a;
+        few = few;
       })) where
         goes : (t : Typed) → is_bool t.ty ≡ true → GoesTo p b (here_in b x.vars) (acts (length x.vars) e) x.scope
             as_they_are t → (n : ℕ) → n ≡ path_behind body x.next → x.next ≤ n → n ≤ 256 → IsLoop p b x.vars x.scope
@@ -242,7 +248,7 @@ module _ (p : Program) (b : In) (deep : Shallow p) (formed : WellFormed p) where
           fits ss k f =
               subst (λ (z : List Todo). Fits p b z x.vars x.scope [])
               (sym ((acts_are.stmts (length x.vars) x.next ss k).loop e body at))
-              (one.fits _ [] (subst (λ (u : Ty). is_void u ≡ false) (sym (bool_is t.ty w)) refl)
+              (one.fits _ [] (no_ops x.scope) (subst (λ (u : Ty). is_void u ≡ false) (sym (bool_is t.ty w)) refl)
               (subst (λ (u : Ty). Fits p b
               (todo (length x.vars) (Repeat x.next e body) ∷ stmts_acts (length x.vars) (path_behind body x.next) ss k)
               x.vars t.scope (opd u t.path ∷ [])) (sym (bool_is t.ty w))

@@ -1,5 +1,5 @@
 -- The arguments of a call, one after the other, and the call.
-use Rattle.std.proofs.Common.{◌≡◌, ℕ, suc, pred, List, [], ◌∷◌, ◌++◌, length, Option, Some, Bool, true, false, refl, sym, ap, ◌∙◌, subst, arith, append_assoc}
+use Rattle.std.proofs.Common.{◌≡◌, ℕ, suc, pred, List, [], ◌∷◌, ◌++◌, length, Option, Some, Bool, true, false, ◌⊎◌, inl, inr, refl, sym, ap, ◌∙◌, subst, arith, append_assoc}
 use Rattle.std.specs.Prelude.{◌+◌, Result, Ok, Err}
 use Rattle.std.proofs.lemmas.List.{append-nil}
 use Rattle.jn_base.specs.declared.tree.Program.{Program}
@@ -8,8 +8,8 @@ use Rattle.jn_base.specs.declared.types.Ty.{Ty}
 use Rattle.jn_base.specs.declared.types.Ty.TheVariants as ty
 use Rattle.jn_base.specs.declared.names.Var.{Var}
 use Rattle.jn_base.specs.declared.refusal.Refusal.{Refusal}
-use Rattle.jn_base.specs.Atoms.{atoms_in, first, later}
-use Rattle.jn_base.specs.Scopes.{Scope}
+use Rattle.jn_base.specs.Atoms.{atoms_in, Among, first, later}
+use Rattle.jn_base.specs.Scopes.{Scope, Binds}
 use Rattle.jn_base.specs.Fits.{BindsFit, AtomsFit, IsClassType}
 use Rattle.jn_base.specs.Resolve.{is_class}
 use Rattle.jn_sem.specs.Acts.{Todo, acts}
@@ -18,6 +18,7 @@ use Rattle.jn_sem.specs.Does.{Body}
 use Rattle.jn_sem.specs.LawsOfActs.{args_acts}
 use Rattle.jn_sem.proofs.Under.{type_anchored}
 use Rattle.jn_laws.specs.LawsOfFits.{AsDeep}
+use Rattle.jn_laws.specs.LawsOfWritten.{HeaderPath}
 use Rattle.jn_rules.specs.Plans.{Plan, IsBelow, ask, wants}
 use Rattle.jn_rules.specs.Questions.{Gives, Answers}
 use Rattle.jn_rules.specs.Headers.{Header}
@@ -28,8 +29,10 @@ use Rattle.jn_rules.proofs.PlanLaws.{then_came}
 use Rattle.jn_member_laws.specs.LawsOfForms.{PathKnown, PutFor, header_scope, ParamKnown, CallsOf}
 use Rattle.jn_sound.specs.Takes.{Opd, opd, opds_of, ArgsFit, none, one}
 use Rattle.jn_sound.specs.Fit.{Fits, moves}
-use Rattle.jn_sound_tree.specs.Tree.{ScopeKnown, Fresher, none as none_more, GoesTo, AllFit}
-use Rattle.jn_sound_tree.proofs.Scopes.{grown_of, fresher_joined, atom_grown, deep_grown, put_grown, put_behind}
+use Rattle.jn_sound.specs.KnownScopes.{ScopeKnown}
+use Rattle.jn_sound_tree.specs.Tree.{Fresher, none as none_more, OpsBound, GoesTo, AllFit}
+use Rattle.jn_sound_tree.proofs.NewPaths.{PathNew, path_new}
+use Rattle.jn_sound_tree.proofs.Scopes.{grown_of, grown_binds, fresher_joined, ops_grown, ops_with, some_bound, atom_grown, deep_grown, put_grown, put_behind}
 use Rattle.jn_sound_tree.proofs.Forms.{ArgMoved, arg_moved, not_void_below}
 
 -- ---- operands behind operands
@@ -44,6 +47,18 @@ taken_back : (os taken ops : List Opd) (n : ℕ) → opds_of (length os + n) tak
 taken_back [] taken ops n = ap (λ (i : ℕ). opds_of i taken ops) (omega arith)
 taken_back (a ∷ os) taken ops n =
     ap (λ (i : ℕ). opds_of i taken (pushed os (a ∷ ops))) (omega arith) ∙ taken_back os taken (a ∷ ops) (suc n)
+
+-- each of them is an argument or one below
+pub pushed_among : (os ops : List Opd) (o : Opd) → Among (pushed os ops) o → Among os o ⊎ Among ops o
+pushed_among [] ops o m = inr m
+pushed_among (a ∷ os) ops o m = at (pushed_among os (a ∷ ops) o m) where
+  below : (c : Opd) → Among (a ∷ ops) c → Among (a ∷ os) c ⊎ Among ops c
+  below _ first = inl first
+  below c (later n) = inr n
+
+  at : Among os o ⊎ Among (a ∷ ops) o → Among (a ∷ os) o ⊎ Among ops o
+  at (inl n) = inl (later n)
+  at (inr n) = below o n
 
 pub all_taken : (os ops : List Opd) (n : ℕ) → length os ≡ n → opds_of n [] (pushed os ops) ≡ Some (os, ops)
 all_taken os ops n e =
@@ -80,8 +95,11 @@ module _ (p : Program) (b : In) (h : Here) (m : Body) (c : Header) (calls : Call
     pub known : ScopeKnown p h passed.scope
     pub put : PutFor top passed.scope c.vars all
     pub fit : ArgsFit passed.scope from (r ∷ all) xs args paths
-    pub fits : (k : List Todo) (ops : List Opd) → Fits p b k h.vars passed.scope (pushed args ops) → Fits p b
-        (args_acts (length h.vars) es k) h.vars s ops
+    -- none has an older path that no variable has
+    pub apart : (old : ℕ) → Binds s old → (HeaderPath h.vars old → ⊥) → (o : Opd) → Among args o
+        → o.path ≡ Some old → ⊥
+    pub fits : (k : List Todo) (ops : List Opd) → OpsBound s ops → Fits p b k h.vars passed.scope (pushed args ops)
+        → Fits p b (args_acts (length h.vars) es k) h.vars s ops
 
   none_go : (done : List Var) (s : Scope) (r : ℕ) (qs : List ℕ) (passed : Passed) → c.vars ≡ done ++ [] →
       ScopeKnown p h s → PutFor top s done qs
@@ -99,7 +117,8 @@ module _ (p : Program) (b : In) (h : Here) (m : Body) (c : Header) (calls : Call
     known = k;
     put = subst (λ (vs : List Var). PutFor top s vs qs) (sym (is ∙ append-nil done)) put;
     fit = none;
-    fits = λ k ops f. f;
+    apart = λ old n free o m e. elim m [ ];
+    fits = λ k ops o f. f;
   }) where
     same : (let a : Result Passed Refusal = Ok passed in let z : Result Passed Refusal = Ok
         (record { paths = r ∷ qs; scope = s }) in a ≡ z) → passed ≡ record { paths = r ∷ qs; scope = s }
@@ -126,11 +145,12 @@ module _ (p : Program) (b : In) (h : Here) (m : Body) (c : Header) (calls : Call
   -- an argument, and those behind it
   one_goes : (x : Var) (xs : List Var) (e : Expr) (es : List Expr) (s : Scope) (r : ℕ) (qs : List ℕ) (passed : Passed)
       (t : Typed) (q : ℕ) (u : Scope)
+      → PathNew h s t
       → GoesTo p b h (acts (length h.vars) e) s (λ ops. ops) t → (k : ParamKnown m c x t.scope (r ∷ qs)) →
       Below p t.scope t.ty (put_in t.scope from (r ∷ qs) x.ty)
       → ArgMoved p h t (put_in t.scope from (r ∷ qs) x.ty) q u → ArgsGo xs es u r (qs ++ q ∷ []) passed → ArgsGo
       (x ∷ xs) (e ∷ es) s r qs passed
-  one_goes x xs e es s r qs passed t q u g k below a rest = record {
+  one_goes x xs e es s r qs passed t q u new g k below a rest = record {
     args = opd (put_in t.scope from (r ∷ qs) x.ty) (Some q) ∷ rest.args;
     paths = q ∷ rest.paths;
     all = rest.all;
@@ -144,10 +164,26 @@ module _ (p : Program) (b : In) (h : Here) (m : Body) (c : Header) (calls : Call
         (rest.split ∙ append_assoc qs (q ∷ []) rest.paths)
         ∙ k.settled passed.scope (q ∷ rest.paths)
         (grown_of (fresher_joined a.grown rest.grown)) rest.known.scope.binds)) refl rest.fit;
-    fits = λ w ops f. g.fits (args_acts (length h.vars) es w) ops
+    apart = λ old n free o i. apart old n free o i;
+    fits = λ w ops o f. g.fits (args_acts (length h.vars) es w) ops o
         (not_void t.ty (not_void_below p t.scope t.ty _ below))
-        (moves (a.moves ops) (rest.fits w (opd (put_in t.scope from (r ∷ qs) x.ty) (Some q) ∷ ops) f));
-  }
+        (moves (a.moves ops) (rest.fits w (opd (put_in t.scope from (r ∷ qs) x.ty) (Some q) ∷ ops)
+        (ops_with (opd (put_in t.scope from (r ∷ qs) x.ty) (Some q)) (some_bound u q a.path.bound_in)
+        (ops_grown (grown_of (fresher_joined g.grown a.grown)) o)) f));
+  } where
+    same : (old : ℕ) → Some q ≡ Some old → q ≡ old
+    same old e = cc
+
+    had : (old : ℕ) → Binds s old → (HeaderPath h.vars old → ⊥) → HeaderPath h.vars old ⊎ (Binds s old → ⊥) → ⊥
+    had old n free (inl i) = free i
+    had old n free (inr i) = i n
+
+    apart : (old : ℕ) → Binds s old → (HeaderPath h.vars old → ⊥) → (o : Opd)
+        → Among (opd (put_in t.scope from (r ∷ qs) x.ty) (Some q) ∷ rest.args) o → o.path ≡ Some old → ⊥
+    apart old n free _ first e = a.newer old (grown_binds (grown_of g.grown) old n)
+        (λ i. had old n free (new old i)) (same old e)
+    apart old n free o (later i) e = rest.apart old
+        (grown_binds (grown_of (fresher_joined g.grown a.grown)) old n) free o i e
 
   answered : (h : Here) (e : Expr) (ok : Bool) (T : Type 0) (go : Plan Passed) (passed : Passed) → Answers T ok →
       Gives p (wants ok (mismatch h e.at) go) (Ok passed) → T × Gives p go (Ok passed)
@@ -176,17 +212,19 @@ module _ (p : Program) (b : In) (h : Here) (m : Body) (c : Header) (calls : Call
       behind came.first
       (λ u q k2 d2 put2 g2. args_go es (λ z i. fit z (later i)) (done ++ x ∷ []) xs u r (qs ++ q ∷ []) passed
       (is ∙ sym (append_assoc done (x ∷ []) xs)) (ap pred n) k2 d2 put2 g2)
+      (path_new p h e s came.first k.numbered came.gave)
       (fit e first s came.first k came.gave) (answered h e came.then.0 _ _ passed came.then.1 came.then.2) where
         behind : (t : Typed)
             → ((u : Scope) (q : ℕ) → ScopeKnown p h u → AsDeep top u 0 r → PutFor top u (done ++ x ∷ []) (qs ++ q ∷ [])
             → Gives p (args_typed h from xs (typed_args h es) (r ∷ (qs ++ q ∷ [])) u) (Ok passed) → ArgsGo xs es u r
             (qs ++ q ∷ []) passed)
+            → PathNew h s t
             → GoesTo p b h (acts (length h.vars) e) s (λ ops. ops) t
             → Below p t.scope t.ty (put_in t.scope from (r ∷ qs) x.ty) × Gives p
             (args_typed h from xs (typed_args h es) ((r ∷ qs) ++ (arg_passed from (r ∷ qs) x t).path ∷ [])
             (arg_passed from (r ∷ qs) x t).scope) (Ok passed)
             → ArgsGo (x ∷ xs) (e ∷ es) s r qs passed
-        behind t again go w =
+        behind t again new go w =
             let at : BindsFit t.scope = go.known.scope.scope.binds in
             let pk = calls.param done xs x t.scope r qs is at (deep_grown (grown_of go.grown) at d)
             (put_grown (grown_of go.grown) at put) in
@@ -194,7 +232,7 @@ module _ (p : Program) (b : In) (h : Here) (m : Body) (c : Header) (calls : Call
             let binds : BindsFit (arg_passed from (r ∷ qs) x t).scope = a.known.scope.binds in
             let g2 = fresher_joined go.grown a.grown in
             one_goes x xs e es s r qs passed t (arg_passed from (r ∷ qs) x t).path
-            (arg_passed from (r ∷ qs) x t).scope go pk w.0 a
+            (arg_passed from (r ∷ qs) x t).scope new go pk w.0 a
             (again (arg_passed from (r ∷ qs) x t).scope (arg_passed from (r ∷ qs) x t).path a.known
             (deep_grown (grown_of g2) binds d)
             (put_behind x (arg_passed from (r ∷ qs) x t).path (put_grown (grown_of g2) binds put) a.path.bound_in

@@ -23,19 +23,21 @@ use Rattle.jn_rules.proofs.FormLaws.{forms_are}
 use Rattle.jn_rules.proofs.PlanLaws.{then_came, wanted}
 use Rattle.jn_sem.specs.Acts.{Todo, todo, Choose, acts, stmts_acts, path_behind}
 use Rattle.jn_sem.proofs.ActLaws.{acts_are}
-use Rattle.jn_laws.specs.LawsOfWritten.{Shallow}
-use Rattle.jn_laws.specs.LawsOfSources.{WellFormed}
 use Rattle.jn_sound.specs.Takes.{opd}
 use Rattle.jn_sound.specs.Fit.{Fits, Narrowed, none as narrow_none, kept, narrows, choose}
-use Rattle.jn_sound_tree.specs.Tree.{GoesTo, as_they_are, here_in}
-use Rattle.jn_sound_tree.specs.Stmts.{MasksFormed, StmtKnown, StmtGoes, StmtFits}
-use Rattle.jn_sound_tree.specs.Blocks.{EachFits}
-use Rattle.jn_sound_tree.proofs.Exprs.{by_tree}
+use Rattle.std.proofs.lemmas.List.Elements.{Contains-append_left}
+use Rattle.jn_base.specs.Forms.{Termed, of_expr}
+use Rattle.jn_base.proofs.FormEquations.{at_if}
+use Rattle.jn_body_laws.specs.BodyForms.{TermsNamed}
+use Rattle.jn_sound.specs.KnownScopes.{here_in, MasksFormed, StmtKnown, in_first, in_second}
+use Rattle.jn_sound_tree.specs.Tree.{GoesTo, as_they_are}
+use Rattle.jn_sound_tree.specs.Stmts.{BodyKnown, StmtGoes, StmtFits, EachFits}
+use Rattle.jn_sound_tree.proofs.Scopes.{no_ops}
 use Rattle.jn_sound_tree.proofs.Stmts.{take_all, ended, same_before, stops_by, asked}
 use Rattle.jn_sound_tree.specs.Behind.{BindApart, MasksApart, one as apart_one}
 use Rattle.jn_sound_tree.proofs.Blocks.{with_scope, known_at, BlockGoes, block_goes, bool_is}
 use Rattle.jn_sound_tree.proofs.Behind.{same_of, apart_itself, joined_apart, blocks_move}
-use Rattle.jn_sound_tree.proofs.MaskSets.{formed_of, mask_small}
+use Rattle.jn_sound.proofs.MaskSets.{formed_of, mask_small}
 
 -- ---- the masks of either
 
@@ -184,10 +186,10 @@ both_true : (x y : Bool) → (x && y) ≡ true → (x ≡ true) × (y ≡ true)
 both_true true y e = (refl, e)
 both_true false y e = cc
 
-module _ (p : Program) (b : In) (deep : Shallow p) (formed : WellFormed p) where
+module _ (p : Program) (b : In) (its : BodyKnown p b) where
   module _ (x : Before) (known : StmtKnown p b x) (one other : List Stmt) (y : Before)
-      (go : BlockGoes p b deep formed one x y) (z : Before) (next : StmtKnown p b (with_scope x x.scope y.next))
-      (to : BlockGoes p b deep formed other (with_scope x x.scope y.next) z) (s : Scope)
+      (go : BlockGoes p b its one x y) (z : Before) (next : StmtKnown p b (with_scope x x.scope y.next))
+      (to : BlockGoes p b its other (with_scope x x.scope y.next) z) (s : Scope)
       (ends : ScopesJoined y.scope z.scope s) (apart : MasksApart x.scope s) (more : x.next ≤ z.next)
       (few : z.next ≤ 256) where
     plain : (v : Var) → Among x.vars v → (v.fixed && is_class v.ty) ≡ false → Among s (bind v.path v.ty)
@@ -218,8 +220,8 @@ module _ (p : Program) (b : In) (deep : Shallow p) (formed : WellFormed p) where
 
   pub choice_fits : (e : Expr) (one other : List Stmt) (at : Place) → EachFits p b one → EachFits p b other
       → StmtFits p b (stmt.If e one other at)
-  choice_fits e one other at each too x y known few others g =
-      let a = asked p b deep formed (stmt.If e one other at) x y _ ((forms_are.stmts b x).choice e one other at) g in
+  choice_fits e one other at each too x y known few inside g =
+      let a = asked p b its (stmt.If e one other at) x y _ ((forms_are.stmts b x).choice e one other at) g in
       let c = then_came (typed b x e x.scope) _ y a in
       let w = wanted (is_bool c.first.ty) _
       (choice_typed (map (stmt_types b) one) (map (stmt_types b) other) x) y c.then in
@@ -234,13 +236,15 @@ module _ (p : Program) (b : In) (deep : Shallow p) (formed : WellFormed p) where
       let half : d.first.next ≤ 256 = (let i = m.grows in omega (arith, i, small)) in
       let again = known_at p b x known x.scope d.first.next (apart_itself x.scope) known.masks known.scope.plain
       l.grows half in
-      let go = block_goes p b deep formed one each others x d.first known half d.gave in
-      let to = block_goes p b deep formed other too others u k.first again small k.gave in
+      let go = block_goes p b its one each (λ s m. in_first e one other at inside m) x d.first known half d.gave in
+      let to = block_goes p b its other too (λ s m. in_second e one other at inside m) u k.first again small k.gave in
       let ends = scopes_joined p x.scope d.first.scope k.first.scope j.first go.apart to.apart
       go.known.scope.scope.binds to.known.scope.scope.binds
       go.known.masks to.known.masks j.gave in
       let apart = joined_apart p x.scope d.first.scope k.first.scope j.first go.apart to.apart j.gave in
-      let t = by_tree p b (here_in b x.vars) deep formed (others x.vars) e x.scope c.first known.scope c.gave in
+      let t = its.exprs x.vars e (λ t c. subst TermsNamed (at_if e one other at)
+      (its.formed (stmt.If e one other at) inside).terms t (Contains-append_left (of_expr e) _ (Termed t) c))
+      x.scope c.first known.scope c.gave in
       let more : x.next ≤ k.first.next = (let i = l.grows in let n = m.grows in omega (arith, i, n)) in
       subst (StmtGoes p b (stmt.If e one other at) x) (sym is) (record {
         known = behind x known one other d.first go k.first again to j.first ends apart more small;
@@ -261,9 +265,9 @@ module _ (p : Program) (b : In) (deep : Shallow p) (formed : WellFormed p) where
         fits t w go s n next one_way other_way ss k f =
             subst (λ (z : List Todo). Fits p b z x.vars x.scope [])
             (sym ((acts_are.stmts (length x.vars) x.next ss k).choice e one other at))
-            (go.fits _ [] (subst (λ (u : Ty). is_void u ≡ false) (sym (bool_is p b deep formed t.ty w)) refl)
+            (go.fits _ [] (no_ops x.scope) (subst (λ (u : Ty). is_void u ≡ false) (sym (bool_is p b its t.ty w)) refl)
             (subst (λ (u : Ty). Fits p b (todo (length x.vars) (Choose x.next one other) ∷ rest) x.vars t.scope
-            (opd u t.path ∷ [])) (sym (bool_is p b deep formed t.ty w))
+            (opd u t.path ∷ [])) (sym (bool_is p b its t.ty w))
             (choose x.next one other t.path refl
             (ended x [] known go.grown (one_way rest (each_way (all_stop one)
             (λ e. (both_true (all_stop one) (all_stop other) (stop ∙ e)).0) f)))

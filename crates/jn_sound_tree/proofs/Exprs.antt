@@ -1,6 +1,6 @@
 -- Each expression fits, by the tree.
-use Rattle.std.proofs.Common.{◌≡◌, ℕ, ℤ, List, [], ◌∷◌, length, map, Option, Some, None, Bool, true, false, refl, sym, ap, subst}
-use Rattle.std.specs.Prelude.{cond, nat_eq, ◌&&◌, Ok, reverse}
+use Rattle.std.proofs.Common.{◌≡◌, ℕ, ℤ, List, [], ◌∷◌, ◌++◌, length, map, Option, Some, None, Bool, true, false, inl, refl, sym, ap, subst}
+use Rattle.std.specs.Prelude.{cond, ◌&&◌, Ok}
 use Rattle.jn_base.specs.declared.tree.Name.{Name}
 use Rattle.jn_base.specs.declared.tree.Level.{Level}
 use Rattle.jn_base.specs.declared.tree.Place.{Place}
@@ -16,18 +16,18 @@ use Rattle.jn_base.specs.declared.types.Ty.{Ty}
 use Rattle.jn_base.specs.declared.types.Ty.TheVariants as ty
 use Rattle.jn_base.specs.declared.names.Role.TheVariants as role
 use Rattle.jn_base.specs.declared.names.Var.{Var}
-use Rattle.jn_base.specs.Parts.{expr}
+use Rattle.jn_base.specs.Parts.{expr, link}
 use Rattle.jn_base.specs.Atoms.{Among, first, later}
 use Rattle.jn_base.specs.Scopes.{Scope}
 use Rattle.jn_base.specs.Fits.{TypeFits}
-use Rattle.jn_base.specs.Resolve.{is_class, var_named, newest}
+use Rattle.jn_base.specs.Resolve.{is_class, var_named}
 use Rattle.jn_sem.specs.Acts.{Todo, todo, Push, This, Read, Invert, Negate, acts}
 use Rattle.jn_sem.specs.LawsOfActs.{parts_acts, suffix_acts, links_acts}
 use Rattle.jn_sem.specs.Values.{Value, Number, Truth, Null}
 use Rattle.jn_sem.proofs.ActLaws.{acts_are}
-use Rattle.jn_laws.specs.LawsOfWritten.{Shallow}
+use Rattle.jn_laws.specs.LawsOfWritten.{Shallow, HeaderPath}
 use Rattle.jn_laws.specs.LawsOfSources.{WellFormed}
-use Rattle.jn_laws.proofs.Terms.{Mentioned, this, variable, reverse_among}
+use Rattle.jn_laws.proofs.Terms.{Mentioned, this, variable, header_path}
 use Rattle.jn_rules.specs.Plans.{Plan}
 use Rattle.jn_rules.specs.Questions.{Gives}
 use Rattle.jn_rules.specs.Exprs.{Here, Typed, plain, of_path, path_type, var_typed, var_gives, is_int, is_bool, expr_types, suffixes_typed, links_typed}
@@ -40,31 +40,31 @@ use Rattle.jn_member_laws.proofs.KnownTypes.{path_known, of_path_known}
 use Rattle.jn_sound.specs.Takes.{Opd, opd, opd_of, IsLiteral, number, truth, null, push, read, invert, negate}
 use Rattle.jn_sound.specs.Takes.{this as takes_this}
 use Rattle.jn_sound.specs.Fit.{Fits, acts as act}
-use Rattle.jn_sound_tree.specs.Tree.{ScopeKnown, ExprKnown, none as none_more, GoesTo, as_they_are, ExprFits, OtherForms, here_in, ExpressionsFit}
+use Rattle.jn_sound.specs.KnownScopes.{ScopeKnown}
+use Rattle.jn_body_laws.specs.BodyForms.{TermsNamed, ExprFormed}
+use Rattle.jn_body_laws.proofs.ListedForms.{in_all}
+use Rattle.jn_base.specs.Forms.{Viewed, Termed, all_of, of_view, of_node, of_expr, of_link, of_suffix}
+use Rattle.jn_base.proofs.FormEquations.{at_new, at_super, at_post, at_inverse, at_negative, at_view, at_chain, at_expr, at_link, of_args, at_suffix}
+use Rattle.jn_base.proofs.NameTests.{first as in_first, later as in_later}
+use Rattle.std.proofs.lemmas.List.Elements.{Contains-append_left, Contains-append_right}
+use Rattle.jn_sound_tree.specs.Tree.{ExprKnown, none as none_more, GoesTo, as_they_are, ExprFits, AllFit, CallFits, OtherForms}
+use Rattle.jn_sound_tree.proofs.Variables.{found_among}
 use Rattle.jn_sound_tree.proofs.Scopes.{mentioned_there, declared_known}
 use Rattle.jn_sound_tree.proofs.Forms.{gave, ok_same}
-use Rattle.jn_sound_tree.proofs.Parts.{plain_type, plain_known, goes_as, goes_behind, stays_known, bool_is, part_goes, receiver_not_void, links_go, first_kept, ArgsFitToo}
-
-newest_among : (vs : List Var) (x : Name) (v : Var) → newest vs x ≡ Some v → Among vs v
-newest_among [] x v e = absurd (no e) where
-  no : ◌≡◌ {A = Option Var} None (Some v) → ⊥
-  no e = cc
-newest_among (w ∷ vs) x v e = at (nat_eq w.name.0 x.0) e (newest_among vs x v) where
-  same : Some w ≡ Some v → w ≡ v
-  same e = cc
-
-  at : (b : Bool) → cond b (Some w) (newest vs x) ≡ Some v → (newest vs x ≡ Some v → Among vs v) → Among (w ∷ vs) v
-  at true e again = subst (Among (w ∷ vs)) (same e) first
-  at false e again = later (again e)
+use Rattle.jn_sound_tree.proofs.Parts.{plain_type, plain_known, goes_as, goes_behind, stays_known, bool_is, kept_goes, part_goes, receiver_not_void, links_go, first_kept, ArgsFitToo}
 
 module _ (p : Program) (b : In) (h : Here) (deep : Shallow p) (formed : WellFormed p) where
   abbrev n : ℕ
   n = length h.vars
 
   -- what is asked of an expression in this form
-  asked : (e : Expr) (s : Scope) (t : Typed) (x : Plan Typed) → expr_types h e s ≡ x → Gives p (expr_types h e s)
+  pub asked : (e : Expr) (s : Scope) (t : Typed) (x : Plan Typed) → expr_types h e s ≡ x → Gives p (expr_types h e s)
       (Ok t) → Gives p x (Ok t)
   asked e s t x is g = subst (λ (y : Plan Typed). Gives p y (Ok t)) is g
+
+  -- a call whose value is kept
+  called_fits : (e : Expr) → CallFits p b h e → ExprFits p b h e
+  called_fits e go s t good g = kept_goes p b h deep formed (go s t good g)
 
   -- ---- literals, `this`, variables
 
@@ -73,7 +73,7 @@ module _ (p : Program) (b : In) (h : Here) (deep : Shallow p) (formed : WellForm
   literal_goes v u s t good l c e = subst (GoesTo p b h (λ k. todo n (Push v) ∷ k) s as_they_are) (sym e) (record {
     known = plain_known p h u s good (plain_type s u c);
     grown = none_more;
-    fits = λ k ops w f. act refl (push v u l) f;
+    fits = λ k ops o w f. act refl (push v u l) f;
   })
 
   path_goes : (q : ℕ) (s : Scope) → ScopeKnown p h s → Mentioned role.Value h.vars q → ExprKnown p h (of_path q s)
@@ -84,6 +84,7 @@ module _ (p : Program) (b : In) (h : Here) (deep : Shallow p) (formed : WellForm
         type = path_known s q good.scope.binds a.0 a.1;
         path = λ r e. subst (λ (z : ℕ). PathKnown s z (path_type s q)) (same r e) (of_path_known s q a.0);
         class = λ r e. refl;
+        mentioned = λ r e. inl (subst (HeaderPath h.vars) (same r e) (header_path role.Value h.vars q m));
       } where
         same : (r : ℕ) → Some q ≡ Some r → q ≡ r
         same r e = cc
@@ -112,7 +113,7 @@ module _ (p : Program) (b : In) (h : Here) (deep : Shallow p) (formed : WellForm
       goes_as (λ k. (acts_are.exprs at true n k).this)
       (subst (GoesTo p b h (λ k. todo n This ∷ k) s as_they_are)
       (sym (gave p (of_path 0 s) t (asked (expr at node.This) s t _ (forms_are.exprs h at s).this g)))
-      (record { known = known; grown = none_more; fits = λ k ops w f. act refl (takes_this known.type.fits) f }))
+      (record { known = known; grown = none_more; fits = λ k ops o w f. act refl (takes_this known.type.fits) f }))
 
   -- a variable, as a path or with its declared type
   var_known : (v : Var) (s : Scope) → ScopeKnown p h s → Among h.vars v → (c : Bool) → (v.fixed && is_class v.ty) ≡ c
@@ -128,7 +129,7 @@ module _ (p : Program) (b : In) (h : Here) (deep : Shallow p) (formed : WellForm
       → GoesTo p b h (λ k. todo n (Read x) ∷ k) s as_they_are (var_typed v s)
   var_goes x v s good named = by (v.fixed && is_class v.ty) refl where
     m : Among h.vars v
-    m = reverse_among h.vars v (newest_among (reverse h.vars) x v named)
+    m = found_among h.vars x v named
 
     reads : (o : Opd) → opd_of s v ≡ o → TypeFits s o.ty → (k : List Todo) (ops : List Opd) → Fits p b k h.vars s
         (o ∷ ops) → Fits p b (todo n (Read x) ∷ k) h.vars s ops
@@ -143,7 +144,7 @@ module _ (p : Program) (b : In) (h : Here) (deep : Shallow p) (formed : WellForm
         record {
           known = known;
           grown = none_more;
-          fits = λ k ops w f. reads (opd (path_type s v.path) (Some v.path))
+          fits = λ k ops o w f. reads (opd (path_type s v.path) (Some v.path))
               (ap (λ (c : Bool). cond c (opd (path_type s v.path) (Some v.path)) (opd v.ty None)) e) known.type.fits k
               ops f;
         }
@@ -152,7 +153,7 @@ module _ (p : Program) (b : In) (h : Here) (deep : Shallow p) (formed : WellForm
         record {
           known = known;
           grown = none_more;
-          fits = λ k ops w f. reads (opd v.ty None)
+          fits = λ k ops o w f. reads (opd v.ty None)
               (ap (λ (c : Bool). cond c (opd (path_type s v.path) (Some v.path)) (opd v.ty None)) e) known.type.fits k
               ops f;
         }
@@ -187,7 +188,7 @@ module _ (p : Program) (b : In) (h : Here) (deep : Shallow p) (formed : WellForm
         inverted x e known = record {
           known = plain_known p h ty.Bool x.scope known.scope (plain_type x.scope ty.Bool refl);
           grown = none_more;
-          fits = λ k ops v f. subst (λ (u : Ty). Fits p b (todo n Invert ∷ k) h.vars x.scope (opd u x.path ∷ ops))
+          fits = λ k ops o v f. subst (λ (u : Ty). Fits p b (todo n Invert ∷ k) h.vars x.scope (opd u x.path ∷ ops))
               (sym (bool_is p b h deep formed x.ty e)) (act refl (invert x.path) f);
         }
 
@@ -214,7 +215,7 @@ module _ (p : Program) (b : In) (h : Here) (deep : Shallow p) (formed : WellForm
         negated x e known = record {
           known = plain_known p h ty.Int x.scope known.scope (plain_type x.scope ty.Int refl);
           grown = none_more;
-          fits = λ k ops v f. subst (λ (u : Ty). Fits p b (todo n Negate ∷ k) h.vars x.scope (opd u x.path ∷ ops))
+          fits = λ k ops o v f. subst (λ (u : Ty). Fits p b (todo n Negate ∷ k) h.vars x.scope (opd u x.path ∷ ops))
               (sym (int_is x.ty e)) (act refl (negate x.path) f);
         }
 
@@ -275,11 +276,17 @@ module _ (p : Program) (b : In) (h : Here) (deep : Shallow p) (formed : WellForm
 
   -- ---- by the tree
 
+  abbrev FormedExpr : Expr → Type 0
+  FormedExpr e = ExprFormed e → ExprFits p b h e
+
   abbrev NodeTold : Node → Type 0
-  NodeTold m = (at : Place) → ExprFits p b h (expr at m)
+  NodeTold m = TermsNamed (of_node m) → (at : Place) → ExprFits p b h (expr at m)
 
   abbrev LinkTold : Link → Type 0
-  LinkTold l = ExprFits p b h l.right
+  LinkTold l = TermsNamed (of_link l) → ExprFits p b h l.right
+
+  abbrev FormedSuffix : Suffix → Type 0
+  FormedSuffix x = TermsNamed (of_suffix x) → SuffixTold x
 
   told_each : {A : Type 0} {P : A → Type 0} (xs : List ((x : A) × P x)) (x : A) → Among (map (λ y. y.0) xs) x → P x
   told_each [] x m = elim m [ ]
@@ -287,60 +294,87 @@ module _ (p : Program) (b : In) (h : Here) (deep : Shallow p) (formed : WellForm
   told_each (y ∷ ys) x (later m) = told_each ys x m
 
   abbrev Told : Type 0
-  Told = Node-F ((m : Node) × NodeTold m) ((e : Expr) × ExprFits p b h e) ((l : Link) × LinkTold l)
-      ((x : Suffix) × SuffixTold x)
+  Told = Node-F ((m : Node) × NodeTold m) ((e : Expr) × FormedExpr e) ((l : Link) × LinkTold l)
+      ((x : Suffix) × FormedSuffix x)
 
   abbrev layer : Told → Node-F Node Expr Link Suffix
   layer = map-Node _ _ _ _ _ _ _ _ (λ e. e.0) (λ e. e.0) (λ e. e.0) (λ e. e.0)
 
+  abbrev exprs_of : List ((e : Expr) × FormedExpr e) → List Expr
+  exprs_of es = map (λ e. e.0) es
+
+  -- arguments whose terms are named fit
+  args_told : (es : List ((e : Expr) × FormedExpr e)) → TermsNamed (all_of (map of_expr (exprs_of es)))
+      → AllFit p b h (exprs_of es)
+  args_told es named e m = told_each es e m (λ t c. named t (in_all of_expr (exprs_of es) e (Termed t) m c))
+
   node_told : OtherForms p b h → (y : Told) → NodeTold (roll-Node (layer y))
-  node_told others (Node-F.Int z) at = subst (λ m. ExprFits p b h (expr at m)) (sym (node.rolls-Int z))
-      (number_fits at z)
-  node_told others (Node-F.Bool z) at = subst (λ m. ExprFits p b h (expr at m)) (sym (node.rolls-Bool z))
-      (truth_fits at z)
-  node_told others Node-F.Null at = subst (λ m. ExprFits p b h (expr at m)) (sym node.rolls-Null) (null_fits at)
-  node_told others Node-F.This at = subst (λ m. ExprFits p b h (expr at m)) (sym node.rolls-This) (this_fits at)
-  node_told others (Node-F.Var x) at = subst (λ m. ExprFits p b h (expr at m)) (sym (node.rolls-Var x)) (var_fits at x)
-  node_told others (Node-F.New t es) at = subst (λ m. ExprFits p b h (expr at m))
-      (sym (node.rolls-New t (map (λ e. e.0) es))) (others.new at t (map (λ e. e.0) es) (told_each es))
-  node_told others (Node-F.Super t m es) at = subst (λ m. ExprFits p b h (expr at m))
-      (sym (node.rolls-Super t m (map (λ e. e.0) es))) (others.super at t m (map (λ e. e.0) es) (told_each es))
-  node_told others (Node-F.Post e ss) at = subst (λ m. ExprFits p b h (expr at m))
-      (sym (node.rolls-Post e.0 (map (λ x. x.0) ss))) (post_fits at e.0 (map (λ x. x.0) ss) e.1 (told_each ss))
-  node_told others (Node-F.Not e) at = subst (λ m. ExprFits p b h (expr at m)) (sym (node.rolls-Not e.0))
-      (invert_fits at e.0 e.1)
-  node_told others (Node-F.Neg e) at = subst (λ m. ExprFits p b h (expr at m)) (sym (node.rolls-Neg e.0))
-      (negate_fits at e.0 e.1)
-  node_told others (Node-F.View v e) at = subst (λ m. ExprFits p b h (expr at m)) (sym (node.rolls-View v e.0))
-      (others.view at v e.0 e.1)
-  node_told others (Node-F.Chain level e ls) at =
-      subst (λ m. ExprFits p b h (expr at m)) (sym (node.rolls-Chain level e.0 (map (λ l. l.0) ls)))
-      (chain_fits at level e.0 (map (λ l. l.0) ls) e.1 (told_each ls))
+  node_told others (Node-F.Int z) = subst NodeTold (sym (node.rolls-Int z)) (λ named at. number_fits at z)
+  node_told others (Node-F.Bool z) = subst NodeTold (sym (node.rolls-Bool z)) (λ named at. truth_fits at z)
+  node_told others Node-F.Null = subst NodeTold (sym node.rolls-Null) (λ named at. null_fits at)
+  node_told others Node-F.This = subst NodeTold (sym node.rolls-This) (λ named at. this_fits at)
+  node_told others (Node-F.Var x) = subst NodeTold (sym (node.rolls-Var x)) (λ named at. var_fits at x)
+  node_told others (Node-F.New t es) = subst NodeTold (sym (node.rolls-New t (exprs_of es)))
+      (λ named at. let k = subst TermsNamed (at_new t (exprs_of es)) named in
+      called_fits (expr at (node.New t (exprs_of es))) (others.new at t (exprs_of es) (k t (in_first (Termed t) _))
+      (args_told es (λ u c. k u (in_later (Termed t) _ (Termed u) c)))))
+  node_told others (Node-F.Super t m es) = subst NodeTold (sym (node.rolls-Super t m (exprs_of es)))
+      (λ named at. let k = subst TermsNamed (at_super t m (exprs_of es)) named in
+      called_fits (expr at (node.Super t m (exprs_of es))) (others.super at t m (exprs_of es)
+      (k t (in_first (Termed t) _))
+      (args_told es (λ u c. k u (in_later (Termed t) _ (Termed u) c)))))
+  node_told others (Node-F.Post e ss) = subst NodeTold (sym (node.rolls-Post e.0 (map (λ x. x.0) ss)))
+      (λ named at. let k = subst TermsNamed (at_post e.0 (map (λ x. x.0) ss)) named in
+      post_fits at e.0 (map (λ x. x.0) ss)
+      (e.1 (λ u c. k u (Contains-append_left (of_expr e.0) _ (Termed u) c)))
+      (λ x m. told_each ss x m (λ u c. k u (Contains-append_right (of_expr e.0) _ (Termed u)
+      (in_all of_suffix (map (λ x. x.0) ss) x (Termed u) m c)))))
+  node_told others (Node-F.Not e) = subst NodeTold (sym (node.rolls-Not e.0))
+      (λ named at. invert_fits at e.0 (e.1 (subst TermsNamed (at_inverse e.0) named)))
+  node_told others (Node-F.Neg e) = subst NodeTold (sym (node.rolls-Neg e.0))
+      (λ named at. negate_fits at e.0 (e.1 (subst TermsNamed (at_negative e.0) named)))
+  node_told others (Node-F.View v e) = subst NodeTold (sym (node.rolls-View v e.0))
+      (λ named at. let k = subst TermsNamed (at_view v e.0) named in
+      others.view at v e.0
+      (k v.term (in_later Viewed (of_view v ++ of_expr e.0) (Termed v.term)
+      (Contains-append_left (of_view v) (of_expr e.0) (Termed v.term)
+      (in_first (Termed v.term) _))))
+      (e.1 (λ u c. k u (in_later Viewed (of_view v ++ of_expr e.0) (Termed u)
+      (Contains-append_right (of_view v) (of_expr e.0) (Termed u) c)))))
+  node_told others (Node-F.Chain level e ls) = subst NodeTold (sym (node.rolls-Chain level e.0 (map (λ l. l.0) ls)))
+      (λ named at. let k = subst TermsNamed (at_chain level e.0 (map (λ l. l.0) ls)) named in
+      chain_fits at level e.0 (map (λ l. l.0) ls)
+      (e.1 (λ u c. k u (Contains-append_left (of_expr e.0) _ (Termed u) c)))
+      (λ l m. told_each ls l m (λ u c. k u (Contains-append_right (of_expr e.0) _ (Termed u)
+      (in_all of_link (map (λ l. l.0) ls) l (Termed u) m c)))))
 
   abbrev ToldSuffix : Type 0
-  ToldSuffix = Suffix-F ((m : Node) × NodeTold m) ((e : Expr) × ExprFits p b h e) ((l : Link) × LinkTold l)
-      ((x : Suffix) × SuffixTold x)
+  ToldSuffix = Suffix-F ((m : Node) × NodeTold m) ((e : Expr) × FormedExpr e) ((l : Link) × LinkTold l)
+      ((x : Suffix) × FormedSuffix x)
 
   abbrev layer_suffix : ToldSuffix → Suffix-F Node Expr Link Suffix
   layer_suffix = map-Suffix _ _ _ _ _ _ _ _ (λ e. e.0) (λ e. e.0) (λ e. e.0) (λ e. e.0)
 
-  args_told : (y : ToldSuffix) → ArgsFitToo p b h deep formed (layer_suffix y).args
-  args_told y = at y.args where
-    at : (o : Option (List ((e : Expr) × ExprFits p b h e))) → ArgsFitToo p b h deep formed
-        (layer_suffix (record { name = y.name; args = o })).args
-    at None = tt
-    at (Some es) = told_each es
+  given_told : (y : ToldSuffix) → TermsNamed (of_args (layer_suffix y).args)
+      → ArgsFitToo p b h deep formed (layer_suffix y).args
+  given_told y = at y.args where
+    at : (o : Option (List ((e : Expr) × FormedExpr e)))
+        → TermsNamed (of_args (layer_suffix (record { name = y.name; args = o })).args)
+        → ArgsFitToo p b h deep formed (layer_suffix (record { name = y.name; args = o })).args
+    at None named = tt
+    at (Some es) named = args_told es named
 
-  suffix_told : (y : ToldSuffix) → SuffixTold (roll-Suffix (layer_suffix y))
-  suffix_told y = subst (λ (z : Suffix-F Node Expr Link Suffix). ArgsFitToo p b h deep formed z.args)
-      (sym (out-roll-Suffix (layer_suffix y))) (args_told y)
+  suffix_told : (y : ToldSuffix) → FormedSuffix (roll-Suffix (layer_suffix y))
+  suffix_told y named = subst (λ (z : Suffix-F Node Expr Link Suffix). ArgsFitToo p b h deep formed z.args)
+      (sym (out-roll-Suffix (layer_suffix y)))
+      (given_told y (subst (λ (z : Suffix-F Node Expr Link Suffix). TermsNamed (of_args z.args))
+      (out-roll-Suffix (layer_suffix y)) (subst TermsNamed (at_suffix (roll-Suffix (layer_suffix y))) named)))
 
-  pub by_tree : OtherForms p b h → (e : Expr) → ExprFits p b h e
-  by_tree others = ind-Expr NodeTold (ExprFits p b h) LinkTold SuffixTold
+  pub by_tree : OtherForms p b h → (e : Expr) → FormedExpr e
+  by_tree others = ind-Expr NodeTold FormedExpr LinkTold FormedSuffix
       (λ x y is. subst (λ z. NodeTold (roll-Node z)) is (node_told others y))
-      (λ x y is. subst (λ z. ExprFits p b h (roll-Expr z)) is (y.node.1 y.at))
-      (λ x y is. subst (λ z. LinkTold (roll-Link z)) is y.right.1)
-      (λ x y is. subst (λ z. SuffixTold (roll-Suffix z)) is (suffix_told y))
-
-pub expressions_fit : ExpressionsFit
-expressions_fit p b vs deep formed others = by_tree p b (here_in b vs) deep formed others
+      (λ x y is. subst (λ z. FormedExpr (roll-Expr z)) is
+      (λ named. y.node.1 (subst TermsNamed (at_expr (expr y.at y.node.0)) named) y.at))
+      (λ x y is. subst (λ z. LinkTold (roll-Link z)) is
+      (λ named. y.right.1 (subst TermsNamed (at_link (link y.op y.at y.right.0)) named)))
+      (λ x y is. subst (λ z. FormedSuffix (roll-Suffix z)) is (suffix_told y))

@@ -13,7 +13,7 @@ use Rattle.jn_base.specs.declared.types.Ty.TheVariants as ty
 use Rattle.jn_base.specs.declared.types.ValKind.{ValKind}
 use Rattle.jn_base.specs.declared.refusal.Refusal.{Refusal}
 use Rattle.jn_base.specs.declared.refusal.Rule.TheVariants as rule
-use Rattle.jn_base.specs.Scopes.{Scope}
+use Rattle.jn_base.specs.Scopes.{Scope, Binds}
 use Rattle.jn_base.specs.Fits.{BindsFit, TypeFits}
 use Rattle.jn_base.specs.Resolve.{is_class}
 use Rattle.jn_base.specs.ResolveTypes.{mask_names}
@@ -40,7 +40,8 @@ use Rattle.jn_member_laws.proofs.OneHeaders.{headers_fit}
 use Rattle.jn_member_laws.proofs.FirstMasks.{no_first_mask}
 use Rattle.jn_member_laws.proofs.KnownTypes.{fresh_known, path_types_fit}
 use Rattle.jn_sound.specs.Takes.{Opd, opd, typing, Moves, same, named, wider}
-use Rattle.jn_sound_tree.specs.Tree.{ScopeKnown, ExprKnown, Fresher, none as none_more, more}
+use Rattle.jn_sound.specs.KnownScopes.{ScopeKnown}
+use Rattle.jn_sound_tree.specs.Tree.{ExprKnown, Fresher, none as none_more, more}
 use Rattle.jn_sound_tree.proofs.Scopes.{grown_of, scope_bind, found_grown, class_is}
 
 -- ---- a receiver gets its path
@@ -82,7 +83,7 @@ pub ok_same : (y x : Typed) → (let a : Result Typed Refusal = Ok y in let b : 
     y ≡ x
 ok_same y x e = cc
 
-not_ok : (y : Typed) (r : Refusal) →
+pub not_ok : (y : Typed) (r : Refusal) →
     (let a : Result Typed Refusal = Ok y in let b : Result Typed Refusal = Err r in a ≡ b) → ⊥
 not_ok y r e = cc
 
@@ -92,6 +93,10 @@ gave p x y g = at (kind_of x.ty) g where
   at : (o : Option ValKind) → Gives p (note_kind o (done x)) (Ok y) → y ≡ x
   at None e = ok_same y x e
   at (Some k) e = ok_same y x e
+
+pub result_gave : (p : Program) (c : Header) (x : Passed) (y : Typed) → Gives p (result_gives c x) (Ok y)
+    → y ≡ plain (put_in x.scope (replaced_paths c.vars) x.paths c.result) x.scope
+result_gave p c x y = gave p (plain (put_in x.scope (replaced_paths c.vars) x.paths c.result) x.scope) y
 
 -- ---- a field
 
@@ -180,6 +185,8 @@ pub record ArgMoved (p : Program) (h : Here) (t : Typed) (want : Ty) (q : ℕ) (
   pub known : ScopeKnown p h s
   pub grown : Fresher t.scope s
   pub path : PathKnown s q want
+  -- it is an older path only where the argument had it
+  pub newer : (r : ℕ) → Binds t.scope r → (t.path ≡ Some r → ⊥) → q ≡ r → ⊥
   pub moves : (ops : List Opd) → Moves p (typing t.scope (opd t.ty t.path ∷ ops)) (typing s (opd want (Some q) ∷ ops))
 
 no_class_null : (t : Ty) → is_class t ≡ true → t ≡ ty.Null → ⊥
@@ -201,6 +208,7 @@ arg_moved p h t want known below fits = at t.path refl where
     grown = none_more;
     path = path_above p t.scope q t.ty want known.scope.scope.binds known.type.fits below
         (no_class_null t.ty (known.class q e)) (known.path q e);
+    newer = λ r n free i. free (subst (λ (z : ℕ). t.path ≡ Some z) i e);
     moves = λ ops. subst (λ (o : Option ℕ). Moves p (typing t.scope (opd t.ty o ∷ ops))
         (typing t.scope (opd want (Some q) ∷ ops))) (sym e) (wider t.ty want (Some q) below fits same);
   }
@@ -216,6 +224,7 @@ arg_moved p h t want known below fits = at t.path refl where
         path = path_above p (bind q (type_passed t.ty want) ∷ t.scope) q (type_passed t.ty want) want binds
             (type_later binds k.1) ((below_later binds k.1).0 k.2) k.3
             (fresh_known t.scope q (type_passed t.ty want) binds);
+        newer = λ r n free i. binds.1 (subst (Binds t.scope) (sym i) n);
         moves = λ ops. subst (λ (o : Option ℕ). Moves p (typing t.scope (opd t.ty o ∷ ops))
             (typing (bind q (type_passed t.ty want) ∷ t.scope) (opd want (Some q) ∷ ops))) (sym e)
             (named t.ty (type_passed t.ty want) q (omega arith) binds.1 k.1 k.0
@@ -275,5 +284,5 @@ call_is_typed p h deep formed f es at x y known g =
           as_many = eqb-true (length hd.first.vars) (length es) m.test;
           passed = came.first;
           args = came.gave;
-          is = gave p _ y came.then;
+          is = result_gave p hd.first came.first y came.then;
         }

@@ -1,30 +1,29 @@
 -- A local: its value is in its type, and it is in scope behind it.
-use Rattle.std.proofs.Common.{◌≡◌, ◌≤◌, ◌<◌, ℕ, suc, List, [], ◌∷◌, ◌++◌, length, Bool, true, false, ◌⊎◌, inl, inr, refl, sym, ap, ◌∙◌, subst, arith}
-use Rattle.std.specs.Prelude.{◌+◌, ◌&&◌, cond, nat_lt, reverse, map, Result, Ok}
-use Rattle.std.proofs.lemmas.List.{length-append, map-append, reverse-append}
+use Rattle.std.proofs.Common.{◌≡◌, ◌≤◌, ◌<◌, ℕ, suc, List, [], ◌∷◌, ◌++◌, length, Bool, true, false, ◌⊎◌, inl, inr, refl, sym, ap, ◌∙◌, subst, arith, Contains}
+use Rattle.std.specs.Prelude.{◌+◌, ◌&&◌, cond, nat_lt, Result, Ok}
+use Rattle.std.proofs.lemmas.List.{length-append}
 use Rattle.std.proofs.lemmas.Bool.{ltb-false}
 use Rattle.jn_base.specs.declared.tree.Program.{Program}
 use Rattle.jn_base.specs.declared.tree.Stmt.{Stmt}
 use Rattle.jn_base.specs.declared.tree.Stmt.TheOpen.{Stmt-F}
 use Rattle.jn_base.specs.declared.tree.Stmt.TheVariants as stmt
 use Rattle.jn_base.specs.declared.types.Ty.{Ty}
-use Rattle.jn_base.specs.declared.names.Role.TheVariants as role
 use Rattle.jn_base.specs.declared.names.Var.{Var}
 use Rattle.jn_base.specs.declared.refusal.Refusal.{Refusal}
 use Rattle.jn_base.specs.Atoms.{Among, first, later}
-use Rattle.jn_base.specs.Scopes.{Bind, Scope, Binds, this_bind}
+use Rattle.jn_base.specs.Scopes.{Bind, Scope, Binds}
 use Rattle.jn_base.specs.Fits.{BindsFit, TypeFits}
-use Rattle.jn_base.specs.Resolve.{is_class, var_bind, class_of}
+use Rattle.jn_base.specs.Resolve.{is_class, var_bind}
 use Rattle.jn_sem.specs.Acts.{Todo, todo, acts, stmts_acts, Bind as BindAct}
 use Rattle.jn_sem.specs.Below.{Below}
 use Rattle.jn_sem.specs.Does.{var}
 use Rattle.jn_sem.specs.Normal.{same_path}
-use Rattle.jn_sem.specs.Terms.{Site, TypeIs, spot_at}
+use Rattle.jn_sem.specs.Terms.{Site, TypeIs}
 use Rattle.jn_sem.proofs.ActLaws.{acts_are}
 use Rattle.jn_sem.proofs.NormalTypes.{type_subst_is}
 use Rattle.jn_laws.specs.LawsOfScopes.{ScopesAlike, one as alike_one}
-use Rattle.jn_laws.specs.LawsOfWritten.{Shallow, TypeThere, IsWritten, scope_of, site_with}
-use Rattle.jn_laws.specs.LawsOfSources.{WellFormed}
+use Rattle.jn_laws.specs.LawsOfWritten.{TypeThere, IsWritten, TypeWellFormed, scope_of}
+use Rattle.jn_laws.specs.LawsOfBodies.{local_types, locals_step}
 use Rattle.jn_laws.proofs.AlikeScopes.{binds_like, fits_like}
 use Rattle.jn_laws.proofs.WrittenTypes.{among_more, one_more, of_value}
 use Rattle.jn_rules.specs.Plans.{Plan, Mark, OfType, note_all}
@@ -38,13 +37,24 @@ use Rattle.jn_member_laws.specs.LawsOfForms.{none as none_grown, more as more_gr
 use Rattle.jn_member_laws.proofs.KnownTypes.{later_known}
 use Rattle.jn_sound.specs.Takes.{opd, same, wider, local}
 use Rattle.jn_sound.specs.Fit.{Fits, Narrowed, acts as act, moves, narrows, kept}
-use Rattle.jn_sound_tree.specs.Tree.{Fresher, none as fresh_none, more as fresh_more, GoesTo, as_they_are, here_in}
-use Rattle.jn_sound_tree.specs.Stmts.{MasksFormed, StmtKnown, StmtGoes, LocalFits}
-use Rattle.jn_sound_tree.proofs.MaskSets.{type_formed, formed_as_given}
-use Rattle.jn_sound_tree.proofs.Scopes.{fits_grown, grown_of}
+use Rattle.std.proofs.lemmas.List.Elements.{Contains-append_right}
+use Rattle.jn_base.specs.declared.tree.TypeTerm.{TypeTerm}
+use Rattle.jn_base.specs.declared.tree.Named.{Named}
+use Rattle.jn_base.specs.declared.tree.Expr.{Expr}
+use Rattle.jn_base.specs.declared.tree.Stmt.{roll-Stmt}
+use Rattle.jn_base.specs.declared.tree.Stmt.TheFolds.{map-Stmt, fold-roll-Stmt}
+use Rattle.jn_base.specs.Forms.{Termed, of_type, of_expr}
+use Rattle.jn_base.proofs.FormEquations.{at_local}
+use Rattle.jn_base.proofs.NameTests.{first as in_first}
+use Rattle.jn_body_laws.specs.BodyForms.{TermsNamed, ExprFormed, StmtFormed}
+use Rattle.jn_sound.specs.KnownScopes.{here_in, MasksFormed, StmtKnown}
+use Rattle.jn_sound_tree.specs.Tree.{Fresher, none as fresh_none, more as fresh_more, GoesTo, as_they_are}
+use Rattle.jn_sound_tree.specs.Stmts.{BodyKnown, StmtGoes, StmtFits}
+use Rattle.jn_sound_tree.proofs.Variables.{scope_more}
+use Rattle.jn_sound.proofs.MaskSets.{type_formed, formed_as_given}
+use Rattle.jn_sound_tree.proofs.Scopes.{fits_grown, grown_of, no_ops}
 use Rattle.jn_sound_tree.proofs.Forms.{not_void_below}
 use Rattle.jn_sound_tree.proofs.Calls.{not_void}
-use Rattle.jn_sound_tree.proofs.Exprs.{by_tree}
 use Rattle.jn_sound_tree.proofs.Stmts.{narrowed_fresh, take_all, passed, answered, asked}
 
 pub noted : {A : Type 0} (p : Program) (ms : List Mark) (go : Plan A) (o : Result A Refusal)
@@ -66,14 +76,7 @@ next_small s v l = at (nat_lt v.path 256) refl where
   at true e = refl
   at false e = absurd (let k : 256 ≤ v.path = ltb-false v.path 256 e in omega (arith, l, k))
 
-scope_more : (at : Site) (x : Var) → scope_of
-    (site_with at.class at.method (at.vars ++ x ∷ [])) ≡ var_bind x ∷ scope_of at
-scope_more at x =
-    ap (λ (bs : List Bind). reverse (this_bind (class_of (spot_at at role.Value)) ∷ bs))
-    (map-append var_bind at.vars (x ∷ []))
-    ∙ reverse-append (this_bind (class_of (spot_at at role.Value)) ∷ map var_bind at.vars) (var_bind x ∷ [])
-
-module _ (p : Program) (b : In) (deep : Shallow p) (formed : WellFormed p) where
+module _ (p : Program) (b : In) (its : BodyKnown p b) where
   module _ (x : Before) (known : StmtKnown p b x) (v : Var) (is : v.path ≡ x.next) (small : x.next < 256) where
     abbrev site : Site
     site = site_here (here_in b x.vars)
@@ -89,7 +92,7 @@ module _ (p : Program) (b : In) (deep : Shallow p) (formed : WellFormed p) where
     free_site n = free (binds_like known.alike v.path n)
 
     among_old : (w : Var) → Among (x.vars ++ v ∷ []) w → Among x.vars w ⊎ (w ≡ v)
-    among_old w m = among_more p deep x.vars v w m
+    among_old w m = among_more p its.shallow x.vars v w m
 
     among_left : (vs : List Var) (w : Var) → Among vs w → Among (vs ++ v ∷ []) w
     among_left _ w first = first
@@ -102,7 +105,7 @@ module _ (p : Program) (b : In) (deep : Shallow p) (formed : WellFormed p) where
     pub local_known : TypeThere site v.ty → MasksFormed v.ty → StmtKnown p b (with_local x v)
     local_known there set = record {
       scope = record {
-        site = one_more p deep site v known.scope.site there free_site;
+        site = one_more p its.shallow site v known.scope.site there free_site;
         written = λ w m. written w (among_old w m);
         scope = record { base = var_bind v ∷ x.scope; alike = alike; grown = none_grown; binds = binds };
         plain = λ w m e. plain w (among_old w m) e;
@@ -172,14 +175,37 @@ module _ (p : Program) (b : In) (deep : Shallow p) (formed : WellFormed p) where
 below_limit : (x y : Before) (v : Var) → y ≡ with_local x v → y.next ≤ 256 → x.next < 256
 below_limit x y v e l = let k : suc x.next ≤ 256 = subst (λ (z : Before). z.next ≤ 256) e l in omega (arith, k)
 
-pub local_fits : (p : Program) (b : In) (deep : Shallow p) (formed : WellFormed p) → LocalFits p b
-local_fits p b deep formed fixed t n e termed x y known few others g =
-    let a = asked p b deep formed (stmt.Local fixed t n e) x y _ ((forms_are.stmts b x).local fixed t n e) g in
+pub locals_rolled : (f : Stmt-F Stmt) (s : Stmt) → roll-Stmt f ≡ s → local_types s ≡ locals_step
+    (map-Stmt Stmt (List TypeTerm) local_types f)
+unfolding local_types
+locals_rolled f s e = ap local_types (sym e) ∙ fold-roll-Stmt (List TypeTerm) locals_step f
+
+-- the type of a local has terms
+local_formed : (p : Program) (fixed : Bool) (t : TypeTerm) (n : Named) (e : Expr)
+    → StmtFormed p (stmt.Local fixed t n e) → TypeWellFormed t
+local_formed p fixed t n e f = f.locals t (subst (λ (ts : List TypeTerm). Contains ts t)
+    (sym (locals_rolled _ _ (stmt.rolls-Local fixed t n e))) (in_first t []))
+
+local_named : (p : Program) (fixed : Bool) (t : TypeTerm) (n : Named) (e : Expr)
+    → StmtFormed p (stmt.Local fixed t n e) → ExprFormed e
+local_named p fixed t n e f u c = subst TermsNamed (at_local fixed t n e) f.terms u
+    (Contains-append_right (of_type t) (of_expr e) (Termed u) c)
+
+pub local_fits : (p : Program) (b : In) (its : BodyKnown p b) (fixed : Bool) (t : TypeTerm) (n : Named) (e : Expr)
+    → StmtFits p b (stmt.Local fixed t n e)
+local_fits p b its fixed t n e x y known few inside g =
+    let a = asked p b its (stmt.Local fixed t n e) x y _ ((forms_are.stmts b x).local fixed t n e) g in
     let r = took a.0 (local_typed b x fixed n e) y a.2 in
     behind r.given (subst (λ (z : Result Ty Refusal). Means p (OfType (site_here (here b x)) t) z) r.is a.1)
     (noted p (atom_marks r.given) _ (Ok y) r.then) where
       site : Site
       site = site_here (here_in b x.vars)
+
+      here_formed : StmtFormed p (stmt.Local fixed t n e)
+      here_formed = its.formed (stmt.Local fixed t n e) inside
+
+      termed : TypeWellFormed t
+      termed = local_formed p fixed t n e here_formed
 
       goes : (v : Var) → v ≡ var n.name x.next fixed v.ty → x.next < 256 → MasksFormed v.ty
           → TypeIs p site t v.ty → (w : Typed) → GoesTo p b
@@ -194,10 +220,10 @@ local_fits p b deep formed fixed t n e termed x y known few others g =
         path = ap (λ (z : Var). z.path) is
 
         there : TypeThere site v.ty
-        there = of_value p deep site t v.ty known.scope.site termed typeis
+        there = of_value p its.shallow site t v.ty known.scope.site termed typeis
 
         after : StmtKnown p b (with_local x v)
-        after = local_known p b deep formed x known v path small there set
+        after = local_known p b its x known v path small there set
 
         here_fits : TypeFits w.scope v.ty
         here_fits = fits_grown (grown_of one.grown) one.known.scope.scope.binds (fits_like known.alike v.ty there.fits)
@@ -207,7 +233,7 @@ local_fits p b deep formed fixed t n e termed x y known few others g =
 
         unbound : Binds w.scope x.next → ⊥
         unbound n = free_fresh x.next one.grown small
-            (λ m. free p b deep formed x known v path small (subst (Binds x.scope) (sym path) m)) n
+            (λ m. free p b its x known v path small (subst (Binds x.scope) (sym path) m)) n
 
         narrowed : Narrowed (bind x.next v.ty ∷ w.scope) (var_bind v ∷ x.scope)
         narrowed = kept (record { path = path; atoms = refl; masks = λ i m. m; kind = refl; plain = λ e. refl })
@@ -230,7 +256,7 @@ local_fits p b deep formed fixed t n e termed x y known few others g =
         fits ss k f =
             subst (λ (z : List Todo). Fits p b z x.vars x.scope [])
             (sym ((acts_are.stmts (length x.vars) x.next ss k).local fixed t n e))
-            (one.fits _ [] (not_void w.ty (not_void_below p w.scope w.ty v.ty below))
+            (one.fits _ [] (no_ops x.scope) (not_void w.ty (not_void_below p w.scope w.ty v.ty below))
             (rest (stmts_acts (suc (length x.vars)) (suc x.next) ss k)
             (subst (λ (i : ℕ). Fits p b (stmts_acts i (suc x.next) ss k) (x.vars ++ v ∷ [])
             (var_bind v ∷ x.scope) []) long f)))
@@ -241,9 +267,9 @@ local_fits p b deep formed fixed t n e termed x y known few others g =
       behind u m g =
           let v : Var = var n.name x.next fixed (declared_type (site_here (here b x)) u) in
           let c = then_came (typed b x e x.scope) _ y g in
-          let o = answered p b deep formed (Below p c.first.scope c.first.ty v.ty) c.then.0 _
+          let o = answered p b its (Below p c.first.scope c.first.ty v.ty) c.then.0 _
           (with_local x v) y c.then.1 c.then.2 in
-          let one = by_tree p b (here_in b x.vars) deep formed (others x.vars) e x.scope c.first known.scope c.gave in
+          let one = its.exprs x.vars e (local_named p fixed t n e here_formed) x.scope c.first known.scope c.gave in
           subst (StmtGoes p b (stmt.Local fixed t n e) x) (sym o.1)
           (goes v refl (below_limit x y v o.1 few)
           (formed_as_given (scope_of site) u (type_formed p _ _ t u m)) (record {

@@ -14,7 +14,7 @@ use Rattle.jn_base.specs.declared.types.Ty.{Ty}
 use Rattle.jn_base.specs.declared.types.Ty.TheVariants as ty
 use Rattle.jn_base.specs.declared.refusal.Refusal.{Refusal}
 use Rattle.jn_base.specs.Atoms.{Among, first, later}
-use Rattle.jn_base.specs.Scopes.{Scope}
+use Rattle.jn_base.specs.Scopes.{Scope, Binds}
 use Rattle.jn_base.specs.Resolve.{is_class}
 use Rattle.jn_sem.specs.Acts.{Todo, todo, Get, Call, Decide, Operate, acts}
 use Rattle.jn_sem.specs.LawsOfActs.{args_acts, part_acts, link_acts, links_acts}
@@ -29,10 +29,11 @@ use Rattle.jn_rules.proofs.PlanLaws.{then_came, wanted}
 use Rattle.jn_member_laws.specs.LawsOfForms.{TypeKnown, none as put_none, CallsOf}
 use Rattle.jn_member_laws.proofs.CallTypes.{call_types_fit}
 use Rattle.jn_sound.specs.Callees.{Callee}
-use Rattle.jn_sound.specs.Takes.{Opd, opd, ArgsFit, with_result, get, call, operate, Operates, decides}
+use Rattle.jn_sound.specs.Takes.{Opd, opd, ArgsFit, get, call, operate, Operates, decides}
 use Rattle.jn_sound.specs.Fit.{Fits, acts as act, moves, decide}
-use Rattle.jn_sound_tree.specs.Tree.{ScopeKnown, ExprKnown, Fresher, none as none_more, GoesTo, as_they_are, ExprFits, AllFit}
-use Rattle.jn_sound_tree.proofs.Scopes.{grown_of, fresher_joined, found_grown, deep_grown, unseen_fits}
+use Rattle.jn_sound.specs.KnownScopes.{ScopeKnown}
+use Rattle.jn_sound_tree.specs.Tree.{ExprKnown, none as none_more, GoesTo, as_they_are, valued, CallGoes, ExprFits, AllFit}
+use Rattle.jn_sound_tree.proofs.Scopes.{grown_of, fresher_joined, ops_grown, ops_with, some_bound, found_grown, deep_grown, unseen_fits}
 use Rattle.jn_sound_tree.proofs.Forms.{field_typed, FieldTyped, call_is_typed, CallTyped, gave, ok_same}
 use Rattle.jn_sound_tree.proofs.Calls.{all_taken, not_void, args_go, ArgsGo}
 
@@ -55,9 +56,15 @@ no_path q e = absurd (no e) where
 -- a value without a path
 pub plain_known : (p : Program) (h : Here) (t : Ty) (s : Scope) → ScopeKnown p h s → TypeKnown s t → ExprKnown p h
     (plain t s)
-plain_known p h t s k f = record { scope = k; type = f; path = λ q e. no_path q e; class = λ q e. no_path q e }
+plain_known p h t s k f = record {
+  scope = k;
+  type = f;
+  path = λ q e. no_path q e;
+  class = λ q e. no_path q e;
+  mentioned = λ q e. no_path q e;
+}
 
-class_not_void : (t : Ty) → is_class t ≡ true → is_void t ≡ false
+pub class_not_void : (t : Ty) → is_class t ≡ true → is_void t ≡ false
 class_not_void t e = not_void t (λ v. no (subst (λ (u : Ty). is_class u ≡ true) v e)) where
   no : false ≡ true → ⊥
   no e = cc
@@ -70,7 +77,7 @@ pub goes_as : {p : Program} {b : In} {h : Here} {x y : List Todo → List Todo} 
 goes_as {p} {b} {h} {s = s} {before = before} e g = record {
   known = g.known;
   grown = g.grown;
-  fits = λ k ops v f. subst (λ (z : List Todo). Fits p b z h.vars s (before ops)) (sym (e k)) (g.fits k ops v f);
+  fits = λ k ops o v f. subst (λ (z : List Todo). Fits p b z h.vars s (before ops)) (sym (e k)) (g.fits k ops o v f);
 }
 
 pub goes_behind : {p : Program} {b : In} {h : Here} {x y : List Todo → List Todo} {s : Scope} {before : List Opd →
@@ -80,8 +87,8 @@ pub goes_behind : {p : Program} {b : In} {h : Here} {x y : List Todo → List To
 goes_behind v g l = record {
   known = l.known;
   grown = fresher_joined g.grown l.grown;
-  fits = λ k ops w f.
-      g.fits _ ops v (l.fits k ops w f);
+  fits = λ k ops o w f.
+      g.fits _ ops o v (l.fits k ops (ops_grown (grown_of g.grown) o) w f);
 }
 
 module _ (p : Program) (b : In) (h : Here) (deep : Shallow p) (formed : WellFormed p) where
@@ -92,7 +99,7 @@ module _ (p : Program) (b : In) (h : Here) (deep : Shallow p) (formed : WellForm
   pub stays_known : (r t : Typed) → t ≡ r → ExprKnown p h r → GoesTo p b h (λ k. k) r.scope
       (λ ops. opd r.ty r.path ∷ ops) t
   stays_known r t e k = subst (GoesTo p b h (λ k. k) r.scope (λ ops. opd r.ty r.path ∷ ops)) (sym e)
-      (record { known = k; grown = none_more; fits = λ k ops v f. f })
+      (record { known = k; grown = none_more; fits = λ k ops o v f. f })
 
   -- ---- a field
 
@@ -103,31 +110,24 @@ module _ (p : Program) (b : In) (h : Here) (deep : Shallow p) (formed : WellForm
       (record {
         known = plain_known p h (put_in w.scope (0 ∷ []) (w.q ∷ []) w.c.ty) w.scope w.reached.known w.type;
         grown = w.reached.grown;
-        fits = λ k ops v rest. moves (w.reached.moves ops)
+        fits = λ k ops o v rest. moves (w.reached.moves ops)
             (act refl (get f.name r.ty w.q w.c w.found w.free w.type.fits) rest);
       })
 
   -- ---- a call
 
-  -- behind a call the value is an operand, if it is kept
-  pub record CallGoes (does : Bool → List Todo → List Todo) (r t : Typed) : Type 0 where
-    pub known : ExprKnown p h t
-    pub grown : Fresher r.scope t.scope
-    pub path : t.path ≡ None
-    pub fits : (keeps : Bool) (k : List Todo) (ops : List Opd) → (is_void t.ty ≡ true → keeps ≡ false) →
-        Fits p b k h.vars t.scope (with_result keeps t.ty ops)
-        → Fits p b (does keeps k) h.vars r.scope (opd r.ty r.path ∷ ops)
-
-  put_void : (s : Scope) (f : ℕ → ℕ) (t : Ty) → is_void t ≡ true → is_void (subst_type s f t) ≡ true
+  pub put_void : (s : Scope) (f : ℕ → ℕ) (t : Ty) → is_void t ≡ true → is_void (subst_type s f t) ≡ true
   put_void s f ty.Void e = refl
   put_void s f ty.Int e = cc
   put_void s f ty.Bool e = cc
   put_void s f ty.Null e = cc
   put_void s f (ty.Class xs m) e = cc
 
-  call_goes : (f : Named) (es : List Expr) → AllFit p b h es → (r t : Typed) → ExprKnown p h r → CallTyped p h f.name
+  pub call_goes : (f : Named) (es : List Expr) → AllFit p b h es → (r t : Typed) → ExprKnown p h r
+      → CallTyped p h f.name
       (typed_args h es) r t
-      → CallGoes (λ keeps k. args_acts n es (todo n (Call f.name (length es) keeps) ∷ k)) r t
+      → CallGoes p b h (λ keeps k. args_acts n es (todo n (Call f.name (length es) keeps) ∷ k)) r.scope
+      (λ ops. opd r.ty r.path ∷ ops) t
   call_goes f es fit r t known w = behind
       (args_go p b h w.body w.header calls es fit [] w.header.vars (path_of r.ty r).scope
       (path_of r.ty r).path [] w.passed refl
@@ -156,19 +156,21 @@ module _ (p : Program) (b : In) (h : Here) (deep : Shallow p) (formed : WellForm
         does keeps k = args_acts n es (todo n (Call f.name (length es) keeps) ∷ k)
 
         behind : ArgsGo p b h w.body w.header calls w.header.vars es (path_of r.ty r).scope
-            (path_of r.ty r).path [] w.passed → CallGoes does r t
-        behind a = subst (CallGoes does r)
+            (path_of r.ty r).path [] w.passed → CallGoes p b h does r.scope (λ ops. opd r.ty r.path ∷ ops) t
+        behind a = subst (CallGoes p b h does r.scope (λ ops. opd r.ty r.path ∷ ops))
             (sym (w.is ∙ ap (λ (ps : List ℕ). plain
             (put_in w.passed.scope from ps w.header.result) w.passed.scope) a.is)) (record {
               known = plain_known p h result w.passed.scope a.known type;
               grown = fresher_joined w.reached.grown a.grown;
-              path = refl;
-              fits = λ keeps k ops v rest. moves (w.reached.moves ops)
+              fits = λ keeps k ops o v rest. moves (w.reached.moves ops)
                   (a.fits (todo n (Call f.name (length es) keeps) ∷ k) (opd r.ty (Some q) ∷ ops)
+                  (ops_with (opd r.ty (Some q)) (some_bound (path_of r.ty r).scope q w.reached.path.bound_in)
+                  (ops_grown (grown_of w.reached.grown) o))
                   (act refl (call f.name (length es) keeps r.ty q a.all a.args c
                   (record {
                     at = found_grown r.ty
-                        (grown_of (fresher_joined w.reached.grown a.grown)) a.known.scope.binds known.type.fits w.here.at;
+                        (grown_of (fresher_joined w.reached.grown a.grown)) a.known.scope.binds known.type.fits
+                        w.here.at;
                     callee = record { body = w.here.body; header = w.is_header };
                   })
                   w.free (all_taken a.args (opd r.ty (Some q) ∷ ops) (length es) a.count)
@@ -198,20 +200,19 @@ module _ (p : Program) (b : In) (h : Here) (deep : Shallow p) (formed : WellForm
               type = type_by w.body.method.result refl
 
   -- a value that is kept is an operand
-  kept_goes : {does : Bool → List Todo → List Todo} {r t : Typed} → CallGoes does r t → GoesTo p b h
-      (does true) r.scope (λ ops. opd r.ty r.path ∷ ops) t
+  pub kept_goes : {does : Bool → List Todo → List Todo} {s : Scope} {before : List Opd → List Opd} {t : Typed}
+      → CallGoes p b h does s before t → GoesTo p b h (does true) s before t
   kept_goes {t = t} g = record {
     known = g.known;
     grown = g.grown;
-    fits = λ k ops v f. g.fits true k ops (λ e. absurd (no (sym e ∙ v)))
+    fits = λ k ops o v f. g.fits true k ops o (λ e. absurd (no (sym e ∙ v)))
         (subst (λ (z : List Opd). Fits p b k h.vars t.scope z) (is v ops) f);
   } where
     no : true ≡ false → ⊥
     no e = cc
 
-    is : is_void t.ty ≡ false → (ops : List Opd) → (opd t.ty t.path ∷ ops) ≡ with_result true t.ty ops
-    is v ops = ap (λ (o : Option ℕ). opd t.ty o ∷ ops) g.path ∙ ap
-        (λ (z : Bool). cond (true && not z) (opd t.ty None ∷ ops) ops) (sym v)
+    is : is_void t.ty ≡ false → (ops : List Opd) → (opd t.ty t.path ∷ ops) ≡ valued true t ops
+    is v ops = ap (λ (z : Bool). cond (true && not z) (opd t.ty t.path ∷ ops) ops) (sym v)
 
   -- ---- behind a dot
 
@@ -332,9 +333,9 @@ module _ (p : Program) (b : In) (h : Here) (deep : Shallow p) (formed : WellForm
   decided and e x y c d g = record {
     known = plain_known p h ty.Bool y.scope g.known.scope (plain_type y.scope ty.Bool refl);
     grown = g.grown;
-    fits = λ k ops v f. subst (λ (u : Ty). Fits p b (todo n (Decide and e) ∷ k) h.vars x.scope (opd u x.path ∷ ops))
+    fits = λ k ops o v f. subst (λ (u : Ty). Fits p b (todo n (Decide and e) ∷ k) h.vars x.scope (opd u x.path ∷ ops))
         (sym (bool_is x.ty c))
-        (decide and e x.path refl (g.fits k ops (subst (λ (u : Ty). is_void u ≡ false) (sym (bool_is y.ty d)) refl)
+        (decide and e x.path refl (g.fits k ops o (subst (λ (u : Ty). is_void u ≡ false) (sym (bool_is y.ty d)) refl)
         (taken_bool y d (bare y.path refl) k ops f)) (unseen_fits g.grown g.known.scope.scope.binds f));
   } where
     bare : (o : Option ℕ) → y.path ≡ o → y.path ≡ None
@@ -348,14 +349,15 @@ module _ (p : Program) (b : In) (h : Here) (deep : Shallow p) (formed : WellForm
         subst (λ (o : Option ℕ). Fits p b k h.vars y.scope (opd y.ty o ∷ ops)) (sym w)
         (subst (λ (u : Ty). Fits p b k h.vars y.scope (opd u None ∷ ops)) (sym (bool_is y.ty d)) f)
 
-  operated : (o : Op) (e : Expr) (x y : Typed) → Operates o x.ty y.ty → is_void y.ty ≡ false → GoesTo p b h
-      (acts n e) x.scope as_they_are y
+  operated : (o : Op) (e : Expr) (x y : Typed) → ((q : ℕ) → x.path ≡ Some q → Binds x.scope q) → Operates o x.ty y.ty
+      → is_void y.ty ≡ false → GoesTo p b h (acts n e) x.scope as_they_are y
       → GoesTo p b h (λ k. acts n e (todo n (Operate o) ∷ k)) x.scope (λ ops. opd x.ty x.path ∷ ops)
       (plain (operator_type o) y.scope)
-  operated o e x y w v g = record {
+  operated o e x y path w v g = record {
     known = plain_known p h (operator_type o) y.scope g.known.scope (result_plain o y.scope);
     grown = g.grown;
-    fits = λ k ops u f. g.fits (todo n (Operate o) ∷ k) (opd x.ty x.path ∷ ops) v
+    fits = λ k ops below u f. g.fits (todo n (Operate o) ∷ k) (opd x.ty x.path ∷ ops)
+        (ops_with (opd x.ty x.path) path below) v
         (act refl (operate o x.ty y.ty x.path y.path w) f);
   }
 
@@ -372,22 +374,34 @@ module _ (p : Program) (b : In) (h : Here) (deep : Shallow p) (formed : WellForm
   left_kept o t u l c = not_void t
       (λ e. void_left o u (subst (λ (z : Ty). takes o z ≡ true) e l) (subst (λ (z : Ty). takes_both o z u ≡ true) e c))
 
-  link_goes : (o : Op) (e : Expr) (x y : Typed) → takes o x.ty ≡ true → takes o y.ty ≡ true →
+  link_goes : (o : Op) (e : Expr) (x y : Typed) → ((q : ℕ) → x.path ≡ Some q → Binds x.scope q) → takes o x.ty ≡ true
+      → takes o y.ty ≡ true →
       takes_both o x.ty y.ty ≡ true → GoesTo p b h (acts n e) x.scope as_they_are y
       → LinkGoes o e x (plain (operator_type o) y.scope)
-  link_goes op.And e x y l r c g = decided true e x y l r g
-  link_goes op.Or e x y l r c g = decided false e x y l r g
-  link_goes op.Add e x y l r c g = operated op.Add e x y (operates op.Add x y l r c refl) (right_kept op.Add x y r c) g
-  link_goes op.Sub e x y l r c g = operated op.Sub e x y (operates op.Sub x y l r c refl) (right_kept op.Sub x y r c) g
-  link_goes op.Mul e x y l r c g = operated op.Mul e x y (operates op.Mul x y l r c refl) (right_kept op.Mul x y r c) g
-  link_goes op.Div e x y l r c g = operated op.Div e x y (operates op.Div x y l r c refl) (right_kept op.Div x y r c) g
-  link_goes op.Rem e x y l r c g = operated op.Rem e x y (operates op.Rem x y l r c refl) (right_kept op.Rem x y r c) g
-  link_goes op.Lt e x y l r c g = operated op.Lt e x y (operates op.Lt x y l r c refl) (right_kept op.Lt x y r c) g
-  link_goes op.Le e x y l r c g = operated op.Le e x y (operates op.Le x y l r c refl) (right_kept op.Le x y r c) g
-  link_goes op.Gt e x y l r c g = operated op.Gt e x y (operates op.Gt x y l r c refl) (right_kept op.Gt x y r c) g
-  link_goes op.Ge e x y l r c g = operated op.Ge e x y (operates op.Ge x y l r c refl) (right_kept op.Ge x y r c) g
-  link_goes op.Eq e x y l r c g = operated op.Eq e x y (operates op.Eq x y l r c refl) (right_kept op.Eq x y r c) g
-  link_goes op.Ne e x y l r c g = operated op.Ne e x y (operates op.Ne x y l r c refl) (right_kept op.Ne x y r c) g
+  link_goes op.And e x y path l r c g = decided true e x y l r g
+  link_goes op.Or e x y path l r c g = decided false e x y l r g
+  link_goes op.Add e x y path l r c g = operated op.Add e x y path (operates op.Add x y l r c refl)
+      (right_kept op.Add x y r c) g
+  link_goes op.Sub e x y path l r c g = operated op.Sub e x y path (operates op.Sub x y l r c refl)
+      (right_kept op.Sub x y r c) g
+  link_goes op.Mul e x y path l r c g = operated op.Mul e x y path (operates op.Mul x y l r c refl)
+      (right_kept op.Mul x y r c) g
+  link_goes op.Div e x y path l r c g = operated op.Div e x y path (operates op.Div x y l r c refl)
+      (right_kept op.Div x y r c) g
+  link_goes op.Rem e x y path l r c g = operated op.Rem e x y path (operates op.Rem x y l r c refl)
+      (right_kept op.Rem x y r c) g
+  link_goes op.Lt e x y path l r c g = operated op.Lt e x y path (operates op.Lt x y l r c refl)
+      (right_kept op.Lt x y r c) g
+  link_goes op.Le e x y path l r c g = operated op.Le e x y path (operates op.Le x y l r c refl)
+      (right_kept op.Le x y r c) g
+  link_goes op.Gt e x y path l r c g = operated op.Gt e x y path (operates op.Gt x y l r c refl)
+      (right_kept op.Gt x y r c) g
+  link_goes op.Ge e x y path l r c g = operated op.Ge e x y path (operates op.Ge x y l r c refl)
+      (right_kept op.Ge x y r c) g
+  link_goes op.Eq e x y path l r c g = operated op.Eq e x y path (operates op.Eq x y l r c refl)
+      (right_kept op.Eq x y r c) g
+  link_goes op.Ne e x y path l r c g = operated op.Ne e x y path (operates op.Ne x y l r c refl)
+      (right_kept op.Ne x y r c) g
 
   links_none : (t x : Typed) → (let a : Result Typed Refusal = Ok t in let z : Result Typed Refusal = Ok x in a ≡ z) →
       ExprKnown p h x
@@ -406,7 +420,8 @@ module _ (p : Program) (b : In) (h : Here) (deep : Shallow p) (formed : WellForm
       let z = then_came (gives (plain (operator_type l.op) c.first.scope))
       (λ z. links_typed h at z (typed_links h ls)) t u.then in
       let one = subst (LinkGoes l.op l.right x) (sym (gave p _ z.first z.gave))
-      (link_goes l.op l.right x c.first w.test v.test u.test (fit l first x.scope c.first k.scope c.gave)) in
+      (link_goes l.op l.right x c.first (λ q e. (k.path q e).bound_in) w.test v.test u.test
+      (fit l first x.scope c.first k.scope c.gave)) in
       goes_behind (subst (λ (y : Typed). is_void y.ty ≡ false) (sym (gave p _ z.first z.gave)) (result_kept l.op)) one
       (links_go at ls (λ y m. fit y (later m)) z.first t one.known z.then)
 

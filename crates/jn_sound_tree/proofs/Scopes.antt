@@ -1,5 +1,5 @@
 -- Scopes that grow: what is known of paths, types and arguments stays known.
-use Rattle.std.proofs.Common.{◌≡◌, ◌<◌, ℕ, suc, List, [], ◌∷◌, ◌++◌, length, Bool, true, false, refl, sym, ap, ◌∙◌, subst, arith}
+use Rattle.std.proofs.Common.{◌≡◌, ◌<◌, ℕ, suc, List, [], ◌∷◌, ◌++◌, length, Some, Bool, true, false, refl, sym, ap, ◌∙◌, subst, arith}
 use Rattle.std.proofs.lemmas.Bool.{ltb-true}
 use Rattle.std.specs.Prelude.{◌+◌, cond, nat_lt}
 use Rattle.jn_base.specs.declared.tree.Program.{Program}
@@ -22,9 +22,10 @@ use Rattle.jn_member_laws.specs.LawsOfForms.{Grown, none as none_more, more, Typ
 use Rattle.jn_member_laws.proofs.KnownTypes.{bound_older, for_known}
 use Rattle.jn_sem.specs.Acts.{Todo}
 use Rattle.jn_rules.specs.Stmts.{In}
+use Rattle.jn_sound.specs.KnownScopes.{ScopeKnown}
 use Rattle.jn_sound.specs.Takes.{Opd, same, unseen}
 use Rattle.jn_sound.specs.Fit.{Fits, moves}
-use Rattle.jn_sound_tree.specs.Tree.{ScopeKnown, Fresher, none as fresh_none, more as fresh_more}
+use Rattle.jn_sound_tree.specs.Tree.{Fresher, none as fresh_none, more as fresh_more, OpsBound}
 
 -- ---- what is bound
 
@@ -66,6 +67,24 @@ pub unseen_fits : {p : Program} {b : In} {k : List Todo} {vs : List Var} {s t : 
     → BindsFit t → Fits p b k vs t ops → Fits p b k vs s ops
 unseen_fits fresh_none f r = r
 unseen_fits (fresh_more {b = c} l g) f r = unseen_fits g f.0 (moves (unseen c.ty c.path l f.1 f.2 same) r)
+
+-- ---- operands below
+
+pub ops_grown : {s t : Scope} {ops : List Opd} → Grown s t → OpsBound s ops → OpsBound t ops
+ops_grown g n o m q e = grown_binds g q (n o m q e)
+
+pub ops_with : {s : Scope} {ops : List Opd} (a : Opd) → ((q : ℕ) → a.path ≡ Some q → Binds s q) → OpsBound s ops
+    → OpsBound s (a ∷ ops)
+ops_with a b n _ first q e = b q e
+ops_with a b n o (later m) q e = n o m q e
+
+pub no_ops : (s : Scope) → OpsBound s []
+no_ops s o m q e = elim m [ ]
+
+pub some_bound : (s : Scope) (q : ℕ) → Binds s q → (i : ℕ) → Some q ≡ Some i → Binds s i
+some_bound s q b i e = subst (Binds s) (same e) b where
+  same : Some q ≡ Some i → q ≡ i
+  same e = cc
 
 -- ---- what is as deep stays so
 

@@ -1,5 +1,5 @@
 -- Statements fit: their fresh paths are gone behind them.
-use Rattle.std.proofs.Common.{◌≡◌, ℕ, List, [], ◌∷◌, length, take, Option, Some, None, Bool, true, false, ◌⊎◌, inl, inr, refl, sym, ap, ◌∙◌, subst}
+use Rattle.std.proofs.Common.{◌≡◌, ℕ, List, [], ◌∷◌, length, take, Option, Some, None, Bool, true, false, ◌⊎◌, inl, inr, refl, sym, ap, ◌∙◌, subst, Contains}
 use Rattle.std.specs.Prelude.{◌||◌, not, Result, Ok, Err, slice_get}
 use Rattle.jn_base.specs.declared.tree.Place.{Place}
 use Rattle.jn_base.specs.declared.tree.Program.{Program}
@@ -14,11 +14,9 @@ use Rattle.jn_base.specs.declared.types.Ty.TheVariants as ty
 use Rattle.jn_base.specs.declared.names.Var.{Var}
 use Rattle.jn_base.specs.declared.refusal.Refusal.{Refusal}
 use Rattle.jn_base.specs.Scopes.{Scope}
-use Rattle.jn_sem.specs.Acts.{Todo, todo, Print, acts, stmts_acts}
+use Rattle.jn_sem.specs.Acts.{Todo, todo, Print, expr_does, acts, stmts_acts}
 use Rattle.jn_sem.specs.Below.{Below}
 use Rattle.jn_sem.proofs.ActLaws.{acts_are}
-use Rattle.jn_laws.specs.LawsOfWritten.{Shallow}
-use Rattle.jn_laws.specs.LawsOfSources.{WellFormed}
 use Rattle.jn_rules.specs.Plans.{Plan, done, wants}
 use Rattle.jn_rules.specs.Questions.{Gives, Answers}
 use Rattle.jn_rules.specs.Exprs.{Typed, is_int, is_bool}
@@ -27,12 +25,16 @@ use Rattle.jn_rules.proofs.FormLaws.{forms_are}
 use Rattle.jn_rules.proofs.PlanLaws.{then_came, wanted}
 use Rattle.jn_sound.specs.Takes.{Opd, opd, same, wider, print_number, print_truth, print_text}
 use Rattle.jn_sound.specs.Fit.{Fits, acts as act, moves, narrows, return, leave, Narrowed, none as narrow_none, dropped, kept}
-use Rattle.jn_sound_tree.specs.Tree.{Fresher, none as fresh_none, more as fresh_more, GoesTo, as_they_are, here_in}
-use Rattle.jn_sound_tree.specs.Stmts.{StmtKnown, StmtGoes, StmtFits}
-use Rattle.jn_sound_tree.proofs.Scopes.{fits_grown, grown_of}
+use Rattle.jn_base.proofs.FormEquations.{at_do, at_return, at_print}
+use Rattle.jn_base.proofs.NameTests.{first as in_first}
+use Rattle.jn_body_laws.specs.BodyForms.{TermsNamed, IsCallForm, Use, Calls, Prints}
+use Rattle.jn_body_laws.proofs.ListedForms.{uses_rolled}
+use Rattle.jn_sound.specs.KnownScopes.{here_in, StmtKnown}
+use Rattle.jn_sound_tree.specs.Tree.{Fresher, none as fresh_none, more as fresh_more, GoesTo, as_they_are, CallGoes}
+use Rattle.jn_sound_tree.specs.Stmts.{BodyKnown, StmtGoes, StmtFits}
+use Rattle.jn_sound_tree.proofs.Scopes.{fits_grown, grown_of, no_ops}
 use Rattle.jn_sound_tree.proofs.Forms.{not_void_below}
 use Rattle.jn_sound_tree.proofs.Calls.{not_void}
-use Rattle.jn_sound_tree.proofs.Exprs.{by_tree}
 
 -- ---- the end of a statement
 
@@ -76,7 +78,7 @@ pub same_before : (x y : Before) →
     (let a : Result Before Refusal = Ok y in let c : Result Before Refusal = Ok x in a ≡ c) → y ≡ x
 same_before x y e = cc
 
-module _ (p : Program) (b : In) (deep : Shallow p) (formed : WellFormed p) where
+module _ (p : Program) (b : In) (its : BodyKnown p b) where
   -- the statement s leaves all as it was, and has these acts
   stays : (s : Stmt) (x y : Before) → StmtKnown p b x → y ≡ x
       → ((ss : List Stmt) (k : List Todo) → (stops s ≡ true) ⊎ Fits p b
@@ -107,11 +109,12 @@ module _ (p : Program) (b : In) (deep : Shallow p) (formed : WellFormed p) where
   printed_kept (ty.Class xs m) w = refl
 
   pub prints : (e : Expr) (at : Place) → StmtFits p b (stmt.Print e at)
-  prints e at x y known few others g =
+  prints e at x y known few inside g =
       let c = then_came (typed b x e x.scope) _ y
       (asked (stmt.Print e at) x y _ ((forms_are.stmts b x).prints e at) g) in
       let w = wanted (is_int c.first.ty || is_bool c.first.ty) _ _ y c.then in
-      let one = by_tree p b (here_in b x.vars) deep formed (others x.vars) e x.scope c.first known.scope c.gave in
+      let one = its.exprs x.vars e (subst TermsNamed (at_print e at) (its.formed (stmt.Print e at) inside).terms)
+      x.scope c.first known.scope c.gave in
       stays (stmt.Print e at) x y known (same_before x y w.then)
       (λ ss k f. goes c.first w.test one ss k
       (passed (Stmt-F.Print e at) (stmt.Print e at) (stmt.rolls-Print e at) refl f)) where
@@ -122,21 +125,45 @@ module _ (p : Program) (b : In) (deep : Shallow p) (formed : WellFormed p) where
         goes t w one ss k f =
             subst (λ (z : List Todo). Fits p b z x.vars x.scope [])
             (sym ((acts_are.stmts (length x.vars) x.next ss k).prints e at))
-            (one.fits _ [] (printed_kept t.ty w)
+            (one.fits _ [] (no_ops x.scope) (printed_kept t.ty w)
             (printed (length x.vars) x.vars t.ty t.path t.scope _ [] refl w (ended x [] known one.grown f)))
 
-  pub prints_text : (t : ℕ) (u : Text) (at : Place) → slice_get p.texts t ≡ Some u → StmtFits p b (stmt.PrintText t at)
-  prints_text t u at e x y known few others g =
-      stays (stmt.PrintText t at) x y known
-      (same_before x y (asked (stmt.PrintText t at) x y _ ((forms_are.stmts b x).prints_text t at) g))
-      (λ ss k f. subst (λ (z : List Todo). Fits p b z x.vars x.scope [])
-      (sym ((acts_are.stmts (length x.vars) x.next ss k).prints_text t at))
-      (act refl (print_text t u e) (passed (Stmt-F.PrintText t at) (stmt.PrintText t at)
-      (stmt.rolls-PrintText t at) refl f)))
+  pub prints_text : (t : ℕ) (at : Place) → StmtFits p b (stmt.PrintText t at)
+  prints_text t at x y known few inside g = text ((its.formed (stmt.PrintText t at) inside).forms (Prints t)
+      (subst (λ (us : List Use). Contains us (Prints t))
+      (sym (uses_rolled _ _ (stmt.rolls-PrintText t at))) (in_first (Prints t) []))) where
+        text : (u : Text) × (slice_get p.texts t ≡ Some u) → StmtGoes p b (stmt.PrintText t at) x y
+        text u =
+            stays (stmt.PrintText t at) x y known
+            (same_before x y (asked (stmt.PrintText t at) x y _ ((forms_are.stmts b x).prints_text t at) g))
+            (λ ss k f. subst (λ (z : List Todo). Fits p b z x.vars x.scope [])
+            (sym ((acts_are.stmts (length x.vars) x.next ss k).prints_text t at))
+            (act refl (print_text t u.0 u.1) (passed (Stmt-F.PrintText t at) (stmt.PrintText t at)
+            (stmt.rolls-PrintText t at) refl f)))
+
+  -- ---- a call as a statement: its value isn't kept
+
+  pub calls : (e : Expr) → StmtFits p b (stmt.Do e)
+  calls e x y known few inside g =
+      let c = then_came (typed b x e x.scope) _ y (asked (stmt.Do e) x y _ ((forms_are.stmts b x).call e) g) in
+      let here = its.formed (stmt.Do e) inside in
+      let form : IsCallForm e = here.forms (Calls e) (subst (λ (us : List Use). Contains us (Calls e))
+      (sym (uses_rolled _ _ (stmt.rolls-Do e))) (in_first (Calls e) [])) in
+      let one = its.calls x.vars e (subst TermsNamed (at_do e) here.terms) form x.scope c.first known.scope c.gave in
+      stays (stmt.Do e) x y known (same_before x y c.then)
+      (λ ss k f. goes c.first one ss k (passed (Stmt-F.Do e) (stmt.Do e) (stmt.rolls-Do e) refl f)) where
+        goes : (t : Typed) → CallGoes p b (here_in b x.vars) (λ keeps. expr_does e keeps (length x.vars)) x.scope
+            as_they_are t → (ss : List Stmt) (k : List Todo)
+            → Fits p b (stmts_acts (length x.vars) x.next ss k) x.vars x.scope []
+            → Fits p b (stmts_acts (length x.vars) x.next (stmt.Do e ∷ ss) k) x.vars x.scope []
+        goes t one ss k f =
+            subst (λ (z : List Todo). Fits p b z x.vars x.scope [])
+            (sym ((acts_are.stmts (length x.vars) x.next ss k).call e))
+            (one.fits false _ [] (no_ops x.scope) (λ v. refl) (ended x [] known one.grown f))
 
   -- ---- return
 
-  not_true : (c : Bool) → not c ≡ true → c ≡ false
+  pub not_true : (c : Bool) → not c ≡ true → c ≡ false
   not_true true e = cc
   not_true false e = refl
 
@@ -148,12 +175,14 @@ module _ (p : Program) (b : In) (deep : Shallow p) (formed : WellFormed p) where
     no e = cc
 
   returns_one : (e : Expr) (at : Place) → StmtFits p b (stmt.Return (Some e) at)
-  returns_one e at x y known few others g =
+  returns_one e at x y known few inside g =
       let c = then_came (typed b x e x.scope) _ y
       (asked (stmt.Return (Some e) at) x y _ ((forms_are.stmts b x).returns (Some e) at) g) in
       let w = wanted (not (is_void b.result)) _ _ y c.then in
       let a = answered (Below p c.first.scope c.first.ty b.result) w.then.0 _ x y w.then.1 w.then.2 in
-      let one = by_tree p b (here_in b x.vars) deep formed (others x.vars) e x.scope c.first known.scope c.gave in
+      let one = its.exprs x.vars e
+      (subst TermsNamed (at_return (Some e) at) (its.formed (stmt.Return (Some e) at) inside).terms)
+      x.scope c.first known.scope c.gave in
       stays (stmt.Return (Some e) at) x y known a.1
       (λ ss k f. goes c.first (not_true (is_void b.result) w.test) a.0 one ss k) where
         goes : (t : Typed) → is_void b.result ≡ false → Below p t.scope t.ty b.result → GoesTo p b (here_in b x.vars)
@@ -163,13 +192,13 @@ module _ (p : Program) (b : In) (deep : Shallow p) (formed : WellFormed p) where
         goes t v below one ss k =
             subst (λ (z : List Todo). Fits p b z x.vars x.scope [])
             (sym ((acts_are.stmts (length x.vars) x.next ss k).returns e at))
-            (one.fits _ [] (not_void t.ty (not_void_below p t.scope t.ty b.result below))
+            (one.fits _ [] (no_ops x.scope) (not_void t.ty (not_void_below p t.scope t.ty b.result below))
             (moves (wider t.ty b.result t.path below
             (fits_grown (grown_of one.grown) one.known.scope.scope.binds known.result.fits) same)
             (return t.path refl v)))
 
   returns_none : (at : Place) → StmtFits p b (stmt.Return None at)
-  returns_none at x y known few others g =
+  returns_none at x y known few inside g =
       let w = wanted (is_void b.result) _ _ y
       (asked (stmt.Return None at) x y _ ((forms_are.stmts b x).returns None at) g) in
       stays (stmt.Return None at) x y known (same_before x y w.then)

@@ -1,5 +1,5 @@
 pub mod Tree
 pub mod Stmts
 pub mod Behind
-pub mod Blocks
 pub mod Bodies
+pub mod Sources

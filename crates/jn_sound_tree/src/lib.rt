@@ -1,20 +1,16 @@
-//! Soundness by the tree: each expression and each statement that the rules accept fits what comes behind it.
+//! Soundness by the tree: each expression and each statement that the rules accept fits what comes behind it. So no
+//! program within the limits that is accepted is ever Stuck, nor is the program of an accepted source.
 #![tactic(auto)]
 
 ghost use Rattle.jn_sound_tree.specs.Behind.{StatementsMove};
-ghost use Rattle.jn_sound_tree.specs.Blocks.{BlocksFit};
-ghost use Rattle.jn_sound_tree.specs.Bodies.{BodiesFit};
+ghost use Rattle.jn_sound_tree.specs.Bodies.{NeedsAreMet, ProgramsNeverStuck};
+ghost use Rattle.jn_sound_tree.specs.Sources.{SourcesHalt, SourcesNeverStuck};
 ghost use Rattle.jn_sound_tree.specs.Stmts.{StatementsFit};
 ghost use Rattle.jn_sound_tree.specs.Tree.{ExpressionsFit};
 
-/// An expression that the rules accept fits: if k fits behind it, with its value as an operand, then its acts and k fit.
+/// An expression that the rules accept fits: if k fits behind it, with its value as an operand, so do its acts and k.
 pub fn expressions_fit()
     ensures { ExpressionsFit }
-{}
-
-/// A statement without blocks that the rules accept fits: if what comes behind it fits, or it stops, then its acts and that fit.
-pub fn statements_fit()
-    ensures { StatementsFit }
 {}
 
 /// Behind statements that the rules accept are variables and binds more, and locals numbered as their acts have them.
@@ -22,12 +18,27 @@ pub fn statements_move()
     ensures { StatementsMove }
 {}
 
-/// Blocks and `if` fit where their statements do, and `while` fits: statements fit where those without blocks do.
-pub fn blocks_fit()
-    ensures { BlocksFit }
+/// A statement that the rules accept fits: if what comes behind it fits, or it stops, then its acts and that fit.
+pub fn statements_fit()
+    ensures { StatementsFit }
 {}
 
-/// A loop that comes again fits, and so does a body where it begins, from what is known of the scope there.
-pub fn bodies_fit()
-    ensures { BodiesFit }
+/// A body that the rules accept fits where it begins, and a loop fits once more.
+pub fn needs_are_met()
+    ensures { NeedsAreMet }
+{}
+
+/// A program within the limits that is accepted is never Stuck.
+pub fn never_stuck()
+    ensures { ProgramsNeverStuck }
+{}
+
+/// The program of an accepted source is never Stuck.
+pub fn sources_never_stuck()
+    ensures { SourcesNeverStuck }
+{}
+
+/// A run of an accepted source that doesn't ask for more charges ends as a machine can halt: the laws of images ask it.
+pub fn sources_halt()
+    ensures { SourcesHalt }
 {}

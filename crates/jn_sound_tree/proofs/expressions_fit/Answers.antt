@@ -1,4 +1,4 @@
-use Rattle.jn_sound_tree.proofs.Exprs.{expressions_fit}
+use Rattle.jn_sound_tree.proofs.OtherExprs.{expressions_fit}
 use Rattle.jn_sound_tree.proofs.expressions_fit.Goals as goal
 
 pub returns : goal.returns

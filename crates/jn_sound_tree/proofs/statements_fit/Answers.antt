@@ -1,4 +1,4 @@
-use Rattle.jn_sound_tree.proofs.AllStmts.{statements_fit}
+use Rattle.jn_sound_tree.proofs.Theorem.{statements_fit}
 use Rattle.jn_sound_tree.proofs.statements_fit.Goals as goal
 
 pub returns : goal.returns

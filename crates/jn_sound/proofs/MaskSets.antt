@@ -1,4 +1,4 @@
--- Masks are sets of mask numbers; those of a written type are, and the union of two.
+-- Masks are sets of mask numbers, and those of a written type are such.
 use Rattle.std.proofs.Common.{◌≡◌, ◌≤◌, ◌<◌, ◌/◌, ◌%◌, ◌^◌, ℕ, suc, List, length, get_or, Bool, true, false, refl, sym, ap, ◌∙◌, subst, arith}
 use Rattle.std.specs.Prelude.{[], ◌∷◌, Result, Ok, Err, Option, Some, None, nat_lt}
 use Rattle.std.specs.Int.{bit_at}
@@ -21,9 +21,13 @@ use Rattle.jn_base.specs.Paths.{Path}
 use Rattle.jn_base.specs.Atoms.{HasMask, MasksOf, no_masks}
 use Rattle.jn_base.specs.Scopes.{Scope}
 use Rattle.jn_base.specs.ResolveTypes.{mask_names, ResolveType, AtomsGive, many, one, MasksGive, UnfitGives, UnmaskedGives, Taken, may_mask}
+use Rattle.jn_base.specs.declared.names.Role.TheVariants as role
+use Rattle.jn_base.specs.Resolve.{scope_at}
+use Rattle.jn_sem.specs.Normal.{NormalType}
 use Rattle.jn_sem.specs.NormalFunction.{normal_type}
+use Rattle.jn_sem.specs.Terms.{Site, TypeIs, spot_at, vars_at}
 use Rattle.jn_laws.proofs.Terms.{same_ok}
-use Rattle.jn_sound_tree.specs.Stmts.{MasksFormed}
+use Rattle.jn_sound.specs.KnownScopes.{MasksFormed}
 
 pub formed_of : (T : ℕ → Type 0) (m : Masks) → MasksOf T m → MasksOf (HasMask m) m
 formed_of T m f = record { words = f.words; wide = f.wide; each = λ i l. ((λ h. h), (λ h. h)) }
@@ -35,7 +39,7 @@ zeros_wide (suc (suc ℕ.zero)) d l = omega arith
 zeros_wide (suc (suc (suc ℕ.zero))) d l = omega arith
 zeros_wide (suc (suc (suc (suc k)))) d l = absurd (omega (arith, l))
 
-none_formed : MasksOf (HasMask no_masks) no_masks
+pub none_formed : MasksOf (HasMask no_masks) no_masks
 none_formed = record { words = refl; wide = λ k d l. zeros_wide k d l; each = λ i l. ((λ h. h), (λ h. h)) }
 
 -- a mask's number is below 256
@@ -90,3 +94,20 @@ formed_as_given s ty.Int f = f
 formed_as_given s ty.Bool f = f
 formed_as_given s ty.Null f = f
 formed_as_given s ty.Void f = f
+
+normal_formed : (s : Scope) (t u : Ty) → NormalType s t u → MasksFormed t → MasksFormed u
+normal_formed s (ty.Class xs m) (ty.Class ys n) i f = subst (λ (k : Masks). MasksOf (HasMask k) k) (sym i.1) f
+normal_formed s (ty.Class xs m) ty.Int i f = absurd i
+normal_formed s (ty.Class xs m) ty.Bool i f = absurd i
+normal_formed s (ty.Class xs m) ty.Null i f = absurd i
+normal_formed s (ty.Class xs m) ty.Void i f = absurd i
+normal_formed s ty.Int u i f = subst MasksFormed (sym i) f
+normal_formed s ty.Bool u i f = subst MasksFormed (sym i) f
+normal_formed s ty.Null u i f = subst MasksFormed (sym i) f
+normal_formed s ty.Void u i f = subst MasksFormed (sym i) f
+
+-- the type of a parameter, result or local
+pub declared_formed : (p : Program) (at : Site) (t : TypeTerm) (u : Ty) → TypeIs p at t u → MasksFormed u
+declared_formed p at t u i =
+    normal_formed (scope_at (spot_at at role.Value) (vars_at at)) i.given u i.normal
+    (type_formed p (spot_at at role.Value) (vars_at at) t i.given i.resolved)

@@ -1,0 +1,4 @@
+pub mod ListedForms
+pub mod SpelledCalls
+pub mod CallsAside
+pub mod Formed
