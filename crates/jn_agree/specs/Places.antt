@@ -1,5 +1,5 @@
 -- Which instructions are those of a form. They stand from one place of a code up to another.
-use Rattle.std.specs.Prelude.{◌≡◌, ℕ, zero, suc, ◌+◌, ◌≤◌, ℤ, pos, List, [], ◌∷◌, ◌++◌, length, reverse, Bool, true, false, Option, Some, None, slice_get, nat_eq}
+use Rattle.std.specs.Prelude.{◌≡◌, ℕ, zero, suc, ◌+◌, ◌≤◌, ℤ, pos, List, [], ◌∷◌, ◌++◌, length, reverse, Bool, true, false, Option, Some, None, slice_get, nat_eq, codes}
 use Rattle.std.specs.List.{find}
 use Rattle.jn_base.specs.declared.tree.Name.{Name}
 use Rattle.jn_base.specs.declared.tree.Named.{Named}
@@ -30,10 +30,11 @@ use Rattle.jn_code.specs.declared.instr.Instr.TheVariants as ins
 use Rattle.jn_code.specs.declared.image.Shape.{Shape}
 use Rattle.jn_code.specs.declared.image.Code.{Code}
 use Rattle.jn_sem.specs.Terms.{Site, TermIs, SuperBound, ViewIs, TypeIs}
-use Rattle.jn_sem.specs.Does.{Body, AreParams, var}
+use Rattle.jn_sem.specs.Does.{Body, AreParams, IsSpelled, var}
 use Rattle.jn_sem.specs.Acts.{path_behind}
 use Rattle.jn_agree.specs.Naming.{Naming}
 use Rattle.jn_agree.specs.Rows.{HasShape, kind_of_type}
+use Rattle.jn_agree.specs.Follows.{is_tested}
 
 abbrev pub At : List Instr → ℕ → Instr → Type 0
 At c s x = slice_get c s ≡ Some x
@@ -164,6 +165,24 @@ pub data IsDecide : Op → Bool → Type 0 where
 -- the local q of the code has this kind
 abbrev pub HasKind : Code → ℕ → ℕ → Type 0
 HasKind c q kind = slice_get (c.params ++ c.locals) q ≡ Some kind
+
+-- ---- the ends of a body
+
+-- a final parameter of class type must not be null
+abbrev pub testing : Bool → ℕ → List Instr
+testing true q = ins.Load q ∷ ins.Check ∷ ins.Pop ∷ []
+testing false q = []
+
+abbrev pub tests : List Var → List Instr
+tests [] = []
+tests (x ∷ xs) = testing (is_tested x) x.path ++ tests xs
+
+-- (in a method with a result the last return is never reached, and gives what is asked for)
+abbrev pub last_return : (kind : ℕ) → List Instr
+last_return zero = ins.Ret ∷ []
+last_return (suc zero) = ins.Int (pos 0) ∷ ins.Retv ∷ []
+last_return (suc (suc zero)) = ins.Bool 0 ∷ ins.Retv ∷ []
+last_return (suc (suc (suc k))) = ins.Null ∷ ins.Retv ∷ []
 
 -- `scratch` is the first local above those of the method's own variables.
 module _ (p : Program) (n : Naming) (scratch : ℕ) (code : Code) where
@@ -297,22 +316,6 @@ module _ (p : Program) (n : Naming) (scratch : ℕ) (code : Code) where
 
   -- ---- a whole body: the tests of its final parameters, its statements, and a return
 
-  abbrev tests : List Var → List Instr
-  tests [] = []
-  tests (x ∷ xs) = on_final x.fixed (is_class x.ty) x.path ++ tests xs
-    where
-      on_final : Bool → Bool → ℕ → List Instr
-      on_final true true q = ins.Load q ∷ ins.Check ∷ ins.Pop ∷ []
-      on_final true false q = []
-      on_final false b q = []
-
-  -- (in a method with a result the last return is never reached, and gives what is asked for)
-  abbrev last_return : (kind : ℕ) → List Instr
-  last_return zero = ins.Ret ∷ []
-  last_return (suc zero) = ins.Int (pos 0) ∷ ins.Retv ∷ []
-  last_return (suc (suc zero)) = ins.Bool 0 ∷ ins.Retv ∷ []
-  last_return (suc (suc (suc k))) = ins.Null ∷ ins.Retv ∷ []
-
   pub record BodyFrom (at : Site) (body : List Stmt) : Type 0 where
     pub first : ℕ
     pub last : ℕ
@@ -331,6 +334,28 @@ pub record BodyAt (p : Program) (n : Naming) (b : Body) (code : Code) : Type 0 w
   pub are_params : AreParams p b vars
   pub from : BodyFrom p n (path_behind b.method.body (suc (length vars))) code
       (record { class = b.class; method = b.method.name.name; vars = vars }) b.method.body
+
+-- The code with which a run begins: an object of Main is made, and `main` is called on it. (It has one local, which
+-- nothing reads: the frame that starts the program has `this`, which is null.)
+pub record StartAt (p : Program) (n : Naming) (code : Code) : Type 0 where
+  pub params : code.params ≡ []
+  pub locals : code.locals ≡ 3 ∷ []
+  pub result : code.result ≡ 0
+  pub class : Name
+  pub is_class : IsSpelled p (codes "Main") class
+  pub number : ℕ
+  pub at_class : slice_get n.classes number ≡ Some (class ∷ [])
+  pub constructor : List Instr
+  pub is_constructor : CtorCode n (record { anchor = Root; exact = []; names = class ∷ [] }) 0 constructor
+  pub method : Name
+  pub is_method : IsSpelled p (codes "main") method
+  pub selector : ℕ
+  pub shape : Shape
+  pub is_selector : MethodOf n method selector shape
+  pub no_params : shape.params ≡ []
+  pub instrs : Run code.instrs
+      (ins.Cls number ∷ ins.New ∷ (constructor ++ ins.Call selector ∷ (dropping false shape.result ++ ins.Ret ∷ [])))
+      0 (length code.instrs)
 
 -- Example: the body of `int m(final A a) { return 1; }` is LOAD 1, CHECK, POP, INT 1, RETV, and INT 0, RETV behind
 -- its end.

@@ -3,6 +3,7 @@ use Rattle.std.specs.Prelude.{◌≡◌, ◌↔◌, ℕ, suc, List, [], ◌∷�
 use Rattle.std.specs.List.Sorted.{IsStrictlySortedBy}
 use Rattle.jn_reach.specs.Each.{Each}
 use Rattle.jn_base.specs.declared.tree.Name.{Name}
+use Rattle.jn_base.specs.declared.tree.Text.{Text}
 use Rattle.jn_base.specs.declared.tree.Kind.TheVariants as kind
 use Rattle.jn_base.specs.declared.tree.TypeTerm.{TypeTerm}
 use Rattle.jn_base.specs.declared.tree.Member.TheOpen.{Member-F}
@@ -15,6 +16,7 @@ use Rattle.jn_base.specs.Paths.{Path}
 use Rattle.jn_base.specs.ClassOrder.{class_cmp, IsFirst}
 use Rattle.jn_base.specs.Universe.{InUniverse}
 use Rattle.jn_base.specs.Members.{HasKind}
+use Rattle.jn_code.specs.declared.image.Text as image
 use Rattle.jn_code.specs.declared.image.Image.{Image}
 use Rattle.jn_code.specs.declared.image.Code.{Code}
 use Rattle.jn_code.specs.declared.image.Shape.{Shape}
@@ -188,6 +190,10 @@ pub record CodesAre (p : Program) (i : Image) (n : Naming) : Type 0 where
   pub start : i.start ≡ length n.bodies
   pub all : length i.codes ≡ suc (length n.bodies)
 
+-- The image's texts are the program's, in their order.
+abbrev pub TextsAre : Program → Image → Type 0
+TextsAre p i = map (λ (x : image.Text). x.bytes) i.texts ≡ map (λ (x : Text). x.bytes) p.texts
+
 -- ---- all
 
 -- The rows of an image are those of the program, where n says what its numbers stand for.
@@ -204,6 +210,7 @@ pub record RowsAre (p : Program) (i : Image) (n : Naming) : Type 0 where
       → (j : ℕ) × (c : Code) × (slice_get n.bodies j ≡ Some b) × (slice_get i.codes j ≡ Some c)
   pub slots : SlotsAre p i n
   pub groups : GroupsAre p i n
+  pub texts : TextsAre p i
 
 -- The image has the program's rows. (Of what its numbers stand for, only the order of the selectors is free.)
 pub record Rows (p : Program) (i : Image) : Type 0 where

@@ -1,2 +1,4 @@
 pub mod Link
 pub mod Agreed
+pub mod TraceSteps
+pub mod Traced

@@ -41,23 +41,23 @@ onward_joined x y z f g = record {
   heap = (heap_laws.heaps no_program).joined x.heap y.heap z.heap f.heap g.heap;
 }
 
-pair_same : {X : Type 0} (a b : X) → Some a ≡ Some b → a ≡ b
+pub pair_same : {X : Type 0} (a b : X) → Some a ≡ Some b → a ≡ b
 pair_same a b e = cc
 
 module _ (p : Program) (i : Image) (n : Naming) (m d : ℕ) (K : Knows) where
-  abbrev act : Running → Then → Type 0
+  abbrev pub act : Running → Then → Type 0
   act = Charge p m d
 
-  abbrev mout : Machine → List ℕ
+  abbrev pub mout : Machine → List ℕ
   mout s = s.output
 
-  abbrev Lead : (Running → Machine → ℕ → Type 0) → ℕ → Then → Machine → ℕ → Type 0
+  abbrev pub Lead : (Running → Machine → ℕ → Type 0) → ℕ → Then → Machine → ℕ → Type 0
   Lead = Leads rate act shown (instruct i m d) mout halt_of
 
   abbrev pub Both : ℕ → Running → Machine → ℕ → Type 0
   Both = Together rate act shown (instruct i m d) mout halt_of
 
-  abbrev engine : List machine.Frame → List ℤ → List ℕ → Machine
+  abbrev pub engine : List machine.Frame → List ℤ → List ℕ → Machine
   engine gs a out = record { frames = gs; heap = a; output = out }
 
   -- the frames that wait, seen from the present world: each with the frame with which its body was entered
@@ -69,7 +69,7 @@ module _ (p : Program) (i : Image) (n : Naming) (m d : ℕ) (K : Knows) where
       (v : ℕ) × (u : ℕ) × (y : World) × (v + u ≤ w) × Onward y x × (q : Frame) ×
       (f.method.result ≡ q.method.result) × Waits p i n m K (Local p i n m K q b) r f y g v × Stack b q x fs gs u
 
-  stack_later : (b : ℕ) (r : Frame) (x y : World) (fs : List Frame) (gs : List machine.Frame) (w : ℕ)
+  pub stack_later : (b : ℕ) (r : Frame) (x y : World) (fs : List Frame) (gs : List machine.Frame) (w : ℕ)
       → Onward x y → Stack b r x fs gs w → Stack b r y fs gs w
   stack_later b r x y [] [] w l st = tt
   stack_later b r x y [] (g ∷ gs) w l st = st
@@ -86,7 +86,7 @@ module _ (p : Program) (i : Image) (n : Naming) (m d : ℕ) (K : Knows) where
     stack_later b st.5 x y fs gs st.1 l st.8,
   )
 
-  stack_length : (b : ℕ) (r : Frame) (x : World) (fs : List Frame) (gs : List machine.Frame) (w : ℕ)
+  pub stack_length : (b : ℕ) (r : Frame) (x : World) (fs : List Frame) (gs : List machine.Frame) (w : ℕ)
       → Stack b r x fs gs w → length fs ≡ length gs
   stack_length b r x [] [] w st = refl
   stack_length b r x [] (g ∷ gs) w st = absurd st
@@ -142,7 +142,7 @@ module _ (p : Program) (i : Image) (n : Naming) (m d : ℕ) (K : Knows) where
       λ s does. fewer_follows (Local p i n m K r (suc b)) (Local p i n m K r b)
       (λ f x g a w l. fewer r b f.todo f x g a w l) r s x g a w (l s does)
 
-  fewer_stack : (b : ℕ) (r : Frame) (x : World) (fs : List Frame) (gs : List machine.Frame) (w : ℕ)
+  pub fewer_stack : (b : ℕ) (r : Frame) (x : World) (fs : List Frame) (gs : List machine.Frame) (w : ℕ)
       → Stack (suc b) r x fs gs w → Stack b r x fs gs w
   fewer_stack b r x [] [] w st = tt
   fewer_stack b r x [] (g ∷ gs) w st = st
@@ -162,7 +162,7 @@ module _ (p : Program) (i : Image) (n : Naming) (m d : ℕ) (K : Knows) where
 
   -- ---- instructions of one code are instructions of the machine
 
-  abbrev does : machine.Did → List machine.Frame → List ℕ → Next Machine Halt
+  abbrev pub does : machine.Did → List machine.Frame → List ℕ → Next Machine Halt
   does what gs out = machine_does (rules i m) d what gs out
 
   quiet_after : (j : ℕ) (g last : machine.Frame) (a la : List ℤ) (gs : List machine.Frame) (out : List ℕ)
@@ -187,7 +187,7 @@ module _ (p : Program) (i : Image) (n : Naming) (m d : ℕ) (K : Knows) where
 
   -- ---- one act
 
-  abbrev Meets : (Running → Machine → ℕ → Type 0) → Then → Next Machine Halt → ℕ → Type 0
+  abbrev pub Meets : (Running → Machine → ℕ → Type 0) → Then → Next Machine Halt → ℕ → Type 0
   Meets R x (On s) w = Lead R 0 x s w
   Meets R (On s) (End q bytes) w = ⊥
   Meets R (End o put) (End q bytes) w = (r : Halt) → halt_of o ≡ Some r → (r ≡ q) × (put ≡ bytes)
@@ -197,7 +197,7 @@ module _ (p : Program) (i : Image) (n : Naming) (m d : ℕ) (K : Knows) where
   one_more (End q bytes) = refl
 
   -- Quiet instructions and one more, and then the rest.
-  compose : (R : Running → Machine → ℕ → Type 0) (x : Then) (g : machine.Frame) (gs : List machine.Frame) (a : List ℤ)
+  pub compose : (R : Running → Machine → ℕ → Type 0) (x : Then) (g : machine.Frame) (gs : List machine.Frame) (a : List ℤ)
       (out : List ℕ) (what : machine.Did) (cost left w : ℕ) → Comes i m g a what cost → Meets R x
       (does what gs out) left → cost + left ≤ w → Lead R 1 x (engine (g ∷ gs) a out) w
   compose R x g gs a out what cost left w k meets le = at_next (does what gs out) x there meets
@@ -240,13 +240,13 @@ module _ (p : Program) (i : Image) (n : Naming) (m d : ℕ) (K : Knows) where
             omega (arith, k.cost),
           )
 
-  eased : (R : Running → Machine → ℕ → Type 0) (lo : ℕ) (x : Then) (s : Machine) (v w : ℕ) → v ≤ w
+  pub eased : (R : Running → Machine → ℕ → Type 0) (lo : ℕ) (x : Then) (s : Machine) (v w : ℕ) → v ≤ w
       → Lead R lo x s v → Lead R 0 x s w
   eased R lo (On u) s v w le l = (l.0, l.1, l.2, l.3, omega arith, omega (arith, l.5), l.6)
   eased R lo (End o bytes) s v w le l = λ q is. let f = l q is in (f.0, f.1, omega (arith, f.2))
 
   -- a run that is stuck
-  stuck_leads : (R : Running → Machine → ℕ → Type 0) (lo : ℕ) (o : Ending) (out : List ℕ) (s : Machine) (w : ℕ)
+  pub stuck_leads : (R : Running → Machine → ℕ → Type 0) (lo : ℕ) (o : Ending) (out : List ℕ) (s : Machine) (w : ℕ)
       → halt_of o ≡ None → Lead R lo (over o out) s w
   stuck_leads R lo o out s w e = λ q is. absurd (none_some (sym e ∙ is)) where
     none_some : {X : Type 0} {q : X} → None ≡ Some q → ⊥
@@ -297,30 +297,30 @@ module _ (p : Program) (i : Image) (n : Naming) (m d : ℕ) (K : Knows) where
       )
       at_todo [] e l = at_result f.method.result refl l
 
-  none_given : (fs : List Frame) → given_first None fs ≡ fs
+  pub none_given : (fs : List Frame) → given_first None fs ≡ fs
   none_given [] = refl
   none_given (f ∷ fs) = refl
 
   -- nothing is handed back where there is no result
-  no_result : (x : World) (t : Option TypeTerm) → t ≡ None → HandsBack p n x t None None
+  pub no_result : (x : World) (t : Option TypeTerm) → t ≡ None → HandsBack p n x t None None
   no_result x t e = subst (λ (t : Option TypeTerm). HandsBack p n x t None None) (sym e) tt
 
-  ends_same : (R : Running → Machine → ℕ → Type 0) (o : Ending) (q : Halt) (out : List ℕ) (w : ℕ)
+  pub ends_same : (R : Running → Machine → ℕ → Type 0) (o : Ending) (q : Halt) (out : List ℕ) (w : ℕ)
       → halt_of o ≡ Some q → Meets R (over o out) (End q out) w
   ends_same R o q out w e = λ r is. (pair_same r q (sym is ∙ e), refl)
 
-  stuck_meets : (R : Running → Machine → ℕ → Type 0) (o : Ending) (out : List ℕ) (y : Next Machine Halt) (w : ℕ)
+  pub stuck_meets : (R : Running → Machine → ℕ → Type 0) (o : Ending) (out : List ℕ) (y : Next Machine Halt) (w : ℕ)
       → halt_of o ≡ None → Meets R (over o out) y w
   stuck_meets R o out (On s) w e = stuck_leads R 0 o out s w e
   stuck_meets R o out (End q bytes) w e = λ r is. absurd (none_some (sym e ∙ is)) where
     none_some : {X : Type 0} {q : X} → None ≡ Some q → ⊥
     none_some e = cc
 
-  same_result : (v : Option Value) (f : Frame) → (given v f).method.result ≡ f.method.result
+  pub same_result : (v : Option Value) (f : Frame) → (given v f).method.result ≡ f.method.result
   same_result None f = refl
   same_result (Some v) f = refl
 
-  wakes : (R : Running → Machine → ℕ → Type 0) (v : Option Value) (f : Frame) (fs : List Frame) (x : World)
+  pub wakes : (R : Running → Machine → ℕ → Type 0) (v : Option Value) (f : Frame) (fs : List Frame) (x : World)
       (g : machine.Frame) (gs : List machine.Frame) (a : List ℤ) (out : List ℕ) (w : ℕ)
       → Lead R 0 (settled (given v f ∷ fs) x.heap out) (engine (g ∷ gs) a out) w
       → Lead R 0 (resumed v (f ∷ fs) out (settled (given_first v (f ∷ fs)) x.heap out)) (engine (g ∷ gs) a out) w
@@ -394,7 +394,7 @@ module _ (p : Program) (i : Image) (n : Naming) (m d : ℕ) (K : Knows) where
           (compose (Both b) (over AtNull out) g gs a out (Faults machine.Null) v 0 (v + 0) (bg.null e)
           (ends_same (Both b) AtNull machine.Null out 0 refl) (omega arith)))
 
-  some_code : (c : Option Code) (k : ℕ) (code : Code) (words : List ℤ) → c ≡ Some code
+  pub some_code : (c : Option Code) (k : ℕ) (code : Code) (words : List ℤ) → c ≡ Some code
       → option_map (λ (c : Code). fresh k c words) c ≡ Some (fresh k code words)
   some_code c k code words e = ap (option_map (λ (c : Code). fresh k c words)) e
 

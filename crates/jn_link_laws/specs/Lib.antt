@@ -1,1 +1,3 @@
 pub mod LawsOfAgreement
+pub mod Traces
+pub mod LawsOfTraces

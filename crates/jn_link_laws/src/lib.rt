@@ -1,6 +1,7 @@
 //! Codes that go with their bodies, each by itself, make an image that agrees with its program.
 #![tactic(auto)]
 
+ghost use Rattle.jn_link_laws.specs.LawsOfTraces.{TracesAgree};
 ghost use Rattle.jn_link_laws.specs.LawsOfAgreement.{Entering, GivingBack, knows_by, ImagesAgree};
 
 /// Where each code goes with its body, whatever its calls give back, and the start's code goes with the frame that starts
@@ -8,4 +9,11 @@ ghost use Rattle.jn_link_laws.specs.LawsOfAgreement.{Entering, GivingBack, knows
 /// a body that is entered, and of what one gives back.
 pub fn images_agree<R, G>()
     ensures { (may : R → Entering) (back : G → GivingBack) → ImagesAgree (knows_by may back) }
+{}
+
+/// Where each code goes with its body, each body that is called alone prints, ends and returns as its code does, with all
+/// that they call: within k charges at least what k instructions do, and within 32 for each charge, and 8 more and 3 for
+/// each test of a parameter, at least what the charges do.
+pub fn traces_agree<R, G>()
+    ensures { (may : R → Entering) (back : G → GivingBack) → TracesAgree (knows_by may back) }
 {}

@@ -45,7 +45,7 @@ each_at {A} {B} R (z ∷ xs) (y ∷ ys) zero x (more h e) g = (y, refl, subst (�
     same z x e = cc
 each_at R (z ∷ xs) (y ∷ ys) (suc k) x (more h e) g = each_at R xs ys k x e g
 
-place_of : {A : Type 0} (xs : List A) (x : A) → Contains xs x → (k : ℕ) × (slice_get xs k ≡ Some x)
+pub place_of : {A : Type 0} (xs : List A) (x : A) → Contains xs x → (k : ℕ) × (slice_get xs k ≡ Some x)
 place_of [] x c = absurd (in_none x c)
 place_of {A} (y ∷ ys) x c =
     elim (in_cons y ys x c) [

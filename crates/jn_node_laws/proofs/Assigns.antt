@@ -150,7 +150,7 @@ module _ (p : Program) (i : Image) (n : Naming) (m : ℕ) (K : Knows) (T : Type 
       → Go p i n m K T Stands code it there r b here t k (s + 1) (20 + w)
       → Go p i n m K T Stands code it there r (suc b) here u (todo (length here.vars) (Assign name) ∷ k) s w
   assign b here u t name x k s w is own at leads h =
-      node p i n m K T Stands code it there r b here u t (Assign name) k s w leads
+      node p i n m K T Stands code it there r [] b here u t (Assign name) k s w leads
       (no_fact p i n m K T Stands code it there r) (λ f h st. tt)
       (λ f y a vars vals keeps ft placed ma fact d step.
       let Q : Did → Type 0 = λ d. Follows p i n m blank (Next p i n m K T Stands code it there r here t b) r d y
@@ -160,7 +160,7 @@ module _ (p : Program) (i : Image) (n : Naming) (m : ℕ) (K : Knows) (T : Type 
       w_first Q no_way f.vals _ d step (λ v us vus step.
       let rw = one_word p n y.firsts v us f.vals vals vus placed.operands.are in
       w_some Q no_way (variable f.vars name) why.Missing _ d step (λ z zis step.
-      let same : x ≡ z.var = same_var p i n m K T Stands code it there r here f y vars vals name x z placed is zis in
+      let same : x ≡ z.var = same_var p i n m K T Stands code it there r [] here f y vars vals name x z placed is zis in
       subst (λ (vals : List ℤ). Follows p i n m blank (Next p i n m K T Stands code it there r here t b) r d y
       (active code s vars vals keeps) a w) (sym rw.is)
       (assigns f y a vars vals rw.rest keeps v us rw.word z d ft placed ma zis
@@ -186,6 +186,6 @@ module _ (p : Program) (i : Image) (n : Naming) (m : ℕ) (K : Knows) (T : Type 
           (stores p i n m K T Stands code it there r s x.var.path vars zs a z keeps at
           (let l = placed.long in let r = own.room in omega (arith, l, r))) (omega arith))
           (omega arith) placed.result ma
-          (goes_on p i n m K T Stands code it there r b here t k (s + 1) (20 + w) h
+          (goes_on p i n m K T Stands code it there r [] b here t k (s + 1) (20 + w) h
           (record f { vals = us; vars = assigned f.vars name v }) y a (slice_set vars x.var.path z) zs keeps ft
           (changed here f y vars vals zs v us z name x placed found own word ws) ma)

@@ -116,7 +116,7 @@ module _ (p : Program) (i : Image) (n : Naming) (m : ℕ) (K : Knows) (T : Type 
         goes_in p i n m K T Stands code it there r b (with_var here x) t y
         (record f { vals = us; vars = f.vars ++ bound_to x v ∷ [] }) [] (active code s vars (z ∷ zs) keeps)
         (active code e (slice_set vars x.path z) zs keeps) a 2 (20 + w) w d step on (omega arith) placed.result ma
-        (goes_on p i n m K T Stands code it there r b (with_var here x) t k e (20 + w) h
+        (goes_on p i n m K T Stands code it there r [] b (with_var here x) t k e (20 + w) h
         (record f { vals = us; vars = f.vars ++ bound_to x v ∷ [] }) y a (slice_set vars x.path z) zs keeps ft
         (bound here f y vars vals zs v us z x placed new word ws) ma)
 
@@ -183,7 +183,7 @@ module _ (p : Program) (i : Image) (n : Naming) (m : ℕ) (K : Knows) (T : Type 
       → Go p i n m K T Stands code it there r (suc b) here u
       (todo (length here.vars) (Bind fixed term name path) ∷ k) s w
   bind b here u t fixed term name path type scratch k s e w typed new at leads h =
-      node p i n m K T Stands code it there r b here u t (Bind fixed term name path) k s w leads
+      node p i n m K T Stands code it there r [] b here u t (Bind fixed term name path) k s w leads
       (no_fact p i n m K T Stands code it there r) (λ f h st. tt)
       (λ f y a vars vals keeps ft placed ma fact d step.
       w_first (Was b here t s w y a vars vals keeps) (no_way y a vars vals keeps) f.vals _ d step (λ v us vus step.

@@ -29,19 +29,19 @@ use Rattle.jn_sem.specs.State.{Heap, Frame}
 use Rattle.jn_sem.specs.Does.{AtNull, Stuck, Entry, Body, IsBody, AreParams, AreParamsAfter, Did, args_of, kept, var}
 use Rattle.jn_sem.specs.Run.{given}
 use Rattle.jn_agree.specs.declared.selectors.MethodSel.{MethodSel}
-use Rattle.jn_agree.specs.Naming.{Naming, IsWord, WordsAre, AreWords}
+use Rattle.jn_agree.specs.Naming.{Naming, IsWord, AreWords}
 use Rattle.jn_agree.specs.Matches.{World}
 use Rattle.jn_agree.specs.Rows.{RowsAre}
 use Rattle.jn_node_laws.specs.Facts.{ResultGoes, CallsWell}
 use Rattle.jn_agree.specs.Follows.{HandsBack, Knows, blank, Going, Waits, Follows, Local, entered, is_tested, paid, rate}
-use Rattle.jn_node_laws.specs.Cont.{Placed, active, Cont, LeadsTo}
+use Rattle.jn_node_laws.specs.Cont.{Layout, LaidOut, Takes, TakesAll, with_result, PlacedOn, active, ContOn, LeadsTo}
 use Rattle.jn_agree.specs.Places.{At, Run, MethodOf, dropping}
 use Rattle.jn_link_laws.proofs.Link.{onward_itself}
 use Rattle.jn_match_laws.proofs.RowLaws.{row_at, block_low}
-use Rattle.jn_node_laws.proofs.Ways.{w_only, w_some, w_first, w_if, w_object, one_word, arg_words, args_long}
+use Rattle.jn_node_laws.proofs.Ways.{w_only, w_some, w_first, w_if, w_object, top_word, arg_words, args_long}
 use Rattle.jn_node_laws.proofs.Gets.{some_goes}
 use Rattle.jn_node_laws.proofs.Quiet.{later, spare}
-use Rattle.jn_node_laws.proofs.Nodes.{node, Next, moved, goes_on, stuck, faults, comes, with_operands, placed_on, words_on}
+use Rattle.jn_node_laws.proofs.Nodes.{node, Next, moved, goes_on, stuck, faults, comes, with_operands, placed_on, laid_on}
 
 -- a test for each parameter at most
 pub paid_by : (vars : List Var) → paid vars ≤ 8 + 3 * length vars
@@ -74,23 +74,26 @@ module _ (p : Program) (i : Image) (n : Naming) (m : ℕ) (K : Knows) (T : Type 
       (λ (x : MethodSel). x.shape) n.methods s ∙ ap (option_map (λ (x : MethodSel). x.shape)) e
 
   -- what the frame does once the result is there
-  pub back : (b : ℕ) (here : Site) (t : T) (keeps : Bool) (q : Frame) (shape : Shape) (k : List Todo) (s e w : ℕ) →
-      ResultGoes q.method.result shape.result → Run it.instrs (dropping keeps shape.result) s e →
-      Cont p i n m K T Stands code it r b here t k e w
-      → (f : Frame) (vs : List Value) (x : World) (lv zs : List ℤ) → f.todo ≡ k → Placed p n it r here
+  pub back : (l : Layout) (b : ℕ) (here : Site) (t : T) (keeps : Bool) (q : Frame) (shape : Shape) (k : List Todo)
+      (s e w : ℕ) → ResultGoes q.method.result shape.result → Run it.instrs (dropping keeps shape.result) s e →
+      ContOn p i n m K T Stands code it r (with_result keeps shape.result l) b here t k e w
+      → (f : Frame) (vs : List Value) (x : World) (lv zs : List ℤ) → f.todo ≡ k → PlacedOn p n it r here l
       (record f { vals = vs }) x lv zs
       → Waits p i n m blank (Next p i n m K T Stands code it there r here t b) q
       (record f { vals = vs; keeps = keeps }) x (active code s lv zs true) (suc w)
-  back b here t keeps q shape k s e w res runs h f vs x lv zs ft placed y a v u on ma hb gb =
+  back l b here t keeps q shape k s e w res runs h f vs x lv zs ft placed y a v u on ma hb gb =
       at_result q.method.result v u res hb
     where
       L : Going
       L = Next p i n m K T Stands code it there r here t b
 
-      placed_y : (us : List Value) (us2 : List ℤ) → WordsAre p n y.firsts us us2 → Placed p n it r here
-          (record f { vals = us; keeps = keeps }) y lv us2
+      after : Layout
+      after = with_result keeps shape.result l
+
+      placed_y : (us : List Value) (us2 : List ℤ) → LaidOut p n y.firsts f.this after us us2 → PlacedOn p n it r here
+          after (record f { vals = us; keeps = keeps }) y lv us2
       placed_y us us2 ws =
-          let e = placed_on p n it r here (record f { vals = vs }) x y lv zs on placed in
+          let e = placed_on p n it r here l (record f { vals = vs }) x y lv zs on placed in
           record {
             class = e.class;
             method = e.method;
@@ -103,15 +106,23 @@ module _ (p : Program) (i : Image) (n : Naming) (m : ℕ) (K : Knows) (T : Type 
             operands = record { are = ws };
           }
 
-      went : (us : List Value) (us2 : List ℤ) → WordsAre p n y.firsts us us2 → L
+      went : (us : List Value) (us2 : List ℤ) → LaidOut p n y.firsts f.this after us us2 → L
           (record f { vals = us; keeps = keeps }) y (active code e lv us2 true) a w
-      went us us2 ws = goes_on p i n m K T Stands code it there r b here t k e w h
+      went us us2 ws = goes_on p i n m K T Stands code it there r after b here t k e w h
           (record f { vals = us; keeps = keeps }) y a lv us2 true ft (placed_y us us2 ws) ma
 
-      kept_words : WordsAre p n y.firsts vs zs
-      kept_words = words_on p n x y vs zs on placed.operands.are
+      kept_words : LaidOut p n y.firsts f.this l vs zs
+      kept_words = laid_on p n f.this l x y vs zs on placed.operands.are
 
-      more : (us : List Value) (us2 : List ℤ) → e ≡ s → WordsAre p n y.firsts us us2 → L
+      -- as the layout is, by what is kept and the result's kind
+      as_laid : (kp : Bool) (kind : ℕ) → keeps ≡ kp → shape.result ≡ kind → (us : List Value) (us2 : List ℤ) →
+          LaidOut p n y.firsts f.this (with_result kp kind l) us us2 → LaidOut p n y.firsts f.this after us us2
+      as_laid kp kind ek er us us2 ws =
+          let same : after ≡ with_result kp kind l = ap (λ (kp : Bool). with_result kp shape.result l) ek
+          ∙ ap (λ (kind : ℕ). with_result kp kind l) er in
+          subst (λ (z : Layout). LaidOut p n y.firsts f.this z us us2) (sym same) ws
+
+      more : (us : List Value) (us2 : List ℤ) → e ≡ s → LaidOut p n y.firsts f.this after us us2 → L
           (record f { vals = us; keeps = keeps }) y (active code s lv us2 true) a (suc w)
       more us us2 same ws st =
           spare p i n m K r b f.todo (record f { vals = us; keeps = keeps }) y (active code s lv us2 true) a w (suc w)
@@ -120,16 +131,18 @@ module _ (p : Program) (i : Image) (n : Naming) (m : ℕ) (K : Knows) (T : Type 
           (active code t lv us2 true) a w) same (went us us2 ws st))
 
       -- a result comes, and is kept or dropped
-      at_value : (kp : Bool) (kind : ℕ) → keeps ≡ kp → Run it.instrs (dropping kp (suc kind)) s e → (v : Value)
+      at_value : (kp : Bool) (kind : ℕ) → keeps ≡ kp → shape.result ≡ suc kind →
+          Run it.instrs (dropping kp (suc kind)) s e → (v : Value)
           (u : ℤ) → IsWord p n y.firsts v u → L (record f { vals = kept kp v vs; keeps = keeps }) y
           (active code s lv (u ∷ zs) true) a (suc w)
-      at_value true kind k runs v u is = more (v ∷ vs) (u ∷ zs) runs (is, kept_words)
-      at_value false kind k runs v u is = λ st.
+      at_value true kind ek er runs v u is = more (v ∷ vs) (u ∷ zs) runs
+          (as_laid true (suc kind) ek er (v ∷ vs) (u ∷ zs) (is, kept_words))
+      at_value false kind ek er runs v u is = λ st.
           later p i n m K r b f.todo (record f { vals = vs; keeps = keeps }) y (active code s lv (u ∷ zs) true)
           (active code e lv zs true) a w
           (moved p i n m K T Stands code it there r s ins.Pop lv (u ∷ zs) a true runs.0 ∙ ap
           (λ (t : ℕ). let d : machine.Did = Goes (active code t lv zs true) a [] in d) (sym runs.1))
-          (went vs zs kept_words st)
+          (went vs zs (as_laid false (suc kind) ek er vs zs kept_words) st)
 
       none_at : (kp : Bool) → Run it.instrs (dropping kp 0) s e → e ≡ s
       none_at true k = k
@@ -139,8 +152,9 @@ module _ (p : Program) (i : Image) (n : Naming) (m : ℕ) (K : Knows) (T : Type 
           HandsBack p n y res v u → L (given v (record f { vals = vs; keeps = keeps })) y
           (machine.given u (active code s lv zs true)) a (suc w)
       at_result None None None k hb = more vs zs
-          (none_at keeps (subst (λ (k : ℕ). Run it.instrs (dropping keeps k) s e) k runs)) kept_words
-      at_result (Some ty) (Some v) (Some u) k hb = at_value keeps k.0 refl
+          (none_at keeps (subst (λ (k : ℕ). Run it.instrs (dropping keeps k) s e) k runs))
+          (as_laid keeps 0 refl k vs zs kept_words)
+      at_result (Some ty) (Some v) (Some u) k hb = at_value keeps k.0 refl k.1
           (subst (λ (k : ℕ). Run it.instrs (dropping keeps k) s e) k.1 runs) v u hb
       at_result None None (Some u) k hb = absurd hb
       at_result None (Some v) u k hb = absurd hb
@@ -148,7 +162,7 @@ module _ (p : Program) (i : Image) (n : Naming) (m : ℕ) (K : Knows) (T : Type 
       at_result (Some ty) (Some v) None k hb = absurd hb
 
   -- the instruction, up to the body that is entered
-  entered_at : (here : ℕ) (j kv cell kc : ℕ) (shape : Shape) (row : ClassRow) (lv zs words below a : List ℤ)
+  pub entered_at : (here : ℕ) (j kv cell kc : ℕ) (shape : Shape) (row : ClassRow) (lv zs words below a : List ℤ)
       (keeps : Bool) → At it.instrs here (ins.Call j) → cell < 4294967296 → slice_get i.methods j ≡ Some shape
       → ((go : List ℤ → List ℤ → machine.Did) → on_args machine.Stuck (length shape.params) [] zs go ≡ go words
       (ref_word kv cell ∷ below)) → slice_get i.classes kv ≡ Some row → code_in row j ≡ Some kc
@@ -173,7 +187,7 @@ module _ (p : Program) (i : Image) (n : Naming) (m : ℕ) (K : Knows) (T : Type 
       ∙ some_goes machine.Stuck (slice_get i.classes kv) row of_row rowed
       ∙ some_goes machine.Null (code_in row j) kc of_code coded
 
-  called_null : (here : ℕ) (j : ℕ) (shape : Shape) (lv zs words below a : List ℤ) (z : ℤ) (keeps : Bool) →
+  pub called_null : (here : ℕ) (j : ℕ) (shape : Shape) (lv zs words below a : List ℤ) (z : ℤ) (keeps : Bool) →
       At it.instrs here (ins.Call j) → slice_get i.methods j ≡ Some shape
       → ((go : List ℤ → List ℤ → machine.Did) → on_args machine.Stuck (length shape.params) [] zs go ≡ go words
       (z ∷ below)) → z ≡ pos 0 → move i m (active code here lv zs keeps) a ≡ Faults machine.Null
@@ -190,17 +204,18 @@ module _ (p : Program) (i : Image) (n : Naming) (m : ℕ) (K : Knows) (T : Type 
       ∙ ap (λ z. of_args words (z ∷ below)) null
 
   -- THE NODE: the selector is one of the name, and of the shape of the body that is called
-  pub call : (b : ℕ) (here : Site) (u t : T) (name : Name) (num : ℕ) (keeps : Bool) (j : ℕ) (shape : Shape)
+  pub call : (q0 q l : Layout) (b : ℕ) (here : Site) (u t : T) (name : Name) (num : ℕ) (keeps : Bool) (j : ℕ)
+      (shape : Shape)
       (k : List Todo) (s e w : ℕ)
       → At it.instrs s (ins.Call j) → Run it.instrs (dropping keeps shape.result) (s + 1) e → MethodOf n name j shape
-      → length shape.params ≡ num
+      → length shape.params ≡ num → TakesAll num q0 q → Takes q l
       → ((f : Frame) (h : Heap) → Stands u f h → CallsWell p name num shape h f.vals) →
       LeadsTo p i n m K T Stands code it r here (Call name num keeps) k u t
-      → Cont p i n m K T Stands code it r b here t k e (20 + w)
-      → Cont p i n m K T Stands code it r (suc b) here u (todo (length here.vars) (Call name num keeps) ∷ k) s
+      → ContOn p i n m K T Stands code it r (with_result keeps shape.result l) b here t k e (20 + w)
+      → ContOn p i n m K T Stands code it r q0 (suc b) here u (todo (length here.vars) (Call name num keeps) ∷ k) s
       (3 * num + w)
-  call b here u t name num keeps j shape k s e w at runs sel many facts leads h =
-      node p i n m K T Stands code it there r b here u t (Call name num keeps) k s (3 * num + w) leads
+  call q0 q l b here u t name num keeps j shape k s e w at runs sel many tks tk facts leads h =
+      node p i n m K T Stands code it there r q0 b here u t (Call name num keeps) k s (3 * num + w) leads
       (CallsWell p name num shape) facts
       (λ f x a lv zs kp ft placed ma fact d step.
       let g = active code s lv zs kp in
@@ -209,9 +224,9 @@ module _ (p : Program) (i : Image) (n : Naming) (m : ℕ) (K : Knows) (T : Type 
       let no_way : (d : Did) (w : Why) → d ≡ Faults (Stuck w) → Q d = λ d2 why e.
       stuck p i n m K T Stands code it there r b here t why x g a (3 * num + w) d2 e in
       w_some Q no_way (args_of num [] f.vals) _ _ d step (λ y is step.
-      let aw = arg_words p n x.firsts num [] f.vals [] zs y is tt placed.operands.are in
+      let aw = arg_words p n x.firsts f.this num q0 q tks [] f.vals [] zs y is tt placed.operands.are in
       w_first Q no_way y.1 _ d step (λ v us vus step.
-      let rw = one_word p n x.firsts v us y.1 aw.below vus aw.others in
+      let rw = top_word p n x.firsts f.this q l tk v us y.1 aw.below vus aw.others in
       w_object Q no_way v _ d step (λ null e.
       let zero_word : IsWord p n x.firsts Null rw.word = subst
       (λ (v : Value). IsWord p n x.firsts v rw.word) null rw.first in
@@ -280,9 +295,9 @@ module _ (p : Program) (i : Image) (n : Naming) (m : ℕ) (K : Knows) (T : Type 
         };
         may = record { long = counted; ready = tt };
         result = placed.result;
-        waits = back b here t keeps (entered en (v ∷ y.0)) shape k (s + 1) e
+        waits = back l b here t keeps (entered en (v ∷ y.0)) shape k (s + 1) e
             (20 + w) calls.result runs h f us x lv rw.rest ft
-            (with_operands p n it r here f us f.todo x lv zs rw.rest placed (record { are = rw.others }));
+            (with_operands p n it r here q0 l f us f.todo x lv zs rw.rest placed (record { are = rw.others }));
       }))))))))
     where
       sel_is : MethodSel

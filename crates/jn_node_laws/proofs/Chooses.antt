@@ -49,7 +49,7 @@ module _ (p : Program) (i : Image) (n : Naming) (m : ℕ) (K : Knows) (T : Type 
         (active code s vars vals keeps) a w d
         (leads f x.heap d u us st (vus ∙ ap (λ (z : Value). z ∷ us) is) does)
         (at_truth u f1 x a vars vals rw.rest keeps us d refl
-        (with_operands p n it r here (trimmed here f) f.vals k x vars vals vals placed placed.operands) ma
+        (with_operands p n it r here [] [] (trimmed here f) f.vals k x vars vals vals placed placed.operands) ma
         (rw.is ∙ ap (λ (z : ℤ). z ∷ rw.rest) word.is) rw.others step))));
   } where
     -- it goes on at one place or the other
@@ -67,8 +67,8 @@ module _ (p : Program) (i : Image) (n : Naming) (m : ℕ) (K : Knows) (T : Type 
         (active code place vars zs keeps) a 1 (20 + w) w d
         (does ∙ ap (λ (f : Frame). let d : Did = Goes f x.heap [] in d) is)
         (comes p i n m K T Stands code it there r _ a _ 1 mv (omega arith)) (omega arith) placed.result ma
-        (goes_on p i n m K T Stands code it there r b here ty l place (20 + w) on f3 x a vars zs keeps refl
-        (with_operands p n it r here f vs l x vars vals zs placed (record { are = ws })) ma)
+        (goes_on p i n m K T Stands code it there r [] b here ty l place (20 + w) on f3 x a vars zs keeps refl
+        (with_operands p n it r here [] [] f vs l x vars vals zs placed (record { are = ws })) ma)
 
     at_truth : (u : Bool) → (f : Frame) (x : World) (a vars vals zs : List ℤ) (keeps : Bool)
         (vs : List Value) (d : Did) → f.todo ≡ k → Placed p n it r here f x vars vals → Matches p i n x a →
@@ -83,7 +83,7 @@ module _ (p : Program) (i : Image) (n : Naming) (m : ℕ) (K : Knows) (T : Type 
         ∙ moved p i n m K T Stands code it there r s (ins.Jfalse t) vars (word_of true ∷ zs) a keeps at)
         (ap (λ (l : List Todo). record f { vals = vs; todo = l })
         (ap (λ (l : ℕ). stmts_acts l path one f.todo)
-        (wide p i n m K T Stands code it there r here f x vars vals placed)
+        (wide p i n m K T Stands code it there r here [] f x vars vals placed)
         ∙ ap (λ (k : List Todo). stmts_acts (length here.vars) path one k) ft)) does
     at_truth false f x a vars vals zs keeps vs d ft placed ma vz ws does =
         goes_there if_not (stmts_acts (length here.vars) (path_behind one path) other k) t not_so f
@@ -92,5 +92,5 @@ module _ (p : Program) (i : Image) (n : Naming) (m : ℕ) (K : Knows) (T : Type 
         ∙ moved p i n m K T Stands code it there r s (ins.Jfalse t) vars (word_of false ∷ zs) a keeps at)
         (ap (λ (l : List Todo). record f { vals = vs; todo = l })
         (ap (λ (l : ℕ). stmts_acts l (path_behind one path) other f.todo)
-        (wide p i n m K T Stands code it there r here f x vars vals placed)
+        (wide p i n m K T Stands code it there r here [] f x vars vals placed)
         ∙ ap (λ (k : List Todo). stmts_acts (length here.vars) (path_behind one path) other k) ft)) does

@@ -17,23 +17,24 @@ use Rattle.jn_sem.specs.Acts.{Decide, Todo, todo, acts}
 use Rattle.jn_sem.specs.State.{Heap, Frame}
 use Rattle.jn_sem.specs.Does.{Stuck, Did, decided, same_truth}
 use Rattle.jn_sem.specs.Run.{acting}
-use Rattle.jn_agree.specs.Naming.{Naming, IsWord, WordsAre}
+use Rattle.jn_agree.specs.Naming.{Naming, IsWord}
 use Rattle.jn_agree.specs.Matches.{World, Matches}
 use Rattle.jn_agree.specs.Follows.{Knows, blank, Follows, LocalAt, Local}
-use Rattle.jn_node_laws.specs.Cont.{Placed, trimmed, active, Cont, LeadsByTruth, either}
+use Rattle.jn_node_laws.specs.Cont.{of_frame, Layout, LaidOut, Takes, PlacedOn, trimmed, active, ContOn, LeadsByTruth, either}
 use Rattle.jn_agree.specs.Places.{At, deciding, decided_by}
-use Rattle.jn_node_laws.proofs.Ways.{w_first, w_truth, one_word}
+use Rattle.jn_node_laws.proofs.Ways.{w_first, w_truth, top_word}
 use Rattle.jn_node_laws.proofs.Nodes.{none_some, typed, Next, moved, goes_on, goes_in, comes, comes_later, with_operands, wide}
 
 module _ (p : Program) (i : Image) (n : Naming) (m : ℕ) (K : Knows) (T : Type 0) (Stands : T → Frame → Heap → Type 0)
     (code : ℕ) (it : Code) (there : slice_get i.codes code ≡ Some it) (r : Frame) where
-  pub decide : (b : ℕ) (here : Site) (u if_so if_not : T) (and : Bool) (e : Expr) (k : List Todo) (s t w : ℕ) →
+  pub decide : (j l : Layout) → Takes j l → (b : ℕ) (here : Site) (u if_so if_not : T) (and : Bool) (e : Expr)
+      (k : List Todo) (s t w : ℕ) →
       At it.instrs s (deciding and t) → At it.instrs t (decided_by and)
       → LeadsByTruth p i n m K T Stands code it r here (Decide and e) k u (λ v. either if_so if_not (same_truth and v))
-      → Cont p i n m K T Stands code it r b here if_so (acts (length here.vars) e k) (s + 1) (20 + w) →
-      Cont p i n m K T Stands code it r b here if_not k (t + 1) (20 + w)
-      → Cont p i n m K T Stands code it r (suc b) here u (todo (length here.vars) (Decide and e) ∷ k) s w
-  decide b here u0 if_so if_not and e k s t w first second leads right left = record {
+      → ContOn p i n m K T Stands code it r l b here if_so (acts (length here.vars) e k) (s + 1) (20 + w) →
+      ContOn p i n m K T Stands code it r (of_frame ∷ l) b here if_not k (t + 1) (20 + w)
+      → ContOn p i n m K T Stands code it r j (suc b) here u (todo (length here.vars) (Decide and e) ∷ k) s w
+  decide j l tk b here u0 if_so if_not and e k s t w first second leads right left = record {
     by = λ f x a vars vals keeps ft placed ma st.
         subst (λ (todo : List Todo). LocalAt p i n m K r (suc b) todo f x (active code s vars vals keeps) a w) (sym ft)
         (λ d does.
@@ -42,7 +43,7 @@ module _ (p : Program) (i : Image) (n : Naming) (m : ℕ) (K : Knows) (T : Type 
         (λ h is. absurd (none_some is)) in
         let f1 : Frame = acting (todo (length here.vars) (Decide and e)) k f in
         w_first Q no_way f.vals _ d does (λ v us vus step.
-        let rw = one_word p n x.firsts v us f.vals vals vus placed.operands.are in
+        let rw = top_word p n x.firsts f.this j l tk v us f.vals vals vus placed.operands.are in
         w_truth Q no_way v _ d step (λ u is step.
         let word : IsWord p n x.firsts (Truth u) rw.word = subst
         (λ (v : Value). IsWord p n x.firsts v rw.word) is rw.first in
@@ -50,7 +51,7 @@ module _ (p : Program) (i : Image) (n : Naming) (m : ℕ) (K : Knows) (T : Type 
         (active code s vars vals keeps) a w d
         (leads f x.heap d u us st (vus ∙ ap (λ (z : Value). z ∷ us) is) does)
         (at_truth and u refl f1 x a vars vals rw.rest keeps us d refl
-        (with_operands p n it r here (trimmed here f) f.vals k x vars vals vals placed placed.operands) ma
+        (with_operands p n it r here j j (trimmed here f) f.vals k x vars vals vals placed placed.operands) ma
         (rw.is ∙ ap (λ (z : ℤ). z ∷ rw.rest) word.is) rw.others step))));
   } where
     Raw : (right : Bool) → World → Did → (vars vals : List ℤ) → Bool → List ℤ → Type 0
@@ -60,24 +61,24 @@ module _ (p : Program) (i : Image) (n : Naming) (m : ℕ) (K : Knows) (T : Type 
 
     -- the right operand is still to act
     goes_right : (f : Frame) (x : World) (a vars vals zs : List ℤ) (keeps u : Bool) (vs : List Value) (d : Did) →
-        f.todo ≡ k → Placed p n it r here f x vars vals → Matches p i n x a → WordsAre p n x.firsts vs zs
+        f.todo ≡ k → PlacedOn p n it r here j f x vars vals → Matches p i n x a → LaidOut p n x.firsts f.this l vs zs
         → move i m (active code s vars vals keeps) a ≡ Goes (active code (s + 1) vars zs keeps) a [] →
         decided f e vs x.heap u true d → Raw true x d vars vals keeps a
     goes_right f x a vars vals zs keeps u vs d ft placed ma ws mv does =
         let f2 : Frame = record f { vals = vs; todo = acts (length f.vars) e f.todo } in
         let same : f2.todo ≡ acts (length here.vars) e k = ap (λ (l : ℕ). acts l e f.todo)
-        (wide p i n m K T Stands code it there r here f x vars vals placed) ∙ ap
+        (wide p i n m K T Stands code it there r here j f x vars vals placed) ∙ ap
         (λ (k : List Todo). acts (length here.vars) e k) ft in
         goes_in p i n m K T Stands code it there r b here if_so x f2 [] (active code s vars vals keeps)
         (active code (s + 1) vars zs keeps) a 1 (20 + w) w d does
         (comes p i n m K T Stands code it there r _ a _ 1 mv (omega arith)) (omega arith) placed.result ma
-        (goes_on p i n m K T Stands code it there r b here if_so (acts (length here.vars) e k) (s + 1)
+        (goes_on p i n m K T Stands code it there r l b here if_so (acts (length here.vars) e k) (s + 1)
         (20 + w) right f2 x a vars zs keeps same
-        (with_operands p n it r here f vs f2.todo x vars vals zs placed (record { are = ws })) ma)
+        (with_operands p n it r here j l f vs f2.todo x vars vals zs placed (record { are = ws })) ma)
 
     -- the left one is the value
     goes_left : (f : Frame) (x : World) (a vars vals zs : List ℤ) (keeps u : Bool) (vs : List Value) (d : Did) →
-        f.todo ≡ k → Placed p n it r here f x vars vals → Matches p i n x a → WordsAre p n x.firsts vs zs
+        f.todo ≡ k → PlacedOn p n it r here j f x vars vals → Matches p i n x a → LaidOut p n x.firsts f.this l vs zs
         → move i m (active code s vars vals keeps) a ≡ Goes (active code t vars zs keeps) a [] → move i m
         (active code t vars zs keeps) a ≡ Goes (active code (t + 1) vars (word_of u ∷ zs) keeps) a [] →
         decided f e vs x.heap u false d → Raw false x d vars vals keeps a
@@ -87,9 +88,9 @@ module _ (p : Program) (i : Image) (n : Naming) (m : ℕ) (K : Knows) (T : Type 
         (active code (t + 1) vars (word_of u ∷ zs) keeps) a 2 (20 + w) w d does
         (comes_later p i n m K T Stands code it there r _ _ a a _ 1 mv
         (comes p i n m K T Stands code it there r _ a _ 1 mv2 (omega arith))) (omega arith) placed.result ma
-        (goes_on p i n m K T Stands code it there r b here if_not k (t + 1) (20 + w) left f2 x a vars
+        (goes_on p i n m K T Stands code it there r (of_frame ∷ l) b here if_not k (t + 1) (20 + w) left f2 x a vars
         (word_of u ∷ zs) keeps ft
-        (with_operands p n it r here f (Truth u ∷ vs) f.todo x vars vals (word_of u ∷ zs) placed
+        (with_operands p n it r here j (of_frame ∷ l) f (Truth u ∷ vs) f.todo x vars vals (word_of u ∷ zs) placed
         (record { are = (record { is = refl }, ws) })) ma)
 
     jumped : (s0 : ℕ) (y : Instr) (vars vals zs a : List ℤ) (keeps u : Bool) (g : machine.Frame) →
@@ -98,8 +99,8 @@ module _ (p : Program) (i : Image) (n : Naming) (m : ℕ) (K : Knows) (T : Type 
     jumped s0 y vars vals zs a keeps u g e mv = ap (λ (l : List ℤ). move i m (active code s0 vars l keeps) a) e ∙ mv
 
     at_truth : (a2 u : Bool) → and ≡ a2 → (f : Frame) (x : World) (a vars vals zs : List ℤ) (keeps : Bool)
-        (vs : List Value) (d : Did) → f.todo ≡ k → Placed p n it r here f x vars vals → Matches p i n x a →
-        vals ≡ word_of u ∷ zs → WordsAre p n x.firsts vs zs
+        (vs : List Value) (d : Did) → f.todo ≡ k → PlacedOn p n it r here j f x vars vals → Matches p i n x a →
+        vals ≡ word_of u ∷ zs → LaidOut p n x.firsts f.this l vs zs
         → decided f e vs x.heap u (same_truth a2 u) d → Raw (same_truth a2 u) x d vars vals keeps a
     at_truth true true ea f x a vars vals zs keeps vs d ft placed ma vz ws does =
         goes_right f x a vars vals zs keeps true vs d ft placed ma ws

@@ -38,7 +38,7 @@ module _ (p : Program) (i : Image) (n : Naming) (m : ℕ) (K : Knows) (T : Type 
       → LeadsTo p i n m K T Stands code it r here (Return true) k u t
       → Go p i n m K T Stands code it there r (suc b) here u (todo (length here.vars) (Return true) ∷ k) s w
   return_value b here u t k s w at leads =
-      node p i n m K T Stands code it there r b here u t (Return true) k s w leads
+      node p i n m K T Stands code it there r [] b here u t (Return true) k s w leads
       (no_fact p i n m K T Stands code it there r) (λ f h st. tt)
       (λ f y a vars vals keeps ft placed ma fact d step.
       w_first (λ d. Ends b here t s w d y vars vals keeps a)
@@ -83,7 +83,7 @@ module _ (p : Program) (i : Image) (n : Naming) (m : ℕ) (K : Knows) (T : Type 
       → LeadsTo p i n m K T Stands code it r here (Return false) k u t
       → Go p i n m K T Stands code it there r (suc b) here u (todo (length here.vars) (Return false) ∷ k) s w
   return_nothing b here u t k s w at leads =
-      node p i n m K T Stands code it there r b here u t (Return false) k s w leads
+      node p i n m K T Stands code it there r [] b here u t (Return false) k s w leads
       (no_fact p i n m K T Stands code it there r) (λ f h st. tt)
       (λ f y a vars vals keeps ft placed ma fact d step.
       at_result f y a vars vals keeps d placed ma f.method.result refl step)

@@ -28,13 +28,13 @@ use Rattle.jn_sem.specs.Does.{Ending, AtNull, Stuck, Did, Does, Way, masked, on_
 use Rattle.jn_sem.specs.Does as does
 use Rattle.jn_sem.proofs.SharedLaws.{sharing_laws}
 use Rattle.jn_sem.specs.declared.outcome.Why.{Why}
-use Rattle.jn_node_laws.proofs.Ways.{w_first, w_object, w_only, w_some, one_word}
+use Rattle.jn_node_laws.proofs.Ways.{w_first, w_object, w_only, w_some, top_word}
 use Rattle.jn_agree.specs.declared.selectors.FieldSel.{FieldSel}
-use Rattle.jn_agree.specs.Naming.{Naming, First, IsWord, WordsAre}
+use Rattle.jn_agree.specs.Naming.{Naming, First, IsWord}
 use Rattle.jn_agree.specs.Matches.{World, Matches, SlotNumber}
 use Rattle.jn_agree.specs.Rows.{RowIs, RowsAre, FieldKind, plain, hanging, kind_of_type}
 use Rattle.jn_agree.specs.Follows.{Knows, blank, Follows, rate}
-use Rattle.jn_node_laws.specs.Cont.{Placed, active, Cont, LeadsTo}
+use Rattle.jn_node_laws.specs.Cont.{of_frame, Layout, LaidOut, Takes, PlacedOn, active, ContOn, LeadsTo}
 use Rattle.jn_node_laws.specs.Facts.{OfKind, ReadsWell}
 use Rattle.jn_agree.specs.Places.{At, FieldOf}
 use Rattle.jn_match_laws.proofs.RowLaws.{row_at, kind_at, viewed_found, block_low}
@@ -165,14 +165,15 @@ module _ (p : Program) (i : Image) (n : Naming) (m : ℕ) (K : Knows) (T : Type 
       ∙ some_goes machine.Stuck (slice_get i.fields j) kind (last row u) kinded
 
   -- THE NODE: the selector is one of the name, and of the kind of the field that is read
-  pub get : (b : ℕ) (here : Site) (u t : T) (field : Name) (j kind : ℕ) (k : List Todo) (s w : ℕ) → At it.instrs s
+  pub get : (q l : Layout) → Takes q l → (b : ℕ) (here : Site) (u t : T) (field : Name) (j kind : ℕ)
+      (k : List Todo) (s w : ℕ) → At it.instrs s
       (ins.Get j) → FieldOf n field j kind
       → ((f : Frame) (h : Heap) → Stands u f h → ReadsWell p field kind h f.vals) →
       LeadsTo p i n m K T Stands code it r here (Get field) k u t
-      → Cont p i n m K T Stands code it r b here t k (s + 1) (20 + w)
-      → Cont p i n m K T Stands code it r (suc b) here u (todo (length here.vars) (Get field) ∷ k) s w
-  get b here u t field j kind k s w at sel facts leads h =
-      node p i n m K T Stands code it there r b here u t (Get field) k s w leads (ReadsWell p field kind) facts
+      → ContOn p i n m K T Stands code it r (of_frame ∷ l) b here t k (s + 1) (20 + w)
+      → ContOn p i n m K T Stands code it r q (suc b) here u (todo (length here.vars) (Get field) ∷ k) s w
+  get q l tk b here u t field j kind k s w at sel facts leads h =
+      node p i n m K T Stands code it there r q b here u t (Get field) k s w leads (ReadsWell p field kind) facts
       (λ f x a vars vals keeps ft placed ma fact d step.
       let g = active code s vars vals keeps in
       let Q : Did → Type 0 = λ d. Follows p i n m blank
@@ -180,7 +181,7 @@ module _ (p : Program) (i : Image) (n : Naming) (m : ℕ) (K : Knows) (T : Type 
       let no_way : (d : Did) (w : Why) → d ≡ Faults (Stuck w) → Q d = λ d2 why e.
       stuck p i n m K T Stands code it there r b here t why x g a w d2 e in
       w_first Q no_way f.vals _ d step (λ v us vus step.
-      let rw = one_word p n x.firsts v us f.vals vals vus placed.operands.are in
+      let rw = top_word p n x.firsts f.this q l tk v us f.vals vals vus placed.operands.are in
       w_object Q no_way v _ d step (λ null e.
       let zero_word : IsWord p n x.firsts Null rw.word = subst
       (λ (v : Value). IsWord p n x.firsts v rw.word) null rw.first in
@@ -199,7 +200,7 @@ module _ (p : Program) (i : Image) (n : Naming) (m : ℕ) (K : Knows) (T : Type 
       subst (λ (vals : List ℤ). Follows p i n m blank (Next p i n m K T Stands code it there r here t b) r d x
       (active code s vars vals keeps) a w) (sym whole)
       (at_value f x a vars rw.rest keeps o V us is.0 is.1 ft2 sl sv d ft
-      (subst (λ (vals : List ℤ). Placed p n it r here f x vars vals) whole placed) ma rw.others is.2 is.3 is.4
+      (subst (λ (vals : List ℤ). PlacedOn p n it r here q f x vars vals) whole placed) ma rw.others is.2 is.3 is.4
       only.is onlys.is val known.kind (known.stored sl sv onlys.is val) step)))))))
     where
       null_got : (s0 : ℕ) (vars vals zs a : List ℤ) (keeps : Bool) → vals ≡ pos 0 ∷ zs → move i m
@@ -210,8 +211,9 @@ module _ (p : Program) (i : Image) (n : Naming) (m : ℕ) (K : Knows) (T : Type 
 
       -- the value is there
       at_value : (f : Frame) (x : World) (a vars zs : List ℤ) (keeps : Bool) (o : ℕ) (V : Path) (vs : List Value)
-          (kv : ℕ) (y : First) (ty : Ty) (sl : Slot) (v : Value) (d : Did) → f.todo ≡ k → Placed p n it r here f x vars
-          (ref_word kv y.cell ∷ zs) → Matches p i n x a → WordsAre p n x.firsts vs zs
+          (kv : ℕ) (y : First) (ty : Ty) (sl : Slot) (v : Value) (d : Did) → f.todo ≡ k →
+          PlacedOn p n it r here q f x vars
+          (ref_word kv y.cell ∷ zs) → Matches p i n x a → LaidOut p n x.firsts f.this l vs zs
           → slice_get n.classes kv ≡ Some V → slice_get x.firsts o ≡ Some y → Related p y.made V →
           FieldType p V field ty → IsSlot p V field sl → slot_value x.heap o sl ≡ Some v → FieldKind ty kind →
           OfKind ty v → on_read p V ty v (λ w. goes f (w ∷ vs) x.heap) d
@@ -253,8 +255,9 @@ module _ (p : Program) (i : Image) (n : Naming) (m : ℕ) (K : Knows) (T : Type 
           (comes p i n m K T Stands code it there r g a _ 1
           (mv ∙ some_goes machine.Null (field_value i kind row.0.family there_at.word) reads.word _ reads.is)
           (omega arith)) (omega arith) placed.result ma
-          (goes_on p i n m K T Stands code it there r b here t k (s + 1) (20 + w) h f2 x a vars
+          (goes_on p i n m K T Stands code it there r (of_frame ∷ l) b here t k (s + 1) (20 + w) h f2 x a vars
           (reads.word ∷ zs) keeps ft
-          (with_operands p n it r here f (v2 ∷ vs) f.todo x vars (ref_word kv y.cell ∷ zs) (reads.word ∷ zs) placed
+          (with_operands p n it r here q (of_frame ∷ l) f (v2 ∷ vs) f.todo x vars (ref_word kv y.cell ∷ zs)
+          (reads.word ∷ zs) placed
           (record { are = (reads.stands, ws) })) ma))
           step

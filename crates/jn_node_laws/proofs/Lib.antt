@@ -8,6 +8,8 @@ pub mod Quiet
 pub mod Calls
 pub mod Decides
 pub mod Loops
+pub mod Classes
+pub mod Objects
 pub mod News
 pub mod Prints
 pub mod Variables
@@ -18,3 +20,7 @@ pub mod Binds
 pub mod Assigns
 pub mod Supers
 pub mod Laws
+pub mod LaidLaws
+pub mod Tests
+pub mod Starts
+pub mod Entries

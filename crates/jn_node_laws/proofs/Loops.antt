@@ -82,7 +82,7 @@ module _ (p : Program) (i : Image) (n : Naming) (m : ℕ) (K : Knows) (T : Type 
         typed p i n m K T Stands code it there r b here (either if_so if_not u) x (active code s lv zs kp) a w d
         (leads f x.heap d u us st (vus ∙ ap (λ (z : Value). z ∷ us) is) step0)
         (at_truth u f1 x a lv zs rw.rest kp us d refl
-        (with_operands p n it r here (trimmed here f) f.vals k x lv zs zs placed placed.operands) ma
+        (with_operands p n it r here [] [] (trimmed here f) f.vals k x lv zs zs placed placed.operands) ma
         (rw.is ∙ ap (λ (z : ℤ). z ∷ rw.rest) word.is) rw.others step))));
   }
     where
@@ -96,7 +96,7 @@ module _ (p : Program) (i : Image) (n : Naming) (m : ℕ) (K : Knows) (T : Type 
           let same : f2.todo ≡ stmts_acts (length here.vars) path body
           (acts (length here.vars) e (todo (length here.vars) (Repeat path e body) ∷ k)) = ap
           (λ (l : ℕ). stmts_acts l path body (acts l e (todo l (Repeat path e body) ∷ f.todo)))
-          (wide p i n m K T Stands code it there r here f x lv zs placed) ∙ ap
+          (wide p i n m K T Stands code it there r here [] f x lv zs placed) ∙ ap
           (λ (k : List Todo). stmts_acts (length here.vars) path body
           (acts (length here.vars) e (todo (length here.vars) (Repeat path e body) ∷ k))) ft in
           goes_in p i n m K T Stands code it there r b here if_so x f2 [] (active code s lv zs kp)
@@ -105,8 +105,8 @@ module _ (p : Program) (i : Image) (n : Naming) (m : ℕ) (K : Knows) (T : Type 
           (moved p i n m K T Stands code it there r s (ins.Jfalse t) lv zs a kp at ∙ ap
           (λ (zs : List ℤ). obey i m (ins.Jfalse t) (active code s lv zs kp) a) zw) (omega arith))
           (omega arith) placed.result ma
-          (goes_on p i n m K T Stands code it there r b here if_so _ (s + 1) (20 + w) again f2 x a lv below kp same
-          (with_operands p n it r here f us f2.todo x lv zs below placed (record { are = ws })) ma)
+          (goes_on p i n m K T Stands code it there r [] b here if_so _ (s + 1) (20 + w) again f2 x a lv below kp same
+          (with_operands p n it r here [] [] f us f2.todo x lv zs below placed (record { are = ws })) ma)
       at_truth false f x a lv zs below kp us d ft placed ma zw ws step =
           let f2 : Frame = record f { vals = us } in
           goes_in p i n m K T Stands code it there r b here if_not x f2 [] (active code s lv zs kp)
@@ -115,8 +115,8 @@ module _ (p : Program) (i : Image) (n : Naming) (m : ℕ) (K : Knows) (T : Type 
           (moved p i n m K T Stands code it there r s (ins.Jfalse t) lv zs a kp at ∙ ap
           (λ (zs : List ℤ). obey i m (ins.Jfalse t) (active code s lv zs kp) a) zw) (omega arith))
           (omega arith) placed.result ma
-          (goes_on p i n m K T Stands code it there r b here if_not k t (20 + w) past f2 x a lv below kp ft
-          (with_operands p n it r here f us f.todo x lv zs below placed (record { are = ws })) ma)
+          (goes_on p i n m K T Stands code it there r [] b here if_not k t (20 + w) past f2 x a lv below kp ft
+          (with_operands p n it r here [] [] f us f.todo x lv zs below placed (record { are = ws })) ma)
 
   -- a whole loop, from what its condition and its body are
   pub loop : (here : Site) (u v if_so if_not : T) (path : ℕ) (e : Expr) (body : List Stmt) (k : List Todo)

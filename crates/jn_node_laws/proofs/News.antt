@@ -1,13 +1,20 @@
--- A new object whose class is one of the program's own, with its constructor.
-use Rattle.std.proofs.Common.{◌≡◌, ℕ, suc, ◌+◌, ◌*◌, ◌<◌, List, [], ◌∷◌, ◌++◌, length, Option, Some, None, Bool, true, false, refl, sym, ap, ◌∙◌, subst, arith, nat_eq}
-use Rattle.std.specs.Prelude.{ℤ, pos, slice_get, nat_le, if◌then◌else◌}
-use Rattle.std.proofs.lemmas.Bool.{leb-true, eqb-true}
-use Rattle.std.proofs.lemmas.List.{length-replicate}
-use Rattle.jn_steps.specs.Steps.{Goes, Enters, Faults, on_some, on_args}
+-- `new`: of a class of the program's own and of one that hangs on a path, with a constructor and without one.
+use Rattle.std.proofs.Common.{◌≡◌, ◌≢◌, ℕ, zero, suc, ◌+◌, ◌*◌, ◌<◌, ◌≤◌, List, [], ◌∷◌, ◌++◌, length, Option, Some, None, Bool, true, false, refl, sym, ap, ◌∙◌, subst, arith, append_assoc}
+use Rattle.std.specs.Prelude.{ℤ, pos, slice_get, Result, Ok, if◌then◌else◌}
+use Rattle.std.proofs.lemmas.Bool.{ne_eqb}
+use Rattle.std.proofs.lemmas.Option.{slice_get_within}
+use Rattle.jn_steps.specs.Steps.{Faults}
 use Rattle.jn_base.specs.declared.tree.Name.{Name}
+use Rattle.jn_base.specs.declared.tree.Term.{Term}
 use Rattle.jn_base.specs.declared.tree.Program.{Program}
-use Rattle.jn_base.specs.declared.names.Var.{Var}
+use Rattle.jn_base.specs.declared.types.Atom.{Atom as ShownAtom}
+use Rattle.jn_base.specs.declared.names.Role.TheVariants as role
+use Rattle.jn_base.specs.declared.refusal.Refusal.{Refusal}
 use Rattle.jn_base.specs.Paths.{Path}
+use Rattle.jn_base.specs.Universe.{InUniverse}
+use Rattle.jn_base.specs.Atoms.{Atom, atom_of, anchor_at, atom_at}
+use Rattle.jn_base.proofs.ResolveOnce.{term_once}
+use Rattle.jn_code.specs.declared.instr.Instr.{Instr}
 use Rattle.jn_code.specs.declared.instr.Instr.TheVariants as ins
 use Rattle.jn_code.specs.declared.image.Image.{Image}
 use Rattle.jn_code.specs.declared.image.Code.{Code}
@@ -15,135 +22,60 @@ use Rattle.jn_code.specs.declared.image.Group.{Group}
 use Rattle.jn_code.specs.declared.image.Shape.{Shape}
 use Rattle.jn_code.specs.declared.image.ClassRow.{ClassRow}
 use Rattle.jn_code.specs.Rows.{numbered}
-use Rattle.jn_code.specs.Machine.{Ref, move, obey, ref_word, ref_in, code_in, waits, object_cells, construct, next}
-use Rattle.jn_code.specs.Machine as machine
-use Rattle.jn_code.proofs.Words.{ref_in_word, get_right}
-use Rattle.jn_sem.specs.Values.{Value, Reference}
-use Rattle.jn_sem.specs.Terms.{Site}
-use Rattle.jn_sem.specs.Sharing.{IsClass}
-use Rattle.jn_sem.specs.Acts.{Make, Todo, todo}
-use Rattle.jn_sem.specs.State.{Frame, Heap, Object, Stored, with_object}
+use Rattle.jn_code.specs.Machine.{code_in}
 use Rattle.jn_sem.specs.declared.outcome.Why.{Why}
-use Rattle.jn_sem.specs.Asks.{Only, OnIf, It, found, not_found}
+use Rattle.jn_sem.specs.declared.outcome.Why.TheVariants as why
+use Rattle.jn_sem.specs.Sets.{AnchorSeen, view_at}
+use Rattle.jn_sem.specs.Terms.{Site, TermIs, spot_at, vars_at}
+use Rattle.jn_sem.specs.Sharing.{IsClass}
 use Rattle.jn_sem.specs.Slots.{IsSize}
-use Rattle.jn_base.specs.declared.tree.Term.{Term}
-use Rattle.jn_sem.specs.Does.{Arena, Stuck, Body, IsBody, IsConstructorBody, IsNewClass, AreParams, AreFresh, Did, waiting, kept, ends, args_of, makes, constructs}
-use Rattle.jn_sem.specs.Run.{given}
-use Rattle.jn_sem.proofs.HeapLaws.{heap_laws}
+use Rattle.jn_sem.specs.Acts.{Make, Todo, todo}
+use Rattle.jn_sem.specs.State.{Frame, Heap, Stored, frame_views, site_of}
+use Rattle.jn_sem.specs.Run.{acting}
+use Rattle.jn_sem.specs.Asks.{Only, OnTest, holds, fails}
+use Rattle.jn_sem.specs.Does.{Stuck, Body, IsBody, IsConstructorBody, IsNewClass, AreFresh, Did, args_of, makes, constructs}
+use Rattle.jn_sem.specs.Does as does
 use Rattle.jn_agree.specs.declared.selectors.MethodSel.{MethodSel}
-use Rattle.jn_agree.specs.Naming.{Naming, First, IsWord, WordsAre}
-use Rattle.jn_agree.specs.Matches.{World, Matches, Onward, RowOf}
-use Rattle.jn_agree.specs.Rows.{RowIs, RowsAre, HasShape, HasEntry}
-use Rattle.jn_agree.specs.Follows.{at, Knows, blank, entered, Waits, Follows, Local, rate}
-use Rattle.jn_node_laws.specs.Cont.{Placed, active, Cont, LeadsTo}
-use Rattle.jn_agree.specs.Places.{At, Run, MethodOf, dropping}
-use Rattle.jn_node_laws.proofs.Gets.{some_goes}
-use Rattle.jn_node_laws.proofs.Quiet.{later, spare, comes_later as first_quiet}
-use Rattle.jn_node_laws.proofs.Ways.{w_some, w_only, w_test, w_if, arg_words, args_long}
-use Rattle.jn_match_laws.proofs.Makes.{made, blocks_long}
-use Rattle.jn_node_laws.proofs.Calls.{shape_at as shape_at_by, params_long, paid_by}
-use Rattle.jn_sem.proofs.SharedLaws.{sharing_laws}
-use Rattle.jn_match_laws.proofs.RowLaws.{row_at}
-use Rattle.jn_node_laws.proofs.Nodes.{node, Next, stuck, moved, goes_on, faults, comes, comes_later, with_operands, placed_on, words_on}
+use Rattle.jn_agree.specs.Naming.{Naming}
+use Rattle.jn_agree.specs.Matches.{World, Matches, RowOf}
+use Rattle.jn_agree.specs.Rows.{RowIs, RowsAre, HasShape}
+use Rattle.jn_agree.specs.Follows.{Knows, blank, Follows}
+use Rattle.jn_agree.specs.Places.{At, Run, MethodOf, ClassCode, dropping}
+use Rattle.jn_match_laws.proofs.RowLaws.{row_at, got_same}
+use Rattle.jn_node_laws.specs.Cont.{of_frame, Layout, TakesAll, with_value, trimmed, PlacedOn, Placed, active, ContOn, Cont, LeadsTo}
+use Rattle.jn_node_laws.specs.Facts.{FewNumbers, MakesWell, MakesBare, BodiesOnce}
+use Rattle.jn_node_laws.proofs.Classes.{Split, split, class_had}
+use Rattle.jn_node_laws.proofs.Objects.{with_ctor, without_ctor}
+use Rattle.jn_node_laws.proofs.Views.{site_is}
+use Rattle.jn_node_laws.proofs.Ways.{w_some, w_only, w_test, arg_words, args_long}
+use Rattle.jn_node_laws.proofs.Nodes.{node_of, Next, moved, stuck, narrow}
+use Rattle.jn_node_laws.proofs.Quiet.{quiet_one}
+
+pub takes_flat : (c : ℕ) → TakesAll c [] []
+takes_flat zero = refl
+takes_flat (suc c) = ([], refl, takes_flat c)
+
+same_atom : (a b : ShownAtom) → ◌≡◌ {A = Result ShownAtom Refusal} (Ok a) (Ok b) → a ≡ b
+same_atom a b e = cc
+
+atom_once : (p : Program) (at : Site) (t : Term) (a b : Atom) → TermIs p role.New at t a → TermIs p role.New at t b →
+    a ≡ b
+atom_once p at t a b h k =
+    h.2 ∙ ap atom_of (same_atom h.0 k.0 (term_once p _ _ t (Ok h.0) (Ok k.0) h.1 k.1)) ∙ sym k.2
+
+-- the same views, so the same class
+class_again : (p : Program) (f : Frame) (todo : List Todo) (t : Term) (V : Path) → IsNewClass p f t V →
+    IsNewClass p (record f { todo = todo }) t V
+class_again p f todo t V e = record { atom = e.atom; resolved = e.resolved; seen = e.seen; is = e.is }
 
 module _ (p : Program) (i : Image) (n : Naming) (m : ℕ) (K : Knows) (T : Type 0) (Stands : T → Frame → Heap → Type 0)
     (code : ℕ) (it : Code) (there : slice_get i.codes code ≡ Some it) (r : Frame) where
-  -- the instruction NEW, where the cells suffice and where they don't
-  new_goes : (s kx : ℕ) (row : ClassRow) (group : Group) (lv zs a : List ℤ) (keeps : Bool) (b : Bool) →
-      At it.instrs s ins.New → slice_get i.classes kx ≡ Some row → numbered row.group ≡ Some row.group →
-      slice_get i.groups row.group ≡ Some group → nat_le (length a + length (object_cells row.group group)) m ≡ b
-      → move i m (active code s lv (pos kx ∷ zs) keeps) a ≡
-      (if b then Goes (active code (s + 1) lv (ref_word kx (length a) ∷ zs) keeps)
-      (a ++ object_cells row.group group) [] else Faults machine.Arena)
-  new_goes s kx row group lv zs a keeps b at rowed num grouped room =
-      let g = active code s lv (pos kx ∷ zs) keeps in
-      let of_cells : List ℤ → machine.Did = λ cells. if nat_le (length a + length cells) m then next g
-      (ref_word kx (length a) ∷ zs) (a ++ cells) else Faults machine.Arena in
-      let of_group : ℕ → Group → machine.Did = λ num group. of_cells (object_cells num group) in
-      let of_num : ℕ → machine.Did = λ num. on_some machine.Stuck (slice_get i.groups num) (of_group num) in
-      let of_row : ClassRow → machine.Did = λ row. on_some machine.Null (numbered row.group) of_num in
-      moved p i n m K T Stands code it there r s ins.New lv (pos kx ∷ zs) a keeps at
-      ∙ some_goes machine.Stuck (slice_get i.classes kx) row of_row rowed
-      ∙ some_goes machine.Null (numbered row.group) row.group of_num num
-      ∙ some_goes machine.Stuck (slice_get i.groups row.group) group (of_group row.group) grouped
-      ∙ ap (λ (b : Bool). let d : machine.Did = if b then Goes
-      (active code (s + 1) lv (ref_word kx (length a) ∷ zs) keeps)
-      (a ++ object_cells row.group group) [] else Faults machine.Arena in d) room
-
-  -- CTOR enters the constructor, and keeps the reference below
-  ctor_enters : (s j kx cell kc : ℕ) (shape : Shape) (row : ClassRow) (lv zs words below a : List ℤ) (keeps : Bool) →
-      At it.instrs s (ins.Ctor j) → cell < 4294967296 → slice_get i.methods j ≡ Some shape
-      → ((go : List ℤ → List ℤ → machine.Did) → on_args machine.Stuck (length shape.params) [] zs go ≡ go words below)
-      → slice_get i.classes kx ≡ Some row → code_in row j ≡ Some kc
-      → move i m (active code s lv (ref_word kx cell ∷ zs) keeps) a ≡ Enters kc (ref_word kx cell ∷ words)
-      (active code (s + 1) lv (ref_word kx cell ∷ below) false) a
-  ctor_enters s j kx cell kc shape row lv zs words below a keeps at low shaped args rowed coded =
-      let z = ref_word kx cell in
-      let g = active code s lv (z ∷ zs) keeps in
-      let of_row : List ℤ → List ℤ → ClassRow → machine.Did = λ args below row. construct
-      (code_in row j) z args g below a in
-      let of_ref : List ℤ → List ℤ → Ref → machine.Did = λ args below r. on_some machine.Stuck
-      (slice_get i.classes r.view) (of_row args below) in
-      let of_args : List ℤ → List ℤ → machine.Did = λ args below. on_some machine.Null (ref_in z) (of_ref args below) in
-      let of_shape : Shape → machine.Did = λ sh. on_args machine.Stuck (length sh.params) [] zs of_args in
-      moved p i n m K T Stands code it there r s (ins.Ctor j) lv (z ∷ zs) a keeps at
-      ∙ some_goes machine.Stuck (slice_get i.methods j) shape of_shape shaped
-      ∙ args of_args
-      ∙ some_goes machine.Null (ref_in z) (record { view = kx; cell = cell }) (of_ref words below)
-      (ref_in_word (record { view = kx; cell = cell }) low)
-      ∙ some_goes machine.Stuck (slice_get i.classes kx) row (of_row words below) rowed
-      ∙ ap (λ (o : Option ℕ). construct o z words g below a) coded
-
-  -- behind it: the reference is the value, or is dropped. What the constructor gives back comes nowhere.
-  behind : (b : ℕ) (here : Site) (t0 : T) (keeps : Bool) (q : Frame) (k : List Todo) (s t w : ℕ) → Run it.instrs
-      (dropping keeps 3) s t → Cont p i n m K T Stands code it r b here t0 k t w
-      → (f : Frame) (us : List Value) (v : Value) (x : World) (lv zs : List ℤ) (z : ℤ) → f.todo ≡ k →
-      Placed p n it r here (record f { vals = us }) x lv zs → IsWord p n x.firsts v z
-      → Waits p i n m blank (Next p i n m K T Stands code it there r here t0 b) q
-      (waiting false f (kept keeps v us)) x (active code s lv (z ∷ zs) false) (suc w)
-  behind b here t0 keeps q k s t w runs h f us v x lv zs z ft placed vz y a rv ru on ma hb gb = at_result rv ru
-    where
-      L : Frame → World → machine.Frame → List ℤ → ℕ → Type 0
-      L = Next p i n m K T Stands code it there r here t0 b
-
-      went : (vs : List Value) (zs2 : List ℤ) → WordsAre p n x.firsts vs zs2 → L
-          (record f { vals = vs; keeps = false }) y (active code t lv zs2 false) a w
-      went vs zs2 ws =
-          let e = placed_on p n it r here (record f { vals = vs; todo = f.todo }) x y lv zs2 on
-          (with_operands p n it r here (record f { vals = us }) vs f.todo x lv zs zs2 placed (record { are = ws })) in
-          goes_on p i n m K T Stands code it there r b here t0 k t w h
-          (record f { vals = vs; keeps = false }) y a lv zs2 false ft
-          (record {
-            class = e.class;
-            method = e.method;
-            result = e.result;
-            scope = e.scope;
-            long = e.long;
-            this = e.this;
-            locals = e.locals;
-            operands = e.operands;
-          }) ma
-
-      goes : (kp : Bool) → Run it.instrs (dropping kp 3) s t → L (record f { vals = kept kp v us; keeps = false }) y
-          (active code s lv (z ∷ zs) false) a (suc w)
-      goes true e = λ st.
-          spare p i n m K r b f.todo (record f { vals = v ∷ us; keeps = false }) y
-          (active code s lv (z ∷ zs) false) a w (suc w) (omega arith)
-          (subst (λ (t : ℕ). Local p i n m K r b (record f { vals = v ∷ us; keeps = false }) y
-          (active code t lv (z ∷ zs) false) a w) e (went (v ∷ us) (z ∷ zs) (vz, placed.operands.are) st))
-      goes false e = λ st.
-          later p i n m K r b f.todo (record f { vals = us; keeps = false }) y (active code s lv (z ∷ zs) false)
-          (active code t lv zs false) a w
-          (moved p i n m K T Stands code it there r s ins.Pop lv (z ∷ zs) a false e.0 ∙ ap
-          (λ (t : ℕ). let d : machine.Did = Goes (active code t lv zs false) a [] in d) (sym e.1))
-          (went us zs placed.operands.are st)
-
-      at_result : (rv : Option Value) (ru : Option ℤ) → L (given rv (waiting false f (kept keeps v us))) y
-          (machine.given ru (active code s lv (z ∷ zs) false)) a (suc w)
-      at_result None None = goes keeps runs
-      at_result None (Some u) = goes keeps runs
-      at_result (Some q) None = goes keeps runs
-      at_result (Some q) (Some u) = goes keeps runs
+  -- what is left of a value, where all operands are the frame's
+  pub narrowed : (keeps : Bool) (b : ℕ) (here : Site) (t : T) (k : List Todo) (s w : ℕ) →
+      Cont p i n m K T Stands code it r b here t k s w →
+      ContOn p i n m K T Stands code it r (with_value keeps []) b here t k s w
+  narrowed true b here t k s w h = narrow p i n m K T Stands code it there r b here t k s w h
+  narrowed false b here t k s w h = h
 
   module _ (rows : RowsAre p i n) where
     -- (which class the term makes is what a view's target is; here it has a constructor)
@@ -163,194 +95,198 @@ module _ (p : Program) (i : Image) (n : Naming) (m : ℕ) (K : Knows) (T : Type 
         (3 * num + w)
     make b here u0 t0 t C P kx j num group shape keeps k s e w mm is_new cls grp sized at_cls at_new at_ctor runs sel
         many typed has_ctor leads h =
-        node p i n m K T Stands code it there r b here u0 t0 (Make t num keeps) k s (3 * num + w) leads
-        (λ h vs. Unit {0}) (λ f h st. tt) (λ f x a lv zs kp ft placed ma fact d step.
+        node_of p i n m K T Stands code it there r [] b here u0 t0 (Make t num keeps) k s (3 * num + w) leads
+        (λ f h. Unit {0}) (λ f h st. tt) (λ f x a lv zs kp ft placed ma fact d step.
         let g = active code s lv zs kp in
         let Q : Did → Type 0 = λ d. Follows p i n m blank
         (Next p i n m K T Stands code it there r here t0 b) r d x g a (3 * num + w) in
         let no_way : (d : Did) (w : Why) → d ≡ Faults (Stuck w) → Q d = λ d2 why e.
         stuck p i n m K T Stands code it there r b here t0 why x g a (3 * num + w) d2 e in
         w_some Q no_way (args_of num [] f.vals) _ _ d step (λ y is step.
-        let aw = arg_words p n x.firsts num [] f.vals [] zs y is tt placed.operands.are in
+        let aw = arg_words p n x.firsts f.this num [] [] (takes_flat num) [] f.vals [] zs y is tt
+        placed.operands.are in
         w_only Q no_way (IsNewClass p f t) _ d step (λ V only step.
         let step2 : makes p m (C ∷ P) y.0 keeps f y.1 x.heap d = subst
         (λ (V : Path). makes p m V y.0 keeps f y.1 x.heap d) (is_new f x lv zs placed V only) step in
         w_test Q no_way (IsClass p (C ∷ P)) _ d step2 (λ class step.
         w_only Q no_way (IsSize p (C ∷ P)) _ d step (λ size sz step.
         w_only Q no_way (AreFresh p (C ∷ P)) _ d step (λ fresh fr step.
-        at_ctor_of f x a lv zs kp d y.0 y.1 size fresh ft placed ma aw.words aw.below aw.takes aw.first aw.others
-        (args_long num [] f.vals y is) class (sized size sz.is) fr.is step))))))
+        let rw = row_at p i n rows (C ∷ P) kx cls in
+        let group_is = grp rw.0 (record { class = cls; there = rw.1 }) in
+        let had = quiet_one p i n m K g (active code (s + 1) lv (pos kx ∷ zs) kp) a a
+        (moved p i n m K T Stands code it there r s (ins.Cls kx) lv zs a kp at_cls) in
+        with_ctor p i n m K T Stands code it there r rows mm [] [] b here t0 keeps k 1 num s (s + 1) w at_new C P kx cls
+        rw.0 rw.1 rw.2 group group_is.0 group_is.1 f x a lv zs kp ft placed ma y.0 y.1 aw.words aw.below aw.takes
+        aw.first aw.others (args_long num [] f.vals y is) class fresh fr.is 1 (omega arith) had j 15 e shape
+        (omega arith) at_ctor runs sel many typed (λ none. absurd (has_ctor none))
+        (narrowed keeps b here t0 k e (15 + w) h) d
+        (subst (λ (size : ℕ). constructs p m (C ∷ P) y.0 keeps f y.1 x.heap size fresh d) (sized size sz.is) step)))))))
+
+    -- ---- whatever the code of the class is
+
+    -- the row and the group of a class
+    pub record HasGroup (C : Name) (P : Path) (kx : ℕ) : Type 0 where
+      pub row : ClassRow
+      pub rowed : slice_get i.classes kx ≡ Some row
+      pub is_row : RowIs p n (C ∷ P) row
+      pub group : Group
+      pub numb : numbered row.group ≡ Some row.group
+      pub grouped : slice_get i.groups row.group ≡ Some group
+      pub sized : (size : ℕ) → IsSize p (C ∷ P) size → size ≡ suc (length group.slots)
+
+    pub has_group : FewNumbers n → (C : Name) (P : Path) (kx : ℕ) → slice_get n.classes kx ≡ Some (C ∷ P) →
+        IsClass p (C ∷ P) → HasGroup C P kx
+    has_group few C P kx cls class =
+        let rw = row_at p i n rows (C ∷ P) kx cls in
+        let row_of : RowOf i n (C ∷ P) kx rw.0 = record { class = cls; there = rw.1 } in
+        let g = rows.groups.there (C ∷ P) kx rw.0 class row_of in
+        let first = rw.2.group.of_class class in
+        let low = slice_get_within n.groups rw.0.group first.0 first.2 in
+        let most = few.groups in
+        record {
+          row = rw.0;
+          rowed = rw.1;
+          is_row = rw.2;
+          group = g.0;
+          numb = ap (λ (t : Bool). let o : Option ℕ = if t then None else Some rw.0.group in o)
+              (ne_eqb rw.0.group 65535 (λ same. omega (arith, low, most, same)));
+          grouped = g.1;
+          sized = λ size is. rows.groups.size (C ∷ P) kx size rw.0 g.0 row_of g.1 is;
+        }
+
+    -- where the class has no constructor, its row has none of that name
+    pub no_code : BodiesOnce p → (C : Name) (P : Path) (j : ℕ) (shape : Shape) (row : ClassRow) → IsClass p (C ∷ P) →
+        RowIs p n (C ∷ P) row → MethodOf n C j shape → ((a : Body) → Only (IsConstructorBody p (C ∷ P)) a → ⊥) →
+        code_in row j ≡ None
+    no_code once C P j shape row class is_row sel none = at (code_in row j) refl
       where
-        at_ctor_of : (f : Frame) (x : World) (a lv zs : List ℤ) (kp : Bool) (d : Did) (args vs : List Value)
-            (size : ℕ) (fresh : List Stored) → f.todo ≡ k → Placed p n it r here f x lv zs → Matches p i n x a →
-            (words below : List ℤ) → ((go : List ℤ → List ℤ → machine.Did) →
-            on_args machine.Stuck num [] zs go ≡ go words below) → WordsAre p n x.firsts args words →
-            WordsAre p n x.firsts vs below → length args ≡ 0 + num
-            → IsClass p (C ∷ P) → size ≡ suc (length group.slots) → AreFresh p (C ∷ P) fresh → constructs p m
-            (C ∷ P) args keeps f vs x.heap size fresh d → Follows p i n m blank
-            (Next p i n m K T Stands code it there r here t0 b) r d x (active code s lv zs kp) a (3 * num + w)
-        at_ctor_of f x a lv zs kp d args vs size0 fresh ft placed ma words below takes aws bws long class sz fr step0 =
-            at_body (subst (λ (size : ℕ). constructs p m (C ∷ P) args keeps f vs x.heap size fresh d) sz step0)
-          where
-            size : ℕ
-            size = suc (length group.slots)
+        at : (o : Option ℕ) → code_in row j ≡ o → code_in row j ≡ None
+        at None e = e
+        at (Some k) e =
+            let entry = is_row.methods j k e in
+            let same : entry.sel ≡ record { name = C; shape = shape } = got_same entry.sel _
+            (sym entry.selector ∙ sel.at) in
+            let is : IsBody p (C ∷ P) C entry.body = subst (λ (x : MethodSel). IsBody p (C ∷ P) x.name entry.body) same
+            entry.least in
+            absurd (none entry.body
+            (record { is = is; one = λ b k. once (C ∷ P) C class.universe b entry.body k is }))
 
-            rw : (row : ClassRow) × (slice_get i.classes kx ≡ Some row) × RowIs p n (C ∷ P) row
-            rw = row_at p i n rows (C ∷ P) kx cls
+    module _ (few : FewNumbers n) where
+      pub make_on : BodiesOnce p → (q l : Layout) (b : ℕ) (here : Site) (u0 t0 : T) (term : Term) (y : Atom)
+          (xs : List Instr) (C : Name) (P0 : Path) (j num : ℕ) (shape : Shape) (keeps : Bool) (k : List Todo)
+          (s e w : ℕ)
+          → m < 4294967296 → TakesAll num q l → TermIs p role.New here term y → ClassCode n y xs → length xs ≤ 10
+          → y.names ++ y.exact ≡ C ∷ P0
+          → Run it.instrs (xs ++ ins.New ∷ (ins.Ctor j ∷ dropping keeps 3)) s e
+          → MethodOf n C j shape → length shape.params ≡ num
+          → ((f : Frame) (h : Heap) → Stands u0 f h → MakesWell p term C shape y (trimmed here f))
+          → LeadsTo p i n m K T Stands code it r here (Make term num keeps) k u0 t0
+          → ContOn p i n m K T Stands code it r (with_value keeps l) b here t0 k e (11 + w)
+          → ContOn p i n m K T Stands code it r q (suc b) here u0 (todo (length here.vars) (Make term num keeps) ∷ k) s
+          (3 * num + w)
+      make_on once q l b here u0 t0 term y xs C P0 j num shape keeps k s e w mm tks is coded short named runs sel many
+          well leads h =
+          let two = split it.instrs xs (ins.New ∷ (ins.Ctor j ∷ dropping keeps 3)) s e runs in
+          node_of p i n m K T Stands code it there r q b here u0 t0 (Make term num keeps) k s (3 * num + w) leads
+          (λ f h. MakesWell p term C shape y f)
+          (λ f h st. let t = well f h st in record {
+            keeps = t.keeps;
+            shapes = λ P b made is. t.shapes P b (class_again p _ f.todo term (C ∷ P) made) is;
+          })
+          (λ f x a lv zs kp ft placed ma fact d step.
+          let g = active code s lv zs kp in
+          let Q : Did → Type 0 = λ d. Follows p i n m blank
+          (Next p i n m K T Stands code it there r here t0 b) r d x g a (3 * num + w) in
+          let no_way : (d : Did) (w : Why) → d ≡ Faults (Stuck w) → Q d = λ d2 why e.
+          stuck p i n m K T Stands code it there r b here t0 why x g a (3 * num + w) d2 e in
+          w_some Q no_way (args_of num [] f.vals) _ _ d step (λ z zis step.
+          let aw = arg_words p n x.firsts f.this num q l tks [] f.vals [] zs z zis tt placed.operands.are in
+          w_only Q no_way (IsNewClass p f term) _ d step (λ V only step.
+          let one : y ≡ only.is.atom = atom_once p (site_of f) term y only.is.atom
+          (subst (λ (t : Site). TermIs p role.New t term y)
+          (site_is p i n m K T Stands code it there r rows here q f x lv zs placed) is) only.is.resolved in
+          let at_y : V ≡ atom_at (view_at (frame_views f)) y = only.is.is ∙ ap
+          (λ (y : Atom). atom_at (view_at (frame_views f)) y) (sym one) in
+          let P : Path = P0 ++ anchor_at (view_at (frame_views f)) y.anchor in
+          let v_is : V ≡ C ∷ P = at_y
+          ∙ sym (append_assoc y.names y.exact (anchor_at (view_at (frame_views f)) y.anchor))
+          ∙ ap (λ (es : Path). es ++ anchor_at (view_at (frame_views f)) y.anchor) named in
+          let made : IsNewClass p f term (C ∷ P) = subst (λ (V : Path). IsNewClass p f term V) v_is only.is in
+          w_test Q no_way (IsClass p (C ∷ P)) _ d
+          (subst (λ (V : Path). makes p m V z.0 keeps f z.1 x.heap d) v_is step) (λ class step.
+          w_only Q no_way (IsSize p (C ∷ P)) _ d step (λ size sz step.
+          w_only Q no_way (AreFresh p (C ∷ P)) _ d step (λ fresh fr step.
+          let had = class_had p i n m K T Stands code it there r rows few here q f x lv zs a kp y xs s two.mid placed ma
+          coded two.front (subst (λ (y : Atom). AnchorSeen (frame_views f) y.anchor) (sym one) only.is.seen) fact.keeps
+          (subst (λ (V : Path). InUniverse p V) (sym v_is ∙ at_y) class.universe) in
+          let cls : slice_get n.classes had.to ≡ Some (C ∷ P) = had.class ∙ ap (λ (V : Path). Some V)
+          (sym at_y ∙ v_is) in
+          let gr = has_group few C P had.to cls class in
+          with_ctor p i n m K T Stands code it there r rows mm q l b here t0 keeps k 10 num s two.mid w two.back.0 C P
+          had.to cls gr.row gr.rowed gr.is_row gr.group gr.numb gr.grouped f x a lv zs kp ft placed ma z.0 z.1
+          aw.words aw.below aw.takes aw.first aw.others (args_long num [] f.vals z zis) class fresh fr.is
+          (length xs) short had.on j 11 e shape
+          (omega arith) two.back.1.0 two.back.1.1 sel many (λ b is. fact.shapes P b made is)
+          (no_code once C P j shape gr.row class gr.is_row sel) h d
+          (subst (λ (size : ℕ). constructs p m (C ∷ P) z.0 keeps f z.1 x.heap size fresh d)
+          (gr.sized size sz.is) step)))))))
 
-            row_of : RowOf i n (C ∷ P) kx rw.0
-            row_of = record { class = cls; there = rw.1 }
+      pub make_bare : (q : Layout) (b : ℕ) (here : Site) (u0 t0 : T) (term : Term) (y : Atom) (xs : List Instr)
+          (keeps : Bool) (k : List Todo) (s e w : ℕ)
+          → m < 4294967296 → TermIs p role.New here term y → ClassCode n y xs → length xs ≤ 10
+          → Run it.instrs (xs ++ ins.New ∷ dropping keeps 3) s e
+          → ((f : Frame) (h : Heap) → Stands u0 f h → MakesBare p term y (trimmed here f))
+          → LeadsTo p i n m K T Stands code it r here (Make term 0 keeps) k u0 t0
+          → ContOn p i n m K T Stands code it r (with_value keeps q) b here t0 k e (20 + w)
+          → ContOn p i n m K T Stands code it r q (suc b) here u0 (todo (length here.vars) (Make term 0 keeps) ∷ k) s w
+      make_bare q b here u0 t0 term y xs keeps k s e w mm is coded short runs well leads h =
+          node_of p i n m K T Stands code it there r q b here u0 t0 (Make term 0 keeps) k s w leads
+          (λ f h. MakesBare p term y f)
+          (λ f h st. let t = well f h st in record {
+            keeps = t.keeps;
+            none = λ V b made is no. t.none V b (class_again p _ f.todo term V made) is no;
+          })
+          (λ f x a lv zs kp ft placed ma fact d step.
+          let Q : Did → Type 0 = λ d. Shows f x a lv zs kp d in
+          w_only Q (no_way f x a lv zs kp) (IsNewClass p f term) _ d step (λ V only step.
+          of_class f x a lv zs kp ft placed ma fact d V only.is step))
+        where
+          two : Split it.instrs xs (ins.New ∷ dropping keeps 3) s e
+          two = split it.instrs xs (ins.New ∷ dropping keeps 3) s e runs
 
-            group_is : (numbered rw.0.group ≡ Some rw.0.group) × (slice_get i.groups rw.0.group ≡ Some group)
-            group_is = grp rw.0 row_of
+          Shows : (f : Frame) (x : World) (a lv zs : List ℤ) (kp : Bool) → Did → Type 0
+          Shows f x a lv zs kp d = Follows p i n m blank (Next p i n m K T Stands code it there r here t0 b) r d x
+              (active code s lv zs kp) a w
 
-            cells : List ℤ
-            cells = object_cells rw.0.group group
+          no_way : (f : Frame) (x : World) (a lv zs : List ℤ) (kp : Bool) (d : Did) (why : Why) →
+              d ≡ Faults (Stuck why) → Shows f x a lv zs kp d
+          no_way f x a lv zs kp d why e =
+              stuck p i n m K T Stands code it there r b here t0 why x (active code s lv zs kp) a w d e
 
-            cells_long : length cells ≡ size
-            cells_long = ap suc (length-replicate (length group.slots) (pos 0))
-
-            c : First
-            c = record { cell = length a; made = C ∷ P }
-
-            y : Object
-            y = record { made = C ∷ P; stored = fresh }
-
-            z : World
-            z = record { firsts = x.firsts ++ c ∷ []; heap = with_object x.heap size y }
-
-            on : Onward x z
-            on = record { more = c ∷ []; firsts = refl; heap = (heap_laws.heaps p).object x.heap size y }
-
-            same_room : (bb : Bool) → nat_le (x.heap.used + size) m ≡ bb → nat_le (length a + length cells) m ≡ bb
-            same_room bb e = ap (λ (u : ℕ). nat_le (u + length cells) m) ma.used ∙ ap
-                (λ (l : ℕ). nat_le (x.heap.used + l) m) cells_long ∙ e
-
-            cls_moves : move i m (active code s lv zs kp) a ≡ Goes (active code (s + 1) lv (pos kx ∷ zs) kp) a []
-            cls_moves = moved p i n m K T Stands code it there r s (ins.Cls kx) lv zs a kp at_cls
-
-            object_word : IsWord p n z.firsts (Reference (length x.heap.objects) (C ∷ P)) (ref_word kx (length a))
-            object_word = record {
-              is = (
-                kx,
-                c,
-                cls,
-                ap (λ (k : ℕ). slice_get (x.firsts ++ c ∷ []) k) last_place ∙
-                    get_right x.firsts (c ∷ []) 0,
-                (sharing_laws p).itself (C ∷ P) class,
-                refl,
-              );
-            }
-              where
-                last_place : length x.heap.objects ≡ length x.firsts + 0
-                last_place = let l = blocks_long i n x.heap.objects x.firsts 0 (length a) ma.blocks in omega (arith, l)
-
-            enters : (body : Body) (vars : List Var) → IsBody p (C ∷ P) C body → AreParams p body vars →
-                length args ≡ length body.method.params → nat_le (x.heap.used + size) m ≡ true → d ≡ Enters
-                (record { class = body.class; method = body.method; vars = vars })
-                (Reference (length x.heap.objects) (C ∷ P) ∷ args)
-                (waiting false f (kept keeps (Reference (length x.heap.objects) (C ∷ P)) vs)) z.heap
-                → Follows p i n m blank (Next p i n m K T Stands code it there r here t0 b) r d x
-                (active code s lv zs kp) a (3 * num + w)
-            enters body vars is params same room step =
-                let as_many = params_long p body [] body.method.params vars params in
-                let counted : length (Reference (length x.heap.objects) (C ∷ P) ∷ args) ≡ suc (length vars) = omega
-                (arith, as_many, same) in
-                let tests = paid_by vars in
-                let found = rows.bodies (C ∷ P) C body kx cls is in
-                let sel_is : MethodSel = record { name = C; shape = shape } in
-                let entry : HasEntry p n (C ∷ P) j found.0 =
-                record {
-                  sel = sel_is;
-                  selector = sel.at;
-                  body = body;
-                  least = is;
-                  shape = typed body is;
-                  code =
-                      found.2;
-                } in
-                let small = ma.small in
-                let fits = leb-true (x.heap.used + size) m room in
-                let used = ma.used in
-                let ma2 = made p i n rows x a (C ∷ P) kx rw.0 group fresh ma
-                ((sharing_laws p).itself (C ∷ P) class) row_of group_is.1 fr (omega (arith, fits, used, mm)) in
-                let na = a ++ cells in
-                let ref = ref_word kx (length a) in
-                let new_moves = new_goes (s + 1) kx rw.0 group lv zs a kp true at_new rw.1 group_is.0 group_is.1
-                (same_room true room) in
-                let ctor_moves = ctor_enters (s + 1 + 1) j kx
-                (length a) found.0 shape rw.0 lv zs words below na kp at_ctor small
-                (shape_at_by p i n m K T Stands code it there r rows j sel_is sel.at)
-                (λ go. ap (λ (k : ℕ). on_args machine.Stuck k [] zs go) many ∙ takes go) rw.1
-                (rw.2.has_method j found.0 entry) in
-                subst (λ (d : Did). Follows p i n m blank (Next p i n m K T Stands code it there r here t0 b) r d x
-                (active code s lv zs kp) a (3 * num + w)) (sym step) (record {
-                  firsts = z.firsts;
-                  next = active code (s + 1 + 1 + 1) lv (ref ∷ below) false;
-                  arena = na;
-                  code = found.0;
-                  words = ref ∷ words;
-                  cost = 3;
-                  left = suc (15 + w);
-                  comes = comes_later p i n m K T Stands code it there r (active code s lv zs kp)
-                      (active code (s + 1) lv (pos kx ∷ zs) kp) a a _ 2 cls_moves
-                      (comes_later p i n m K T Stands code it there r (active code (s + 1) lv (pos kx ∷ zs) kp)
-                      (active code (s + 1 + 1) lv (ref ∷ zs) kp) a na _ 1 new_moves
-                      (comes p i n m K T Stands code it there r
-                      (active code (s + 1 + 1) lv (ref ∷ zs) kp) na _ 1 ctor_moves (omega arith)));
-                  within = omega (arith, long, counted, tests);
-                  onward = on;
-                  matches = ma2;
-                  are = record { are = (object_word, words_on p n x z args words on aws) };
-                  entry = record {
-                    body = body;
-                    at = found.2;
-                    class = refl;
-                    method = refl;
-                    params = params;
-                    code =
-                        found.1;
-                    there = found.3;
-                  };
-                  may = record { long = counted; ready = tt };
-                  result = placed.result;
-                  waits = behind b here t0 keeps (entered
-                      (record { class = body.class; method = body.method; vars = vars })
-                      (Reference (length x.heap.objects) (C ∷ P) ∷ args)) k (s + 1 + 1 + 1) e (15 + w) runs h f vs
-                      (Reference (length x.heap.objects) (C ∷ P)) z lv below ref ft
-                      (placed_on p n it r here (record f { vals = vs }) x z lv below on
-                      (with_operands p n it r here f vs f.todo x lv zs below placed (record { are = bws })))
-                      object_word;
-                })
-
-            at_room : (bb : Bool) (body : Body) (vars : List Var) → IsBody p (C ∷ P) C body → AreParams p body vars →
-                length args ≡ length body.method.params → nat_le (x.heap.used + size) m ≡ bb → OnIf bb (ends Arena)
-                (It (Enters (record { class = body.class; method = body.method; vars = vars })
-                (Reference (length x.heap.objects) (C ∷ P) ∷ args)
-                (waiting false f (kept keeps (Reference (length x.heap.objects) (C ∷ P)) vs)) z.heap)) d
-                → Follows p i n m blank (Next p i n m K T Stands code it there r here t0 b) r d x
-                (active code s lv zs kp) a (3 * num + w)
-            at_room true body vars is params same room step = enters body vars is params same room step
-            at_room false body vars is params same room step =
-                faults p i n m K T Stands code it there r b here t0 Arena machine.Arena x (active code s lv zs kp) a
-                (3 * num + w) d step refl
-                (first_quiet p i n m K (active code s lv zs kp) (active code (s + 1) lv (pos kx ∷ zs) kp) a a _ 1
-                (rate + (3 * num + w)) cls_moves (omega arith)
-                (comes p i n m K T Stands code it there r (active code (s + 1) lv (pos kx ∷ zs) kp) a _ 1
-                (new_goes (s + 1) kx rw.0 group lv zs a kp false at_new rw.1 group_is.0 group_is.1
-                (same_room false room)) (omega arith)))
-
-            at_body : constructs p m (C ∷ P) args keeps f vs x.heap size fresh d → Follows p i n m blank
-                (Next p i n m K T Stands code it there r here t0 b) r d x (active code s lv zs kp) a (3 * num + w)
-            at_body (not_found none e) = absurd (has_ctor none)
-            at_body (found body only step) =
-                let Q : Did → Type 0 = λ d. Follows p i n m blank
-                (Next p i n m K T Stands code it there r here t0 b) r d x (active code s lv zs kp) a
-                (3 * num + w) in
-                let no_way : (d : Did) (w : Why) → d ≡ Faults (Stuck w) → Q d = λ d2 why e.
-                stuck p i n m K T Stands code it there r b here t0 why x (active code s lv zs kp) a
-                (3 * num + w) d2 e in
-                w_if Q no_way (nat_eq (length args) (length body.method.params)) _ d step (λ same step.
-                w_only Q no_way (AreParams p body) _ d step
-                (λ vars onlyp step. at_room (nat_le (x.heap.used + size) m) body vars only.is onlyp.is
-                (eqb-true (length args) (length body.method.params) same) refl step))
+          of_class : (f : Frame) (x : World) (a lv zs : List ℤ) (kp : Bool) → f.todo ≡ k →
+              PlacedOn p n it r here q f x lv zs → Matches p i n x a → MakesBare p term y f → (d : Did) (V : Path) →
+              IsNewClass p f term V → makes p m V [] keeps f f.vals x.heap d → Shows f x a lv zs kp d
+          of_class f x a lv zs kp ft placed ma fact d V made (fails not_so step) =
+              no_way f x a lv zs kp d why.Missing step
+          of_class f x a lv zs kp ft placed ma fact d [] made (holds class step) = absurd class.universe
+          of_class f x a lv zs kp ft placed ma fact d (C ∷ P) made (holds class step) =
+              let Q : Did → Type 0 = λ d. Shows f x a lv zs kp d in
+              w_only Q (no_way f x a lv zs kp) (IsSize p (C ∷ P)) _ d step (λ size sz step.
+              w_only Q (no_way f x a lv zs kp) (AreFresh p (C ∷ P)) _ d step (λ fresh fr step.
+              let one : y ≡ made.atom = atom_once p (site_of f) term y made.atom
+              (subst (λ (t : Site). TermIs p role.New t term y)
+              (site_is p i n m K T Stands code it there r rows here q f x lv zs placed) is) made.resolved in
+              let at_y : C ∷ P ≡ atom_at (view_at (frame_views f)) y = made.is ∙ ap
+              (λ (y : Atom). atom_at (view_at (frame_views f)) y) (sym one) in
+              let had = class_had p i n m K T Stands code it there r rows few here q f x lv zs a kp y xs s two.mid
+              placed ma coded two.front (subst (λ (y : Atom). AnchorSeen (frame_views f) y.anchor) (sym one) made.seen)
+              fact.keeps (subst (λ (V : Path). InUniverse p V) at_y class.universe) in
+              let cls : slice_get n.classes had.to ≡ Some (C ∷ P) = had.class ∙ ap (λ (V : Path). Some V) (sym at_y) in
+              let gr = has_group few C P had.to cls class in
+              without_ctor p i n m K T Stands code it there r rows mm q q b here t0 keeps k 10 0 s two.mid w two.back.0
+              C P had.to cls gr.row gr.rowed gr.is_row gr.group gr.numb gr.grouped f x a lv zs kp ft placed ma
+              [] f.vals [] zs (λ go. refl) tt placed.operands.are refl class fresh fr.is
+              (length xs) short had.on 20 e (omega arith) refl refl two.back.1
+              (λ body ctor none. fact.none (C ∷ P) body made ctor none) h d
+              (subst (λ (size : ℕ). constructs p m (C ∷ P) [] keeps f f.vals x.heap size fresh d)
+              (gr.sized size sz.is) step)))

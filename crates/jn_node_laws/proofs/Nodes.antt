@@ -17,10 +17,10 @@ use Rattle.jn_sem.specs.State.{Frame, Variable, declared_vars}
 use Rattle.jn_sem.specs.Does.{Ending, Stuck, Did}
 use Rattle.jn_sem.specs.Run.{acting}
 use Rattle.jn_sem.specs.State.{Heap}
-use Rattle.jn_agree.specs.Naming.{Naming, First, IsWord, WordsAre, AreWords}
+use Rattle.jn_agree.specs.Naming.{Naming, First, IsWord, WordsAre}
 use Rattle.jn_agree.specs.Matches.{World, Matches, Onward}
 use Rattle.jn_agree.specs.Follows.{Knows, halt_of, when_quiet, quiet, Comes, rate, blank, Follows, LocalAt, Local}
-use Rattle.jn_node_laws.specs.Cont.{trimmed, Placed, active, Cont, Led, LeadsTo, Then, Shows}
+use Rattle.jn_node_laws.specs.Cont.{Mark, of_frame, of_this, Layout, LaidOut, AreLaid, trimmed, PlacedOn, Placed, active, ContOn, Cont, Led, LeadsTo, Then, Shows}
 use Rattle.jn_agree.specs.Places.{At}
 use Rattle.jn_link_laws.proofs.Link.{onward_itself}
 
@@ -55,10 +55,21 @@ words_on p n x y [] (z ∷ zs) on e = e
 words_on p n x y (v ∷ vs) [] on e = e
 words_on p n x y (v ∷ vs) (z ∷ zs) on e = (word_on p n x y v z on e.0, words_on p n x y vs zs on e.1)
 
-pub placed_on : (p : Program) (n : Naming) (it : Code) (r : Frame) (here : Site) (f : Frame) (x y : World)
-    (vars vals : List ℤ) →
-    Onward x y → Placed p n it r here f x vars vals → Placed p n it r here f y vars vals
-placed_on p n it r here f x y vars vals on e = record {
+pub laid_on : (p : Program) (n : Naming) (this : Value) (l : Layout) (x y : World) (vs : List Value) (zs : List ℤ) →
+    Onward x y → LaidOut p n x.firsts this l vs zs → LaidOut p n y.firsts this l vs zs
+laid_on p n this [] x y vs zs on e = words_on p n x y vs zs on e
+laid_on p n this (of_frame ∷ l) x y [] zs on e = e
+laid_on p n this (of_frame ∷ l) x y (v ∷ vs) [] on e = e
+laid_on p n this (of_frame ∷ l) x y (v ∷ vs) (z ∷ zs) on e =
+    (word_on p n x y v z on e.0, laid_on p n this l x y vs zs on e.1)
+laid_on p n this (of_this ∷ l) x y vs [] on e = e
+laid_on p n this (of_this ∷ l) x y vs (z ∷ zs) on e =
+    (word_on p n x y this z on e.0, laid_on p n this l x y vs zs on e.1)
+
+pub placed_on : (p : Program) (n : Naming) (it : Code) (r : Frame) (here : Site) (l : Layout) (f : Frame)
+    (x y : World) (vars vals : List ℤ) →
+    Onward x y → PlacedOn p n it r here l f x vars vals → PlacedOn p n it r here l f y vars vals
+placed_on p n it r here l f x y vars vals on e = record {
   class = e.class;
   method = e.method;
   result = e.result;
@@ -66,7 +77,7 @@ placed_on p n it r here f x y vars vals on e = record {
   long = e.long;
   this = (e.this.0, e.this.1, word_on p n x y f.this e.this.0 on e.this.2);
   locals = λ v among. let l = e.locals v among in (l.0, l.1, word_on p n x y v.value l.0 on l.2);
-  operands = record { are = words_on p n x y f.vals vals on e.operands.are };
+  operands = record { are = laid_on p n f.this l x y f.vals vals on e.operands.are };
 }
 
 -- ---- a frame as it is seen by the next act
@@ -77,20 +88,19 @@ take_all f [] (suc n) e = refl
 take_all f (x ∷ xs) zero e = cc
 take_all f (x ∷ xs) (suc n) e = ap (λ (ys : List _). x ∷ ys) (take_all f xs n (omega (arith, e)))
 
-pub retrimmed : (p : Program) (n : Naming) (it : Code) (r : Frame) (here : Site) (f : Frame) (x : World)
+pub retrimmed : (p : Program) (n : Naming) (it : Code) (r : Frame) (here : Site) (l : Layout) (f : Frame) (x : World)
     (vars vals : List ℤ) →
-    Placed p n it r here f x vars vals → Placed p n it r here (trimmed here f) x vars vals
-retrimmed p n it r here f x vars vals e =
+    PlacedOn p n it r here l f x vars vals → PlacedOn p n it r here l (trimmed here f) x vars vals
+retrimmed p n it r here l f x vars vals e =
     let whole : take (length here.vars) f.vars ≡ f.vars = take_all (λ (v : Variable). v.var) f.vars (length here.vars)
     (ap (λ (vs : List Var). length vs) (sym e.scope)) in
-    subst (λ (vs : List Variable). Placed p n it r here (record f { vars = vs }) x vars vals) (sym whole) e
+    subst (λ (vs : List Variable). PlacedOn p n it r here l (record f { vars = vs }) x vars vals) (sym whole) e
 
 -- other operands
-pub with_operands : (p : Program) (n : Naming) (it : Code) (r : Frame) (here : Site) (f : Frame) (vs : List Value)
-    (k : List Todo)
-    (x : World) (vars vals zs : List ℤ) → Placed p n it r here f x vars vals → AreWords p n x.firsts vs zs →
-    Placed p n it r here (record f { vals = vs; todo = k }) x vars zs
-with_operands p n it r here f vs k x vars vals zs e ws = record {
+pub with_operands : (p : Program) (n : Naming) (it : Code) (r : Frame) (here : Site) (j l : Layout) (f : Frame)
+    (vs : List Value) (k : List Todo) (x : World) (vars vals zs : List ℤ) → PlacedOn p n it r here j f x vars vals →
+    AreLaid p n x.firsts f.this l vs zs → PlacedOn p n it r here l (record f { vals = vs; todo = k }) x vars zs
+with_operands p n it r here j l f vs k x vars vals zs e ws = record {
   class = e.class;
   method = e.method;
   result = e.result;
@@ -106,8 +116,11 @@ module _ (p : Program) (i : Image) (n : Naming) (m : ℕ) (K : Knows) (T : Type 
   abbrev pub c : List Instr
   c = it.instrs
 
+  abbrev pub GoOn : Layout → ℕ → Site → T → List Todo → ℕ → ℕ → Type 0
+  GoOn l = ContOn p i n m K T Stands code it r l
+
   abbrev pub Go : ℕ → Site → T → List Todo → ℕ → ℕ → Type 0
-  Go = Cont p i n m K T Stands code it r
+  Go = ContOn p i n m K T Stands code it r []
 
   abbrev pub Next : Site → T → ℕ → Frame → World → machine.Frame → List ℤ → ℕ → Type 0
   Next = Then p i n m K T Stands code it r
@@ -124,11 +137,12 @@ module _ (p : Program) (i : Image) (n : Naming) (m : ℕ) (K : Knows) (T : Type 
       ∙ ap (λ (o : Option Instr). on_some machine.Stuck o (λ x. obey i m x (frame s vars vals keeps) a)) e
 
   -- what is behind an act goes on
-  pub goes_on : (b : ℕ) (here : Site) (t : T) (k : List Todo) (s w : ℕ) → Go b here t k s w → (f : Frame) (x : World)
-      (a vars vals : List ℤ) (keeps : Bool) → f.todo ≡ k → Placed p n it r here f x vars vals → Matches p i n x a →
+  pub goes_on : (l : Layout) (b : ℕ) (here : Site) (t : T) (k : List Todo) (s w : ℕ) → GoOn l b here t k s w
+      → (f : Frame) (x : World) (a vars vals : List ℤ) (keeps : Bool) → f.todo ≡ k
+      → PlacedOn p n it r here l f x vars vals → Matches p i n x a →
       Next here t b f x (frame s vars vals keeps) a w
-  goes_on b here t k s w h f x a vars vals keeps e placed ma st = h.by f x a vars vals keeps e
-      (retrimmed p n it r here f x vars vals placed) ma st
+  goes_on l b here t k s w h f x a vars vals keeps e placed ma st = h.by f x a vars vals keeps e
+      (retrimmed p n it r here l f x vars vals placed) ma st
 
   -- ---- one node
 
@@ -180,28 +194,56 @@ module _ (p : Program) (i : Image) (n : Naming) (m : ℕ) (K : Knows) (T : Type 
   typed b here t x g a w Falls led l = tt
   typed b here t x g a w (Faults o) led l = l
 
-  pub node : (b : ℕ) (here : Site) (u t : T) (act : Act) (k : List Todo) (s w : ℕ) →
+  -- of a fact of the frame that is left to act
+  pub node_of : (l : Layout) (b : ℕ) (here : Site) (u t : T) (act : Act) (k : List Todo) (s w : ℕ) →
       LeadsTo p i n m K T Stands code it r here act k u t
-      → (Fact : Heap → List Value → Type 0) → ((f : Frame) (h : Heap) → Stands u f h → Fact h f.vals)
-      → Shows p i n m K T Stands code it r Fact b here t act k s w → Go (suc b) here u
+      → (Fact : Frame → Heap → Type 0)
+      → ((f : Frame) (h : Heap) → Stands u f h → Fact (acting (todo (length here.vars) act) k f) h)
+      → Shows p i n m K T Stands code it r l Fact b here t act k s w → GoOn l (suc b) here u
       (todo (length here.vars) act ∷ k) s w
-  node b here u t act k s w leads Fact facts shows = record {
+  node_of l b here u t act k s w leads Fact facts shows = record {
     by = λ f x a vars vals keeps e placed ma st.
         subst (λ (todo : List Todo). LocalAt p i n m K r (suc b) todo f x (frame s vars vals keeps) a w) (sym e)
         (λ d does. typed b here t x (frame s vars vals keeps) a w d (leads f x.heap d st does)
         (shows (acting (todo (length here.vars) act) k f) x a vars vals keeps refl
-        (with_operands p n it r here (trimmed here f) f.vals k x vars vals vals placed placed.operands) ma
+        (with_operands p n it r here l l (trimmed here f) f.vals k x vars vals vals placed placed.operands) ma
         (facts f x.heap st) d does));
   }
 
+  -- of a fact of its operands
+  pub node : (l : Layout) (b : ℕ) (here : Site) (u t : T) (act : Act) (k : List Todo) (s w : ℕ) →
+      LeadsTo p i n m K T Stands code it r here act k u t
+      → (Fact : Heap → List Value → Type 0) → ((f : Frame) (h : Heap) → Stands u f h → Fact h f.vals)
+      → Shows p i n m K T Stands code it r l (λ f h. Fact h f.vals) b here t act k s w → GoOn l (suc b) here u
+      (todo (length here.vars) act ∷ k) s w
+  node l b here u t act k s w leads Fact facts shows =
+      node_of l b here u t act k s w leads (λ f h. Fact h f.vals) facts shows
+
   -- where nothing acts
-  pub moves : (b : ℕ) (here : Site) (u t : T) (k : List Todo) (s w : ℕ) →
+  pub moves : (l : Layout) (b : ℕ) (here : Site) (u t : T) (k : List Todo) (s w : ℕ) →
       ((f : Frame) (h : Heap) → Stands u f h → Stands t f h)
-      → Go b here t k s w → Go b here u k s w
-  moves b here u t k s w mv h = record {
+      → GoOn l b here t k s w → GoOn l b here u k s w
+  moves l b here u t k s w mv h = record {
     by = λ f x a vars vals keeps e placed ma st.
         h.by f x a vars vals keeps e placed ma (mv f x.heap st);
   }
+
+  -- Where all operands are the frame's, so is the latest one.
+  pub narrow : (b : ℕ) (here : Site) (t : T) (k : List Todo) (s w : ℕ) → Go b here t k s w →
+      GoOn (of_frame ∷ []) b here t k s w
+  narrow b here t k s w h = record {
+    by = λ f x a vars vals keeps e placed ma st.
+        h.by f x a vars vals keeps e
+        (with_operands p n it r here (of_frame ∷ []) [] (trimmed here f) f.vals f.todo x vars vals vals placed
+        (record { are = flat x f.this f.vals vals placed.operands.are })) ma st;
+  }
+    where
+      flat : (x : World) (this : Value) (vs : List Value) (zs : List ℤ) →
+          LaidOut p n x.firsts this (of_frame ∷ []) vs zs
+          → LaidOut p n x.firsts this [] vs zs
+      flat x this [] zs e = absurd e
+      flat x this (v ∷ vs) [] e = absurd e
+      flat x this (v ∷ vs) (z ∷ zs) e = e
 
   pub stuck : (b : ℕ) (here : Site) (t : T) (why : _) (x : World) (g : machine.Frame) (a : List ℤ) (w : ℕ) (d : Did) →
       d ≡ Faults (Stuck why) → Follows p i n m blank (Next here t b) r d x g a w
@@ -255,14 +297,9 @@ module _ (p : Program) (i : Image) (n : Naming) (m : ℕ) (K : Knows) (T : Type 
         goes_on = l;
       })
 
-  -- the operands of a frame, one by one
-  pub top : (f : Frame) (x : World) (vs : List Value) (zs : List ℤ) → f.vals ≡ vs → AreWords p n x.firsts f.vals zs →
-      WordsAre p n x.firsts vs zs
-  top f x vs zs e ws = subst (λ (vs : List Value). WordsAre p n x.firsts vs zs) e ws.are
-
-  pub wide : (here : Site) (f : Frame) (x : World) (vars vals : List ℤ) → Placed p n it r here f x vars vals →
-      length f.vars ≡ length here.vars
-  wide here f x vars vals placed = long f.vars ∙ ap (λ (vs : List Var). length vs) placed.scope
+  pub wide : (here : Site) (l : Layout) (f : Frame) (x : World) (vars vals : List ℤ) →
+      PlacedOn p n it r here l f x vars vals → length f.vars ≡ length here.vars
+  wide here l f x vars vals placed = long f.vars ∙ ap (λ (vs : List Var). length vs) placed.scope
     where
       long : (vs : List Variable) → length vs ≡ length (declared_vars vs)
       long [] = refl

@@ -22,16 +22,16 @@ use Rattle.jn_sem.specs.Terms.{Site}
 use Rattle.jn_sem.specs.Acts.{Operate, Todo, todo}
 use Rattle.jn_sem.specs.State.{Heap, Frame}
 use Rattle.jn_sem.specs.Does.{Stuck, Did, Made, Gives, Fails, on_made, on_numbers, on_equal, divided, result_of, same_truth, goes}
-use Rattle.jn_agree.specs.Naming.{Naming, First, IsWord, WordsAre}
+use Rattle.jn_agree.specs.Naming.{Naming, First, IsWord}
 use Rattle.jn_agree.specs.Matches.{World, Matches}
 use Rattle.jn_agree.specs.Follows.{Knows, blank, halt_of, Comes, Follows, rate}
 use Rattle.jn_agree.specs.Places.{Run, operator, equal}
 use Rattle.jn_match_laws.proofs.RowLaws.{got_same, block_low}
 use Rattle.jn_match_laws.proofs.Stores.{one_object}
-use Rattle.jn_node_laws.specs.Cont.{Placed, active, LeadsTo}
+use Rattle.jn_node_laws.specs.Cont.{of_frame, Layout, LaidOut, Takes, PlacedOn, active, LeadsTo}
 use Rattle.jn_node_laws.specs.Facts.{ComparedBy, IfCompares, ComparesWell}
-use Rattle.jn_node_laws.proofs.Ways.{w_first, one_word}
-use Rattle.jn_node_laws.proofs.Nodes.{Go, Next, none_some, node, moved, goes_on, goes_in, stuck, comes, comes_later, with_operands}
+use Rattle.jn_node_laws.proofs.Ways.{w_first, top_word}
+use Rattle.jn_node_laws.proofs.Nodes.{GoOn, Next, none_some, node, moved, goes_on, goes_in, stuck, comes, comes_later, with_operands}
 use Rattle.jn_node_laws.proofs.Simple.{truth_word}
 
 -- ---- words of objects
@@ -235,27 +235,28 @@ module _ (p : Program) (i : Image) (n : Naming) (m : ℕ) (K : Knows) (T : Type 
     answer ma o kind (Reference q W) (Truth v) za zb at by wu wv = never za zb why.Kind
 
   -- what comes of the result
-  made : (b : ℕ) (here : Site) (t : T) (k : List Todo) (s e w : ℕ) → Go p i n m K T Stands code it there r b here t k e
+  made : (j l : Layout) (b : ℕ) (here : Site) (t : T) (k : List Todo) (s e w : ℕ) →
+      GoOn p i n m K T Stands code it there r (of_frame ∷ l) b here t k e
       (20 + w)
       → (f : Frame) (y : World) (a vars vals : List ℤ) (keeps : Bool) → f.todo ≡ k →
-      Placed p n it r here f y vars vals →
+      PlacedOn p n it r here j f y vars vals →
       Matches p i n y a
-      → (us : List Value) (zs : List ℤ) (za zb : ℤ) → vals ≡ zb ∷ (za ∷ zs) → WordsAre p n y.firsts us zs
+      → (us : List Value) (zs : List ℤ) (za zb : ℤ) → vals ≡ zb ∷ (za ∷ zs) → LaidOut p n y.firsts f.this l us zs
       → (md : Made) → Answer s e w y a vars zs keeps za zb md → (d : Did)
       → on_made md (λ v. goes f (v ∷ us) y.heap) d
       → Follows p i n m blank (Next p i n m K T Stands code it there r here t b) r d y
       (active code s vars vals keeps) a w
-  made b here t k s e w h f y a vars vals keeps ft placed ma us zs za zb vs ws (Gives v) ans d step =
+  made j l b here t k s e w h f y a vars vals keeps ft placed ma us zs za zb vs ws (Gives v) ans d step =
       subst (λ (vals : List ℤ). Follows p i n m blank (Next p i n m K T Stands code it there r here t b) r d y
       (active code s vars vals keeps) a w) (sym vs)
       (goes_in p i n m K T Stands code it there r b here t y (record f { vals = v ∷ us }) []
       (active code s vars (zb ∷ (za ∷ zs)) keeps)
       (active code e vars (ans.0 ∷ zs) keeps) a 2 (20 + w) w d step ans.2 (omega arith) placed.result ma
-      (goes_on p i n m K T Stands code it there r b here t k e (20 + w) h
+      (goes_on p i n m K T Stands code it there r (of_frame ∷ l) b here t k e (20 + w) h
       (record f { vals = v ∷ us }) y a vars (ans.0 ∷ zs) keeps ft
-      (with_operands p n it r here f (v ∷ us) f.todo y vars vals (ans.0 ∷ zs) placed
+      (with_operands p n it r here j (of_frame ∷ l) f (v ∷ us) f.todo y vars vals (ans.0 ∷ zs) placed
       (record { are = (ans.1, ws) })) ma))
-  made b here t k s e w h f y a vars vals keeps ft placed ma us zs za zb vs ws (Fails o) ans d step =
+  made j l b here t k s e w h f y a vars vals keeps ft placed ma us zs za zb vs ws (Fails o) ans d step =
       subst (λ (vals : List ℤ). Follows p i n m blank (Next p i n m K T Stands code it there r here t b) r d y
       (active code s vars vals keeps) a w) (sym vs)
       (subst (λ (d : Did). Follows p i n m blank (Next p i n m K T Stands code it there r here t b) r d y
@@ -278,14 +279,15 @@ module _ (p : Program) (i : Image) (n : Naming) (m : ℕ) (K : Knows) (T : Type 
   compared op.And x h v us vals e fact = tt
   compared op.Or x h v us vals e fact = tt
 
-  pub operate : (b : ℕ) (here : Site) (u t : T) (o : Op) (kind : ℕ) (k : List Todo) (s e w : ℕ)
+  pub operate : (q j l : Layout) → Takes q j → Takes j l →
+      (b : ℕ) (here : Site) (u t : T) (o : Op) (kind : ℕ) (k : List Todo) (s e w : ℕ)
       → Run it.instrs (operator o kind) s e
       → ((f : Frame) (h : Heap) → Stands u f h → ComparesWell o (equal kind) h f.vals)
       → LeadsTo p i n m K T Stands code it r here (Operate o) k u t
-      → Go p i n m K T Stands code it there r b here t k e (20 + w)
-      → Go p i n m K T Stands code it there r (suc b) here u (todo (length here.vars) (Operate o) ∷ k) s w
-  operate b here u t o kind k s e w at facts leads h =
-      node p i n m K T Stands code it there r b here u t (Operate o) k s w leads (ComparesWell o (equal kind)) facts
+      → GoOn p i n m K T Stands code it there r (of_frame ∷ l) b here t k e (20 + w)
+      → GoOn p i n m K T Stands code it there r q (suc b) here u (todo (length here.vars) (Operate o) ∷ k) s w
+  operate q j l tq tj b here u t o kind k s e w at facts leads h =
+      node p i n m K T Stands code it there r q b here u t (Operate o) k s w leads (ComparesWell o (equal kind)) facts
       (λ f y a vars vals keeps ft placed ma fact d step.
       let g = active code s vars vals keeps in
       let Q : Did → Type 0 = λ d. Follows p i n m blank
@@ -293,10 +295,10 @@ module _ (p : Program) (i : Image) (n : Naming) (m : ℕ) (K : Knows) (T : Type 
       let no_way : (d : Did) (w : Why) → d ≡ Faults (Stuck w) → Q d = λ d2 why e.
       stuck p i n m K T Stands code it there r b here t why y g a w d2 e in
       w_first Q no_way f.vals _ d step (λ v vs vis step.
-      let rw = one_word p n y.firsts v vs f.vals vals vis placed.operands.are in
+      let rw = top_word p n y.firsts f.this q j tq v vs f.vals vals vis placed.operands.are in
       w_first Q no_way vs _ d step (λ c us cis step.
-      let rc = one_word p n y.firsts c us vs rw.rest cis rw.others in
-      made b here t k s e w h f y a vars vals keeps ft placed ma us rc.rest rc.word rw.word
+      let rc = top_word p n y.firsts f.this j l tj c us vs rw.rest cis rw.others in
+      made q l b here t k s e w h f y a vars vals keeps ft placed ma us rc.rest rc.word rw.word
       (rw.is ∙ ap (λ (l : List ℤ). rw.word ∷ l) rc.is) rc.others (result_of o c v)
       (answer s e w y a vars rc.rest keeps ma o kind c v rc.word rw.word at
       (compared o (equal kind) y.heap v vs f.vals vis fact) rc.first rw.first) d step)))

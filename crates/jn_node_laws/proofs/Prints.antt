@@ -1,5 +1,5 @@
 -- Numbers and truth values are printed.
-use Rattle.std.proofs.Common.{◌≡◌, ℕ, suc, ◌+◌, List, ◌∷◌, length, Some, Bool, sym, ap, ◌∙◌, subst}
+use Rattle.std.proofs.Common.{◌≡◌, ℕ, suc, ◌+◌, List, [], ◌∷◌, length, Some, Bool, sym, ap, ◌∙◌, subst}
 use Rattle.std.specs.Prelude.{ℤ, slice_get}
 use Rattle.jn_steps.specs.Steps.{Goes, Faults}
 use Rattle.jn_steps.specs.Numbers.{number_line, truth_line}
@@ -34,7 +34,7 @@ module _ (p : Program) (i : Image) (n : Naming) (m : ℕ) (K : Knows) (T : Type 
       (20 + w)
       → Go p i n m K T Stands code it there r (suc b) here u (todo (length here.vars) Print ∷ k) s w
   print b here u t x k s w at facts leads h =
-      node p i n m K T Stands code it there r b here u t Print k s w leads (PrintsWell x) facts
+      node p i n m K T Stands code it there r [] b here u t Print k s w leads (PrintsWell x) facts
       (λ f y a vars vals keeps ft placed ma fact d step.
       let g = active code s vars vals keeps in
       let Q : Did → Type 0 = λ d. Follows p i n m blank
@@ -54,7 +54,8 @@ module _ (p : Program) (i : Image) (n : Naming) (m : ℕ) (K : Knows) (T : Type 
           → Follows p i n m blank (Next p i n m K T Stands code it there r here t b) r d y
           (active code s vars vals keeps) a w
       shows f y a vars vals keeps d us z zs bytes ft placed ma e ws obeys step =
-          changes p i n m K T Stands code it there r b here t k s w x at h f y a vars vals keeps ft placed ma us zs
+          changes p i n m K T Stands code it there r [] [] b here t k s w x at h f y a vars vals keeps ft placed ma
+          us zs
           bytes (record { are = ws })
           (subst (λ (vals : List ℤ). obey i m x (active code s vars vals keeps) a ≡ Goes
           (active code (s + 1) vars zs keeps) a bytes) (sym e) obeys) d step

@@ -68,7 +68,7 @@ module _ (p : Program) (i : Image) (n : Naming) (m : ℕ) (K : Knows) (T : Type 
       → Cont p i n m K T Stands code it r b here t k (s + 1) (20 + w)
       → Cont p i n m K T Stands code it r (suc b) here u (todo (length here.vars) (Put field) ∷ k) s w
   put b here u t field j kind k s w at sel facts leads h =
-      node p i n m K T Stands code it there r b here u t (Put field) k s w leads (WritesWell p field kind) facts
+      node p i n m K T Stands code it there r [] b here u t (Put field) k s w leads (WritesWell p field kind) facts
       (λ f x a lv zs kp ft placed ma fact d step.
       let g = active code s lv zs kp in
       let Q : Did → Type 0 = λ d. Follows p i n m blank
@@ -158,9 +158,9 @@ module _ (p : Program) (i : Image) (n : Naming) (m : ℕ) (K : Knows) (T : Type 
             onward = on;
             matches = ma2;
             result = placed.result;
-            goes_on = goes_on p i n m K T Stands code it there r b here t k (s + 1) (20 + w) h f2 z2 a2 lv rest kp ft
-                (placed_on p n it r here f2 x z2 lv rest on
-                (with_operands p n it r here f vs f.todo x lv zs rest placed (record { are = ws }))) ma2;
+            goes_on = goes_on p i n m K T Stands code it there r [] b here t k (s + 1) (20 + w) h f2 z2 a2 lv rest kp ft
+                (placed_on p n it r here [] f2 x z2 lv rest on
+                (with_operands p n it r here [] [] f vs f.todo x lv zs rest placed (record { are = ws }))) ma2;
           })
         where
           moved_words : (f : Frame) (x : World) (a lv zs : List ℤ) (kp : Bool) (u : ℤ) (kv cell : ℕ) (rest : List ℤ)

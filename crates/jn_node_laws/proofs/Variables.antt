@@ -25,10 +25,10 @@ use Rattle.jn_agree.specs.Naming.{Naming}
 use Rattle.jn_agree.specs.Matches.{World}
 use Rattle.jn_agree.specs.Follows.{Knows, blank, Follows}
 use Rattle.jn_agree.specs.Places.{At, newest}
-use Rattle.jn_node_laws.specs.Cont.{Placed, active, LeadsTo}
+use Rattle.jn_node_laws.specs.Cont.{of_frame, Layout, PlacedOn, active, LeadsTo}
 use Rattle.jn_node_laws.specs.Facts.{HasText}
 use Rattle.jn_node_laws.proofs.Ways.{w_some}
-use Rattle.jn_node_laws.proofs.Nodes.{Go, Next, node, stuck}
+use Rattle.jn_node_laws.proofs.Nodes.{GoOn, Go, Next, node, stuck}
 use Rattle.jn_node_laws.proofs.Simple.{changes, no_fact}
 
 -- ---- the newest variable of a name, and its declaration
@@ -92,9 +92,11 @@ among_variables vars x y e = among_back vars y (found_among (is_named x) (revers
 module _ (p : Program) (i : Image) (n : Naming) (m : ℕ) (K : Knows) (T : Type 0) (Stands : T → Frame → Heap → Type 0)
     (code : ℕ) (it : Code) (there : slice_get i.codes code ≡ Some it) (r : Frame) where
   -- the declaration that is read is that of the place
-  pub same_var : (here : Site) (f : Frame) (x : World) (vars vals : List ℤ) (name : Name) (v : Var) (y : Variable)
-      → Placed p n it r here f x vars vals → newest here.vars name ≡ Some v → variable f.vars name ≡ Some y → v ≡ y.var
-  same_var here f x vars vals name v y placed is e =
+  pub same_var : (l : Layout) (here : Site) (f : Frame) (x : World) (vars vals : List ℤ) (name : Name) (v : Var)
+      (y : Variable)
+      → PlacedOn p n it r here l f x vars vals → newest here.vars name ≡ Some v → variable f.vars name ≡ Some y →
+      v ≡ y.var
+  same_var l here f x vars vals name v y placed is e =
       let there : newest here.vars name ≡ Some y.var = ap (λ (l : List Var). newest l name) (sym placed.scope)
       ∙ newest_declared f.vars name y e in
       same v y.var (sym is ∙ there)
@@ -102,13 +104,13 @@ module _ (p : Program) (i : Image) (n : Naming) (m : ℕ) (K : Knows) (T : Type 
       same : (v w : Var) → Some v ≡ Some w → v ≡ w
       same v w e = cc
 
-  pub read : (b : ℕ) (here : Site) (u t : T) (x : Name) (v : Var) (k : List Todo) (s w : ℕ) →
+  pub read : (l : Layout) (b : ℕ) (here : Site) (u t : T) (x : Name) (v : Var) (k : List Todo) (s w : ℕ) →
       newest here.vars x ≡ Some v
       → At it.instrs s (ins.Load v.path) → LeadsTo p i n m K T Stands code it r here (Read x) k u t
-      → Go p i n m K T Stands code it there r b here t k (s + 1) (20 + w)
-      → Go p i n m K T Stands code it there r (suc b) here u (todo (length here.vars) (Read x) ∷ k) s w
-  read b here u t x v k s w is at leads h =
-      node p i n m K T Stands code it there r b here u t (Read x) k s w leads
+      → GoOn p i n m K T Stands code it there r (of_frame ∷ l) b here t k (s + 1) (20 + w)
+      → GoOn p i n m K T Stands code it there r l (suc b) here u (todo (length here.vars) (Read x) ∷ k) s w
+  read l b here u t x v k s w is at leads h =
+      node p i n m K T Stands code it there r l b here u t (Read x) k s w leads
       (no_fact p i n m K T Stands code it there r) (λ f h st. tt)
       (λ f y a vars vals keeps ft placed ma fact d step.
       let g = active code s vars vals keeps in
@@ -117,12 +119,12 @@ module _ (p : Program) (i : Image) (n : Naming) (m : ℕ) (K : Knows) (T : Type 
       let no_way : (d : Did) (w : Why) → d ≡ Faults (Stuck w) → Q d = λ d2 why e.
       stuck p i n m K T Stands code it there r b here t why y g a w d2 e in
       w_some Q no_way (variable f.vars x) why.Missing _ d step (λ z zis step.
-      let l = placed.locals z (among_variables f.vars x z zis) in
-      let one : slice_get vars v.path ≡ Some l.0 = ap (λ (v : Var). slice_get vars v.path)
-      (same_var here f y vars vals x v z placed is zis) ∙ l.1 in
-      changes p i n m K T Stands code it there r b here t k s w
+      let own = placed.locals z (among_variables f.vars x z zis) in
+      let one : slice_get vars v.path ≡ Some own.0 = ap (λ (v : Var). slice_get vars v.path)
+      (same_var l here f y vars vals x v z placed is zis) ∙ own.1 in
+      changes p i n m K T Stands code it there r l (of_frame ∷ l) b here t k s w
       (ins.Load v.path) at h f y a vars vals keeps ft placed ma
-      (z.value ∷ f.vals) (l.0 ∷ vals) [] (record { are = (l.2, placed.operands.are) })
+      (z.value ∷ f.vals) (own.0 ∷ vals) [] (record { are = (own.2, placed.operands.are) })
       (ap (λ (o : Option ℤ). on_some machine.Stuck o (λ z. machine.next g (z ∷ vals) a)) one) d step))
 
   -- the image has the program's text at that number
@@ -131,7 +133,7 @@ module _ (p : Program) (i : Image) (n : Naming) (m : ℕ) (K : Knows) (T : Type 
       → Go p i n m K T Stands code it there r b here t k (s + 1) (20 + w)
       → Go p i n m K T Stands code it there r (suc b) here u (todo (length here.vars) (PrintText x) ∷ k) s w
   print_text b here u t x k s w at has leads h =
-      node p i n m K T Stands code it there r b here u t (PrintText x) k s w leads
+      node p i n m K T Stands code it there r [] b here u t (PrintText x) k s w leads
       (no_fact p i n m K T Stands code it there r) (λ f h st. tt)
       (λ f y a vars vals keeps ft placed ma fact d step.
       let g = active code s vars vals keeps in
@@ -141,7 +143,8 @@ module _ (p : Program) (i : Image) (n : Naming) (m : ℕ) (K : Knows) (T : Type 
       stuck p i n m K T Stands code it there r b here t why y g a w d2 e in
       w_some Q no_way (slice_get p.texts x) why.Missing _ d step (λ text is step.
       let own = has text is in
-      changes p i n m K T Stands code it there r b here t k s w (ins.Printt x) at h f y a vars vals keeps ft placed ma
+      changes p i n m K T Stands code it there r [] [] b here t k s w (ins.Printt x) at h f y a vars vals keeps ft
+      placed ma
       f.vals vals (line_of text.bytes) placed.operands
       (ap (λ (o : Option Text). on_some machine.Stuck o
       (λ (text : Text). machine.next_printing g vals a (line_of text.bytes))) own.there

@@ -1,5 +1,5 @@
 -- What each word for a step leaves to show: Q holds of what is stuck, and of the rest by what was found.
-use Rattle.std.proofs.Common.{◌≡◌, ℕ, zero, suc, ◌+◌, List, [], ◌∷◌, length, arith, Option, Some, None, Bool, true, false, refl, sym, ap, subst}
+use Rattle.std.proofs.Common.{◌≡◌, ℕ, zero, suc, ◌+◌, List, [], ◌∷◌, length, arith, Option, Some, None, Bool, true, false, refl, sym, ap, ◌∙◌, subst}
 use Rattle.std.specs.Prelude.{ℤ}
 use Rattle.jn_steps.specs.Steps.{Faults, on_args}
 use Rattle.jn_base.specs.Paths.{Path}
@@ -12,6 +12,7 @@ use Rattle.jn_sem.specs.Asks.{OnOnly, OnTest, OnSome, OnIf, OnFirst, Only, found
 use Rattle.jn_sem.specs.Does.{Ending, AtNull, Stuck, Did, Way, args_of, on_object, on_truth, ends}
 use Rattle.jn_sem.specs.Does as does
 use Rattle.jn_agree.specs.Naming.{Naming, First, IsWord, WordsAre}
+use Rattle.jn_node_laws.specs.Cont.{Mark, of_frame, of_this, Layout, LaidOut, Takes, TakesAll}
 
 module _ (Q : Did → Type 0) (no_way : (d : Did) (w : Why) → d ≡ Faults (Stuck w) → Q d) where
   pub w_only : {A : Type 0} (Is : A → Type 0) (Go : A → Way) (d : Did) → OnOnly Is does.missing Go d →
@@ -69,35 +70,78 @@ one_word p n firsts v us vs zs e ws = at zs (subst (λ (vs : List Value). WordsA
     at [] ws = absurd ws
     at (z ∷ zs) ws = record { word = z; rest = zs; is = refl; first = ws.0; others = ws.1 }
 
+-- the latest operand, which is the frame's, and those below it
+pub record TopWord (p : Program) (n : Naming) (firsts : List First) (this : Value) (l : Layout) (v : Value)
+    (vs : List Value) (zs : List ℤ) : Type 0 where
+  pub word : ℤ
+  pub rest : List ℤ
+  pub is : zs ≡ word ∷ rest
+  pub first : IsWord p n firsts v word
+  pub others : LaidOut p n firsts this l vs rest
+
+pub top_word : (p : Program) (n : Naming) (firsts : List First) (this : Value) (k l : Layout) → Takes k l →
+    (v : Value) (us vs : List Value) (zs : List ℤ) → vs ≡ v ∷ us → LaidOut p n firsts this k vs zs →
+    TopWord p n firsts this l v us zs
+top_word p n firsts this k l takes v us vs zs e ws =
+    at k takes zs (subst (λ (vs : List Value). LaidOut p n firsts this k vs zs) e ws)
+  where
+    at : (k : Layout) → Takes k l → (zs : List ℤ) → LaidOut p n firsts this k (v ∷ us) zs →
+        TopWord p n firsts this l v us zs
+    at [] tk [] ws = absurd ws
+    at [] tk (z ∷ zs) ws = record {
+      word = z;
+      rest = zs;
+      is = refl;
+      first = ws.0;
+      others = subst (λ (l : Layout). LaidOut p n firsts this l us zs) (sym tk) ws.1;
+    }
+    at (of_frame ∷ k) tk [] ws = absurd ws
+    at (of_frame ∷ k) tk (z ∷ zs) ws = record {
+      word = z;
+      rest = zs;
+      is = refl;
+      first = ws.0;
+      others = subst (λ (l : Layout). LaidOut p n firsts this l us zs) (sym tk) ws.1;
+    }
+    at (of_this ∷ k) tk zs ws = absurd tk
+
 -- the words of arguments, which the machine takes in the same order
-pub record ArgWords (p : Program) (n : Naming) (firsts : List First) (k : ℕ) (taken zs : List ℤ)
-    (args rest : List Value) : Type 0 where
+pub record ArgWords (p : Program) (n : Naming) (firsts : List First) (this : Value) (l : Layout) (k : ℕ)
+    (taken zs : List ℤ) (args rest : List Value) : Type 0 where
   pub words : List ℤ
   pub below : List ℤ
   pub takes : (go : List ℤ → List ℤ → machine.Did) → on_args machine.Stuck k taken zs go ≡ go words below
   pub first : WordsAre p n firsts args words
-  pub others : WordsAre p n firsts rest below
+  pub others : LaidOut p n firsts this l rest below
 
-pub arg_words : (p : Program) (n : Naming) (firsts : List First) (k : ℕ) (taken vs : List Value) (ts zs : List ℤ)
+pub arg_words : (p : Program) (n : Naming) (firsts : List First) (this : Value) (k : ℕ) (j l : Layout) →
+    TakesAll k j l → (taken vs : List Value) (ts zs : List ℤ)
     (x : List Value × List Value) → args_of k taken vs ≡ Some x → WordsAre p n firsts taken ts →
-    WordsAre p n firsts vs zs → ArgWords p n firsts k ts zs x.0 x.1
-arg_words p n firsts zero taken vs ts zs x e tw ws =
+    LaidOut p n firsts this j vs zs → ArgWords p n firsts this l k ts zs x.0 x.1
+arg_words p n firsts this zero j l tk taken vs ts zs x e tw ws =
     let s : (taken, vs) ≡ x = same (taken, vs) x e in
     record {
       words = ts;
       below = zs;
       takes = λ go. refl;
       first = subst (λ (x : List Value × List Value). WordsAre p n firsts x.0 ts) s tw;
-      others = subst (λ (x : List Value × List Value). WordsAre p n firsts x.1 zs) s ws;
+      others = subst (λ (l : Layout). LaidOut p n firsts this l x.1 zs) (sym tk)
+          (subst (λ (x : List Value × List Value). LaidOut p n firsts this j x.1 zs) s ws);
     }
   where
     same : (a b : List Value × List Value) → Some a ≡ Some b → a ≡ b
     same a b e = cc
-arg_words p n firsts (suc k) taken [] ts zs x e tw ws = cc
-arg_words p n firsts (suc k) taken (v ∷ vs) ts [] x e tw ws = absurd ws
-arg_words p n firsts (suc k) taken (v ∷ vs) ts (z ∷ zs) x e tw ws =
-    let r = arg_words p n firsts k (v ∷ taken) vs (z ∷ ts) zs x e (ws.0, tw) ws.1 in
-    record { words = r.words; below = r.below; takes = r.takes; first = r.first; others = r.others }
+arg_words p n firsts this (suc k) j l tk taken [] ts zs x e tw ws = cc
+arg_words p n firsts this (suc k) j l tk taken (v ∷ vs) ts zs x e tw ws =
+    let t = top_word p n firsts this j tk.0 tk.1 v vs (v ∷ vs) zs refl ws in
+    let r = arg_words p n firsts this k tk.0 l tk.2 (v ∷ taken) vs (t.word ∷ ts) t.rest x e (t.first, tw) t.others in
+    record {
+      words = r.words;
+      below = r.below;
+      takes = λ go. ap (λ (zs : List ℤ). on_args machine.Stuck (suc k) ts zs go) t.is ∙ r.takes go;
+      first = r.first;
+      others = r.others;
+    }
 
 pub args_long : (k : ℕ) (taken vs : List Value) (x : List Value × List Value) → args_of k taken vs ≡ Some x →
     length x.0 ≡ length taken + k

@@ -1,5 +1,5 @@
 -- What the instructions of an act rely on besides words: facts of its operands, which typing gives.
-use Rattle.std.specs.Prelude.{◌≡◌, ◌≢◌, ◌<◌, ℕ, suc, List, [], ◌∷◌, ◌++◌, length, Option, Some, None, slice_get}
+use Rattle.std.specs.Prelude.{◌≡◌, ◌≢◌, ◌<◌, ◌≤◌, ℕ, suc, List, [], ◌∷◌, ◌++◌, length, Option, Some, None, slice_get}
 use Rattle.jn_base.specs.declared.tree.Name.{Name}
 use Rattle.jn_base.specs.declared.tree.Text.{Text}
 use Rattle.jn_base.specs.declared.tree.Op.{Op}
@@ -8,20 +8,26 @@ use Rattle.jn_base.specs.declared.tree.Program.{Program}
 use Rattle.jn_base.specs.declared.types.Ty.{Ty}
 use Rattle.jn_base.specs.declared.types.Ty.TheVariants as ty
 use Rattle.jn_base.specs.Paths.{Path}
-use Rattle.jn_base.specs.Atoms.{Among}
+use Rattle.jn_base.specs.declared.tree.Term.{Term}
+use Rattle.jn_base.specs.declared.types.Anchor.TheVariants.{Up}
+use Rattle.jn_base.specs.Universe.{InUniverse}
+use Rattle.jn_base.specs.Atoms.{Among, Atom, atom_at}
 use Rattle.jn_base.specs.declared.names.Var.{Var}
 use Rattle.jn_sem.specs.Terms.{Site}
 use Rattle.jn_code.specs.declared.image.Code.{Code}
 use Rattle.jn_sem.specs.Values.{Value, Number, Truth, Null, Reference}
 use Rattle.jn_sem.specs.Slots.{Slot, IsSlot, FieldType}
-use Rattle.jn_sem.specs.State.{Heap, Frame, slot_value}
+use Rattle.jn_sem.specs.Sets.{view_at}
+use Rattle.jn_sem.specs.State.{Heap, Frame, frame_views, slot_value}
+use Rattle.jn_sem.specs.LawsOfFinding.{IsOne}
 use Rattle.jn_base.specs.declared.tree.TypeTerm.{TypeTerm}
 use Rattle.jn_code.specs.declared.image.Shape.{Shape}
 use Rattle.jn_code.specs.declared.image.Text as image
 use Rattle.jn_code.specs.declared.image.Image.{Image}
 use Rattle.jn_code.specs.declared.instr.Instr.{Instr}
 use Rattle.jn_code.specs.declared.instr.Instr.TheVariants as ins
-use Rattle.jn_sem.specs.Does.{Body, IsBody, args_of}
+use Rattle.jn_sem.specs.Does.{Body, IsBody, IsConstructorBody, IsNewClass, IsSpelled, args_of}
+use Rattle.jn_agree.specs.Naming.{Naming}
 use Rattle.jn_agree.specs.Rows.{FieldKind, HasShape}
 
 -- a number, a truth value, or null or a reference
@@ -121,3 +127,45 @@ pub record OwnLocal (it : Code) (here : Site) (x : Var) : Type 0 where
 -- `this` is a reference
 abbrev pub ThisRefers : Frame → Type 0
 ThisRefers f = (o : ℕ) × (V : Path) × (f.this ≡ Reference o V)
+
+-- ---- classes
+
+-- the numbers of classes and groups are none that stands for nothing
+pub record FewNumbers (n : Naming) : Type 0 where
+  pub classes : length n.classes ≤ 65535
+  pub groups : length n.groups ≤ 65535
+
+-- The path's view keeps a name of those that the atom's anchor takes off. (A path has as many names as its bound.)
+abbrev pub AnchorKeeps : Frame → Atom → Type 0
+AnchorKeeps f x = (q k : ℕ) (V : Path) → x.anchor ≡ Up q k → frame_views f q ≡ Some V → k < length V
+
+-- so it is, and the class that the atom names by the views of the paths is in the universe
+pub record TargetSeen (p : Program) (x : Atom) (f : Frame) : Type 0 where
+  pub keeps : AnchorKeeps f x
+  pub universe : InUniverse p (atom_at (view_at (frame_views f)) x)
+
+-- so it is, and where the class that the term makes has a constructor, it has this shape
+pub record MakesWell (p : Program) (term : Term) (C : Name) (shape : Shape) (x : Atom) (f : Frame) : Type 0 where
+  pub keeps : AnchorKeeps f x
+  pub shapes : (P : Path) (b : Body) → IsNewClass p f term (C ∷ P) → IsBody p (C ∷ P) C b → HasShape p b shape
+
+-- so it is, and the class that the term makes has no constructor that is called without arguments
+pub record MakesBare (p : Program) (term : Term) (x : Atom) (f : Frame) : Type 0 where
+  pub keeps : AnchorKeeps f x
+  pub none : (V : Path) (b : Body) → IsNewClass p f term V → IsConstructorBody p V b → length b.method.params ≡ 0 → ⊥
+
+-- a class of the universe has one body of a name at most
+abbrev pub BodiesOnce : Program → Type 0
+BodiesOnce p = (V : Path) (name : Name) → InUniverse p V → IsOne (IsBody p V name)
+
+-- a text is spelled by one name at most
+abbrev pub SpelledOnce : Program → Type 0
+SpelledOnce p = (bytes : List ℕ) → IsOne (IsSpelled p bytes)
+
+-- ---- `super`
+
+-- the local is one of the code, and neither `this` nor a variable in scope has it
+pub record ScratchLocal (it : Code) (here : Site) (q : ℕ) : Type 0 where
+  pub room : q < length (it.params ++ it.locals)
+  pub not_this : q ≢ 0
+  pub free : (y : Var) → Among here.vars y → y.path ≢ q

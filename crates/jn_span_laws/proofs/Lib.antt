@@ -1,2 +1,4 @@
 pub mod Spanned
 pub mod Passed
+pub mod Forms
+pub mod Bodies

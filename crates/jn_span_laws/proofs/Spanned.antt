@@ -17,10 +17,10 @@ use Rattle.jn_agree.specs.Places.{At, deciding, decided_by}
 abbrev pub either_side : ℕ → (ℕ → List OperandKind) → (ℕ → List OperandKind) → ℕ → List OperandKind
 either_side m K L n = if nat_lt n m then K n else L n
 
-before : (m n : ℕ) (K L : ℕ → List OperandKind) → n < m → either_side m K L n ≡ K n
+pub before : (m n : ℕ) (K L : ℕ → List OperandKind) → n < m → either_side m K L n ≡ K n
 before m n K L lt = ap (λ (b : Bool). if b then K n else L n) (lt-ltb n m lt)
 
-behind : (m n : ℕ) (K L : ℕ → List OperandKind) → m ≤ n → either_side m K L n ≡ L n
+pub behind : (m n : ℕ) (K L : ℕ → List OperandKind) → m ≤ n → either_side m K L n ≡ L n
 behind m n K L le = ap (λ (b : Bool). if b then K n else L n) (le-ltb n m le)
 
 module _ (i : Image) (c : Code) where

@@ -1,1 +1,2 @@
 pub mod LawsOfSpans
+pub mod LawsOfForms

@@ -1,0 +1,7 @@
+use Rattle.jn_link_laws.specs.LawsOfAgreement.{knows_by}
+use Rattle.jn_node_laws.specs.LawsOfNodes.{stands_by}
+use Rattle.jn_node_laws.proofs.LaidLaws.{laid_follow}
+use Rattle.jn_node_laws.proofs.laid_nodes_follow.Goals as goal
+
+pub returns : goal.returns
+returns g c stand may back = laid_follow (knows_by may back) _ (stands_by stand)

@@ -1,0 +1,4 @@
+pub mod Sizes
+pub mod LawsOfSizes
+pub mod Operands
+pub mod LawsOfOperands
