@@ -1,13 +1,22 @@
 -- The bytes of a file have one reply by each job, and the front of a file that was read is answered as the file is.
-use Rattle.std.proofs.Common.{◌≡◌, ◌∙◌, ℕ, ◌≤◌, ◌<◌, ◌+◌, ◌⊎◌, inl, inr, List, [], ◌++◌, length, sym, ap, subst, refl, append-nil, length-append, Ok, Err, None, Some, arith, Bool, nat_lt, true, false}
+use Rattle.std.proofs.Common.{◌≡◌, ◌∙◌, ℕ, ◌≤◌, ◌<◌, ◌+◌, ◌⊎◌, inl, inr, List, [], ◌∷◌, ◌++◌, length, sym, ap, subst, refl, append-nil, length-append, Ok, Err, None, Some, arith, Bool, nat_lt, true, false, Result}
 use Rattle.std.proofs.lemmas.Bool.{ltb-true, ltb-false}
 use Rattle.std.specs.declared.option.Option.{Option}
 use Rattle.jn_base.specs.declared.tree.Program.{Program}
 use Rattle.jn_base.specs.declared.refusal.Refusal.{Refusal}
 use Rattle.jn_base.specs.Spelling.{IsTextOf, IsTextRefused, greatest_source}
-use Rattle.jn_base.specs.TableRules.{DeclarationsRefuse, DeclarationsPass}
-use Rattle.jn_base.proofs.TableLaws.{declarations_refused_or_passed, one_declarations_refusal}
+use Rattle.jn_base.specs.Duplicates.{duplicates, IsFirstDuplicate}
 use Rattle.jn_base.specs.ProgramNames.{IsNamed}
+use Rattle.jn_base.specs.WithinLimits.{IsWithinLimits}
+use Rattle.jn_heads.specs.declared.fault.CheckFault.{CheckFault}
+use Rattle.jn_heads.specs.declared.fault.CheckFault.TheVariants as check_fault
+use Rattle.jn_heads.specs.Told.{Told, itself}
+use Rattle.jn_header.specs.Check.{NamesVerdict}
+use Rattle.jn_header.specs.Judged.{nothing}
+use Rattle.jn_laws.proofs.PlacesAside.{programs_within_limits}
+use Rattle.jn_rules.specs.Plans.{Nothing}
+use Rattle.jn_rules.specs.Verdict.{HeadersVerdict}
+use Rattle.jn_rule_laws.proofs.Verdicts.{one_headers}
 use Rattle.jn_io.specs.Told.{Files}
 use Rattle.jn_words.specs.Line.{line_of}
 use Rattle.jn_parser.specs.declared.fault.ParseFault.{ParseFault}
@@ -20,10 +29,62 @@ use Rattle.jn_drive.specs.declared.words.JobKind.TheVariants as kinds
 use Rattle.jn_printer.specs.DeclText.{program_text}
 use Rattle.jn_drive.specs.Meaning.{output_of}
 use Rattle.jn_drive.specs.Plain.{IsPlain}
-use Rattle.jn_drive.specs.Reply.{Reply, TreeReply, JobReply, refused_reply, output_reply}
+use Rattle.jn_drive.specs.Reply.{Reply, OutsidePasses, OutsideRefuses, OutsideVerdict, TreeReply, JobReply, refused_reply, output_reply}
 use Rattle.jn_drive.specs.Seen.{IsSource}
 use Rattle.jn_base.proofs.SpelledNames.{spelled_is_named}
 use Rattle.jn_drive.specs.Answer.{Answer, IsFrontOf, Judges, Answers, AnswersTree, IsOnlyReply, IsRefusedBy, IsOfFault, IsNotTaken, too_long_refusal}
+
+-- ---- outside the bodies
+
+not_once : {p : Program} {r : Refusal} → IsFirstDuplicate p r → duplicates p ≡ [] → ⊥
+not_once {p} {r} d e = clash (sym d.is ∙ e) where
+  clash : r ∷ d.others ≡ [] → ⊥
+  clash h = cc h
+
+same_twice : (p : Program) (r s : Refusal) → IsFirstDuplicate p r → IsFirstDuplicate p s → r ≡ s
+same_twice p r s c d = same (sym c.is ∙ d.is) where
+  same : r ∷ c.others ≡ s ∷ d.others → r ≡ s
+  same e = cc e
+
+outside_not_both : (p : Program) → IsNamed p → (r : Refusal) → OutsideRefuses p r → OutsidePasses p → ⊥
+outside_not_both p named r (OutsideRefuses.twice d) o = not_once d o.once
+outside_not_both p named r (OutsideRefuses.headers e h) o = clash ((one_headers p e named).one (Err r) (Ok tt) h o.headers) where
+  clash : (let a : Result Nothing Refusal = Err r in a ≡ Ok tt) → ⊥
+  clash k = cc k
+
+outside_once : (p : Program) → IsNamed p → (r s : Refusal) → OutsideRefuses p r → OutsideRefuses p s → r ≡ s
+outside_once p named r s (OutsideRefuses.twice c) (OutsideRefuses.twice d) = same_twice p r s c d
+outside_once p named r s (OutsideRefuses.twice c) (OutsideRefuses.headers e h) = absurd (not_once c e)
+outside_once p named r s (OutsideRefuses.headers e h) (OutsideRefuses.twice d) = absurd (not_once d e)
+outside_once p named r s (OutsideRefuses.headers e h) (OutsideRefuses.headers f k) = same ((one_headers p e named).one (Err r) (Err s) h k) where
+  same : (let a : Result Nothing Refusal = Err r in a ≡ Err s) → r ≡ s
+  same g = cc g
+
+-- a name that stands twice, and what the headers come to
+pub names_refused : (p : Program) (f : CheckFault) → Told {B = Nothing} (NamesVerdict p) itself (Err f) → Told {B = Nothing} (OutsideVerdict p) itself (Err f)
+names_refused p (check_fault.Refused r) h = OutsideRefuses.twice h
+names_refused p check_fault.Memory h = tt
+
+pub headers_refused : (p : Program) → duplicates p ≡ [] → (f : CheckFault) → Told (HeadersVerdict p) nothing (Err f) → Told {B = Nothing} (OutsideVerdict p) itself (Err f)
+headers_refused p once (check_fault.Refused r) h = OutsideRefuses.headers once h
+headers_refused p once check_fault.Memory h = tt
+
+pub outside_refused : (p : Program) (o : Result Nothing CheckFault) (f : CheckFault) (r : Refusal) → o ≡ Err f → f ≡ check_fault.Refused r → Told (OutsideVerdict p) itself o → OutsideRefuses p r
+outside_refused p (Ok u) f r e g h = absurd (cc e)
+outside_refused p (Err (check_fault.Refused s)) f r e g h =
+    let k : check_fault.Refused s ≡ f = cc e in
+    let same : check_fault.Refused s ≡ check_fault.Refused r = k ∙ g in
+    let is : s ≡ r = cc same in subst (λ (x : Refusal). OutsideRefuses p x) is h
+outside_refused p (Err check_fault.Memory) f r e g h =
+    let k : check_fault.Memory ≡ f = cc e in
+    let same : check_fault.Memory ≡ check_fault.Refused r = k ∙ g in absurd (cc same)
+
+-- the program of a source is within the limits
+pub within_limits : (p : Program) (bytes : List ℕ) → IsTextOf p bytes → IsWithinLimits p
+within_limits p bytes is = record { source = bytes; spelled = p; same = refl; is_text = is }
+
+pub named_within : (p : Program) → IsWithinLimits p → IsNamed p
+named_within p w = (programs_within_limits p w).named
 
 -- A tree has one reply.
 tree_once : (p : Program) → IsNamed p → (kind : JobKind) (a b : Reply) → TreeReply p kind a → TreeReply p kind b → a ≡ b
@@ -33,10 +94,10 @@ tree_once p named kind a b (TreeReply.ran is) (TreeReply.not_taken not) = absurd
 tree_once p named kind a b (TreeReply.not_taken not) (TreeReply.ran is) = absurd (not is)
 tree_once p named kind a b (TreeReply.not_taken not) (TreeReply.not_taken not') = refl
 tree_once p named kind a b (TreeReply.passed is) (TreeReply.passed is') = refl
-tree_once p named kind a b (TreeReply.passed is) (TreeReply.not_passed r by) = absurd (declarations_refused_or_passed p r by is)
-tree_once p named kind a b (TreeReply.not_passed r by) (TreeReply.passed is) = absurd (declarations_refused_or_passed p r by is)
+tree_once p named kind a b (TreeReply.passed is) (TreeReply.not_passed r by) = absurd (outside_not_both p named r by is)
+tree_once p named kind a b (TreeReply.not_passed r by) (TreeReply.passed is) = absurd (outside_not_both p named r by is)
 tree_once p named kind a b (TreeReply.not_passed r by) (TreeReply.not_passed s by') =
-    ap (λ (x : Refusal). refused_reply (line_of (Some p) x)) (one_declarations_refusal p named.distinct named.paths r s by by')
+    ap (λ (x : Refusal). refused_reply (line_of (Some p) x)) (outside_once p named r s by by')
 
 by_kind : (p : Program) (known kind : JobKind) (r : Reply) → kind ≡ known → TreeReply p known r → TreeReply p kind r
 by_kind p known kind r is tree = subst (λ (k : JobKind). TreeReply p k r) (sym is) tree
@@ -56,10 +117,10 @@ tree_not_taken p kind halt.Memory k not is = is
 pub tree_checked : (p : Program) (kind : JobKind) (a : Answer) → kind ≡ kinds.Check → AnswersTree p kinds.Check a → AnswersTree p kind a
 tree_checked p kind a k is = subst (λ (j : JobKind). AnswersTree p j a) (sym k) is
 
-pub tree_passed : (p : Program) (output : List ℕ) → output ≡ [] → DeclarationsPass p → TreeReply p kinds.Check (output_reply output)
+pub tree_passed : (p : Program) (output : List ℕ) → output ≡ [] → OutsidePasses p → TreeReply p kinds.Check (output_reply output)
 tree_passed p output e is = subst (λ (o : List ℕ). TreeReply p kinds.Check (output_reply o)) (sym e) (TreeReply.passed is)
 
-pub tree_not_passed : (p : Program) (r : Refusal) (h : Halt) → DeclarationsRefuse p r → IsRefusedBy (Some p) r h → AnswersTree p kinds.Check (Err h)
+pub tree_not_passed : (p : Program) (r : Refusal) (h : Halt) → OutsideRefuses p r → IsRefusedBy (Some p) r h → AnswersTree p kinds.Check (Err h)
 tree_not_passed p r (halt.Refused line) by is = subst (λ (l : List ℕ). TreeReply p kinds.Check (refused_reply l)) (sym is) (TreeReply.not_passed r by)
 tree_not_passed p r halt.Unread by is = absurd is
 tree_not_passed p r halt.Memory by is = is

@@ -1,5 +1,7 @@
 ghost use Rattle.std.specs.Prelude.{◌≡◌, ◌≤◌, IfOk, None, option_copied};
-ghost use Rattle.jn_base.specs.ProgramNames.{IsNamed};
+ghost use Rattle.jn_base.specs.WithinLimits.{IsWithinLimits};
+ghost use Rattle.jn_heads.specs.Told.{Told, itself};
+ghost use Rattle.jn_drive.specs.Reply.{OutsideVerdict};
 ghost use Rattle.jn_drive.specs.declared.words.JobKind.TheVariants.{Check};
 ghost use Rattle.jn_drive.specs.Meaning.{output_of};
 ghost use Rattle.jn_drive.specs.Answer.{AnswersTree, IsRefusedBy, IsOfFault, IsNotTaken, Judges, Answers, too_long_refusal};
@@ -15,10 +17,12 @@ use crate::status::Status;
 use crate::words::JobKind;
 use jn_base::refusal::{Refusal, Rule};
 use jn_base::tree::{Place, Program};
-use jn_header::{CheckFault, check_declarations};
+use jn_header::{CheckFault, check_headers, check_names};
+use jn_intern::Pool;
 use jn_io::{Sink, Store};
 use jn_parser::{ParseFault, parse};
 use jn_printer::print_program;
+use jn_table::Table;
 use jn_words::refusal_line;
 use sqlite_items::Items;
 use std::alloc::{AllocError, Global};
@@ -93,7 +97,7 @@ fn refused(alloc: Global, program: Option<&Program>, refusal: &Refusal) -> Halt
 
 /// What a tree comes to.
 fn answer_tree(alloc: Global, kind: JobKind, program: &Program) -> Result<Items<u8>, Halt>
-    requires { IsNamed program.now }
+    requires { IsWithinLimits program.now }
     ensures { AnswersTree program.now kind result }
 {
     match kind {
@@ -104,12 +108,31 @@ fn answer_tree(alloc: Global, kind: JobKind, program: &Program) -> Result<Items<
     }
 }
 
-/// What the declarations of a tree come to: nothing is put where they pass.
+/// What a tree says outside its bodies: whether no name stands twice, and then whether the headers pass; or the first
+/// refusal.
+fn outside(alloc: Global, program: &Program) -> Result<(), CheckFault>
+    requires { IsWithinLimits program.now }
+    ensures { Told (OutsideVerdict program.now) itself result }
+{
+    match check_names(alloc, program) {
+        Err(fault) => Err(fault),
+        Ok(()) => {
+            let mut table = Table::new(alloc, program)?;
+            let mut pool = Pool::new(alloc)?;
+            match check_headers(alloc, program, &mut table, &mut pool) {
+                Err(fault) => Err(fault),
+                Ok(_) => Ok(()),
+            }
+        }
+    }
+}
+
+/// What a tree comes to by what it says outside its bodies: nothing is put where that passes.
 fn checked(alloc: Global, program: &Program) -> Result<Items<u8>, Halt>
-    requires { IsNamed program.now }
+    requires { IsWithinLimits program.now }
     ensures { AnswersTree program.now Check result }
 {
-    match check_declarations(alloc, program) {
+    match outside(alloc, program) {
         Ok(()) => Ok(Items::new(alloc)),
         Err(CheckFault::Refused(refusal)) => Err(refused(alloc, Some(program), &refusal)),
         Err(CheckFault::Memory) => Err(Halt::Memory),

@@ -25,7 +25,7 @@ use std::alloc::Global;
 
 /// Does the job that the words are: `show FILE` puts the canonical text of the program that the file
 /// spells on `out`, `run FILE` runs it and puts what it prints, and `check FILE` puts nothing. A source that
-/// spells none is refused by a line on `err`, and by `check` one whose declarations break a rule. All other
+/// spells none is refused by a line on `err`, and by `check` one that breaks a rule outside its bodies. All other
 /// words are answered by the usage line.
 ///
 /// `DoesJob` in specs/Job.antt says for each status when it comes, and what the files and the outputs

@@ -1,5 +1,5 @@
 -- What is refused of a program's declarations, from what the passes found.
-use Rattle.std.proofs.Common.{◌≡◌, ◌∙◌, ℕ, List, [], ◌∷◌, reverse, refl, sym, ap, subst, Option, Some, None, Result, Ok, Err, OnOk, IfErr, IsSome}
+use Rattle.std.proofs.Common.{◌≡◌, ◌∙◌, ℕ, List, [], ◌∷◌, reverse, refl, sym, ap, subst, Option, Some, None, Result, Ok, Err, IsSome}
 use Rattle.std.proofs.lemmas.List.{reverse-reverse}
 use Rattle.jn_base.specs.declared.tree.Place.{Place}
 use Rattle.jn_base.specs.declared.tree.Program.{Program}
@@ -10,7 +10,7 @@ use Rattle.jn_base.specs.Paths.{Path, shown}
 use Rattle.jn_base.specs.Universe.{InUniverse}
 use Rattle.jn_base.specs.ClassOrder.{IsFirst}
 use Rattle.jn_base.specs.Duplicates.{duplicates, IsFirstDuplicate}
-use Rattle.jn_base.specs.TableRules.{IsOver, IsCycle, IsMixed, NoneIs, TablePasses, TableRefuses, DeclarationsRefuse, DeclarationsPass}
+use Rattle.jn_base.specs.TableRules.{IsOver, IsCycle, IsMixed, NoneIs, TablePasses, TableRefuses, DeclarationsRefuse}
 use Rattle.jn_base.proofs.Homes.{home_of}
 use Rattle.jn_base.proofs.TableLaws.{declarations_refused_or_passed, one_declarations_refusal}
 use Rattle.jn_base.specs.ProgramNames.{IsNamed}
@@ -22,7 +22,7 @@ use Rattle.jn_homes.specs.Homes.{HomeIs}
 use Rattle.jn_header.specs.Unknown.{IsFirstUnknown, FirstUnknownIs}
 use Rattle.jn_rules.specs.Plans.{Nothing}
 use Rattle.jn_heads.specs.Told.{Told, itself}
-use Rattle.jn_header.specs.Check.{IsCauseOf, IsRefusedUnlessMemory, PassesUnlessMemory, IsAtHome, NamesVerdict, TableVerdict, IsTableFault}
+use Rattle.jn_header.specs.Check.{IsAtHome, NamesVerdict, TableVerdict, IsTableFault}
 use Rattle.jn_heads.specs.declared.fault.CheckFault.{CheckFault}
 use Rattle.jn_heads.specs.declared.fault.CheckFault.TheVariants.{Refused, Memory}
 
@@ -108,26 +108,6 @@ refused_unknown p u o r e is =
 pub all_passed : (p : Program) → UniversePasses p → (o : Option Refusal) → o ≡ None → FirstUnknownIs p o → TablePasses p
 all_passed p u o e is = record { within = u.within; no_cycle = u.no_cycle; one_kind = u.one_kind; all_known = subst (λ (x : Option Refusal). FirstUnknownIs p x) e is }
 
--- ---- there is one answer
-
-pub refused_by_one : {T : Type 0} (p : Program) → IsNamed p → (a : Result T CheckFault) → OnOk a (DeclarationsPass p) → IfErr a (λ f. IsCauseOf p f)
-    → (r : Refusal) → DeclarationsRefuse p r → IsRefusedUnlessMemory a r
-refused_by_one p named (Ok x) passes refused r is = declarations_refused_or_passed p r is passes
-refused_by_one p named (Err (Refused s)) passes refused r is = one_declarations_refusal p named.distinct named.paths s r refused is
-refused_by_one p named (Err Memory) passes refused r is = tt
-
-pub passed_by_all : {T : Type 0} (p : Program) → (a : Result T CheckFault) → IfErr a (λ f. IsCauseOf p f) → DeclarationsPass p → PassesUnlessMemory a
-passed_by_all p (Ok x) refused is = tt
-passed_by_all p (Err (Refused s)) refused is = declarations_refused_or_passed p s refused is
-passed_by_all p (Err Memory) refused is = tt
-
-pub cause_is : {T : Type 0} (p : Program) (a : Result T CheckFault) (f : CheckFault) (r : Refusal) → IfErr a (λ f. IsCauseOf p f) → a ≡ Err f → f ≡ Refused r → DeclarationsRefuse p r
-cause_is {T = T} p a f r is e same =
-    subst (λ (g : CheckFault). IsCauseOf p g) same (by_error a f e is) where
-      by_error : (b : Result T CheckFault) (g : CheckFault) → b ≡ Err g → IfErr b (λ h. IsCauseOf p h) → IsCauseOf p g
-      by_error (Ok x) g e is = absurd (cc e)
-      by_error (Err h) g e is = let k : h ≡ g = cc e in subst (λ (x : CheckFault). IsCauseOf p x) k is
-
 -- ---- the steps, each with its verdict
 
 clash : {r : Refusal} {rs : List Refusal} → r ∷ rs ≡ [] → ⊥
@@ -170,18 +150,3 @@ only_table p named once r = only_this (TableVerdict p) (table_once p named once)
 pub table_told : (p : Program) (f : CheckFault) → IsTableFault p f → Told {B = Nothing} (TableVerdict p) itself (Err f)
 table_told p (Refused r) g = g
 table_told p Memory g = tt
-
--- ---- both steps
-
-pub twice_is : (p : Program) (f : CheckFault) → Told {B = Nothing} (NamesVerdict p) itself (Err f) → IsCauseOf p f
-twice_is p (Refused r) g = DeclarationsRefuse.twice g
-twice_is p Memory g = tt
-
-pub both_pass : (p : Program) → duplicates p ≡ [] → (r : Result Nothing CheckFault) → Told (TableVerdict p) itself r → OnOk r (DeclarationsPass p)
-both_pass p once (Ok u) g = record { once = once; table = g }
-both_pass p once (Err f) g = tt
-
-pub both_refuse : (p : Program) → duplicates p ≡ [] → (r : Result Nothing CheckFault) → Told (TableVerdict p) itself r → IfErr r (λ f. IsCauseOf p f)
-both_refuse p once (Ok u) g = tt
-both_refuse p once (Err (Refused r)) g = DeclarationsRefuse.table once g
-both_refuse p once (Err Memory) g = tt

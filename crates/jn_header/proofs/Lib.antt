@@ -5,3 +5,16 @@ pub mod Checking
 pub mod Families
 pub mod Heads
 pub mod BadMembers
+pub mod AlikeLists
+pub mod BodyRows
+pub mod ClassFaults
+pub mod Constructs
+pub mod Failing
+pub mod FieldTypes
+pub mod Finding
+pub mod Judging
+pub mod Limits
+pub mod Listings
+pub mod MethodNames
+pub mod Numbers
+pub mod Rooting

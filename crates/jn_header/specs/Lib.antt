@@ -1,6 +1,14 @@
 pub mod Asked
+pub mod Bodies
+pub mod BodySteps
 pub mod Check
+pub mod Classes
+pub mod Constraints
+pub mod Constructors
 pub mod First
+pub mod Judged
 pub mod Listed
 pub mod Members
+pub mod Methods
+pub mod Shared
 pub mod Unknown

@@ -1,15 +1,13 @@
 //! Names that stand twice, and the class table.
 
-ghost use Rattle.std.specs.Prelude.{◌≡◌, [], reverse, OnOk, IfErr, Result};
+ghost use Rattle.std.specs.Prelude.{◌≡◌, [], reverse, OnOk, Result};
 ghost use Rattle.jn_base.specs.declared.refusal.Refusal.{Refusal as ARefusal};
 ghost use Rattle.jn_base.specs.Duplicates.{duplicates};
-ghost use Rattle.jn_base.specs.TableRules.{DeclarationsRefuse, DeclarationsPass};
 ghost use Rattle.jn_base.specs.Universe.{InUniverse};
-ghost use Rattle.jn_base.specs.ProgramNames.{IsNamed};
 ghost use Rattle.jn_table.specs.Answers.{UniversePasses, UniverseRefused};
 ghost use Rattle.jn_table.specs.Tables.{IsTableOf, IsFilled, KeepsNumbers};
 ghost use Rattle.jn_rules.specs.Plans.{Nothing};
-ghost use Rattle.jn_header.specs.Check.{IsCauseOf, IsRefusedUnlessMemory, PassesUnlessMemory, IsAtHome, NamesVerdict, TableVerdict, IsTableFault};
+ghost use Rattle.jn_header.specs.Check.{IsAtHome, NamesVerdict, TableVerdict, IsTableFault};
 ghost use Rattle.jn_heads.specs.Told.{Told, itself};
 
 use crate::twice::first_duplicate;
@@ -21,23 +19,6 @@ use jn_heads::CheckFault;
 use jn_homes::home_of;
 use jn_table::{Table, TableFault};
 use std::alloc::Global;
-
-/// Whether the declarations of a program pass: no name stands twice, there are no more than 4,096 paths, none of
-/// them is its own strict super or has supers of both kinds, and each name that is extended is a member of the
-/// namespace.
-///
-/// The first of these that doesn't hold is answered, and memory may run out before any. `IsNamed` says that equal
-/// names of the program have one number and that it has each name of a declaration, as each program has that a
-/// source spells.
-pub fn check_declarations(alloc: Global, p: &Program) -> Result<(), CheckFault>
-    requires { IsNamed p.now }
-    ensures passes { OnOk result (DeclarationsPass p.now) }
-    ensures passes_only { DeclarationsPass p.now → PassesUnlessMemory result }
-    ensures refused { IfErr result (λ fault. IsCauseOf p.now fault) }
-    ensures refused_only { (r : ARefusal) → DeclarationsRefuse p.now r → IsRefusedUnlessMemory result r }
-{
-    decided(alloc, p)
-}
 
 /// Whether no name stands twice where it may stand once: a second declaration, field or method of one name in one
 /// body, a second name in one list, a second parameter, a local where its name is in scope. The first that does, in
@@ -69,21 +50,6 @@ pub fn check_table(alloc: Global, p: &Program, t: &mut Table) -> Result<(), Chec
     match t.ask_all() {
         Ok(()) => check_extended(alloc, p, t),
         Err(fault) => Err(refused(p, fault)),
-    }
-}
-
-/// The same, said one way.
-fn decided(alloc: Global, p: &Program) -> Result<(), CheckFault>
-    requires { IsNamed p.now }
-    ensures passes { OnOk result (DeclarationsPass p.now) }
-    ensures refused { IfErr result (λ fault. IsCauseOf p.now fault) }
-{
-    match check_names(alloc, p) {
-        Err(fault) => Err(fault),
-        Ok(()) => {
-            let mut table = Table::new(alloc, p)?;
-            check_table(alloc, p, &mut table)
-        }
     }
 }
 

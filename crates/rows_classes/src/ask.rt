@@ -1,11 +1,13 @@
 //! The rows of a case: each is a question, `=>`, and its answer.
 
 use crate::reading::{Question, question_of};
-use crate::setting::setting_of;
+use crate::setting::{Setting, setting_of};
+use crate::shown::Answer;
 use crate::source::source_of;
 use crate::world::{Made, World, made_of};
 use crate::{bounds, graphs, members, names, sets, slots, tables, types};
 use jn_cases::{Case, CasesFault, Tally};
+use jn_table::Table;
 use std::alloc::{AllocError, Global};
 
 /// The keys of a case: its source in one of three forms, the method and class where its terms stand, how its types are
@@ -87,13 +89,26 @@ fn answer(
     world: &mut Option<World>,
     asked: Question<'_>,
 ) -> Result<String, AllocError> {
-    let found = match world {
-        None => without_source(alloc, case, asked)?,
-        Some(world) => of_world(alloc, case, world, asked)?,
-    };
-    match found {
-        None => String::from_str(alloc, "there is no such question"),
-        Some(text) => Ok(text),
+    let mut out = Answer::new(alloc);
+    if !is_answered(alloc, case, world, asked, &mut out)? {
+        out.put("there is no such question");
+    }
+    out.end()
+}
+
+/// Writes the answer, and tells whether there is such a question.
+fn is_answered(
+    alloc: Global,
+    case: &Case,
+    world: &mut Option<World>,
+    asked: Question<'_>,
+    out: &mut Answer,
+) -> Result<bool, AllocError> {
+    match world {
+        None => without_source(alloc, case, asked, out),
+        Some(world) => Ok(
+            of_world(alloc, world, asked, out)? || of_method(alloc, case, world, asked, out)?,
+        ),
     }
 }
 
@@ -101,10 +116,11 @@ fn without_source(
     alloc: Global,
     case: &Case,
     asked: Question<'_>,
-) -> Result<Option<String>, AllocError> {
+    out: &mut Answer,
+) -> Result<bool, AllocError> {
     match case.text("graph") {
-        None => sets::answer(alloc, asked),
-        Some(graph) => graphs::answer(alloc, graph, asked),
+        None => sets::answer(alloc, asked, out),
+        Some(graph) => graphs::answer(alloc, graph, asked, out),
     }
 }
 
@@ -112,26 +128,23 @@ fn without_source(
 /// subject has its own file and its line here.
 fn of_world(
     alloc: Global,
-    case: &Case,
     world: &mut World,
     asked: Question<'_>,
-) -> Result<Option<String>, AllocError> {
-    if let Some(text) = tables::answer(alloc, world, asked)? {
-        return Ok(Some(text));
+    out: &mut Answer,
+) -> Result<bool, AllocError> {
+    if tables::answer(alloc, world, asked, out)? {
+        return Ok(true);
     }
-    if let Some(text) = members::answer(alloc, world, asked)? {
-        return Ok(Some(text));
+    if members::answer(alloc, world, asked, out)? {
+        return Ok(true);
     }
-    if let Some(text) = bounds::answer(alloc, world, asked)? {
-        return Ok(Some(text));
+    if bounds::answer(alloc, world, asked, out)? {
+        return Ok(true);
     }
-    if let Some(text) = names::answer(alloc, world, asked)? {
-        return Ok(Some(text));
+    if names::answer(alloc, world, asked, out) {
+        return Ok(true);
     }
-    if let Some(text) = slots::answer(alloc, world, asked)? {
-        return Ok(Some(text));
-    }
-    of_method(alloc, case, world, asked)
+    slots::answer(alloc, world, asked, out)
 }
 
 /// The answer to a question on the method of a case.
@@ -140,23 +153,31 @@ fn of_method(
     case: &Case,
     world: &mut World,
     asked: Question<'_>,
-) -> Result<Option<String>, AllocError> {
+    out: &mut Answer,
+) -> Result<bool, AllocError> {
     let method = match case.text("method") {
-        None => return Ok(None),
+        None => return Ok(false),
         Some(method) => method,
     };
     let written = case.text("types") == Some("as written");
     let (program, masks) = (&world.program, world.masks.as_slice());
-    let setting = match setting_of(alloc, program, masks, method, case.text("class"), written)? {
-        None => return Ok(Some(String::from_str(alloc, "there is no such method")?)),
-        Some(setting) => setting,
-    };
-    let table = &mut world.table;
-    if let Some(text) = names::of_method(alloc, &setting, table, asked)? {
-        return Ok(Some(text));
+    match setting_of(alloc, program, masks, method, case.text("class"), written)? {
+        None => {
+            out.put("there is no such method");
+            Ok(true)
+        }
+        Some(setting) => Ok(in_setting(alloc, &setting, &mut world.table, asked, out)),
     }
-    if let Some(text) = slots::of_method(alloc, &setting, table, asked)? {
-        return Ok(Some(text));
-    }
-    types::answer(alloc, &setting, table, asked)
+}
+
+fn in_setting(
+    alloc: Global,
+    setting: &Setting<'_>,
+    table: &mut Table,
+    asked: Question<'_>,
+    out: &mut Answer,
+) -> bool {
+    names::of_method(alloc, setting, table, asked, out)
+        || slots::of_method(alloc, setting, table, asked, out)
+        || types::answer(alloc, setting, table, asked, out)
 }

@@ -1,12 +1,37 @@
 //! Questions on paths by their names.
 
 use crate::reading::{Question, read_name, read_number, split};
-use crate::shown::{path_text, put_path, said, some, word_of};
+use crate::shown::{Answer, put_path};
 use crate::world::World;
 use jn_base::compare::{has_name, is_name, same_names};
-use jn_base::tree::Text;
+use jn_base::tree::{Name, Text};
 use jn_names::Bound;
 use std::alloc::{AllocError, Global};
+
+/// The words of a question on paths: two paths, and the names that the words are. `rest` is all behind the first word.
+#[derive(Drop)]
+struct Paths<'a> {
+    path: Bound,
+    other: Bound,
+    first: Name,
+    second: Name,
+    rest: &'a str,
+}
+
+fn paths_of<'a>(alloc: Global, names: &[Text], text: &'a str) -> Result<Paths<'a>, AllocError> {
+    let (word, rest) = split(text);
+    let first = read_name(names, word);
+    let second = read_name(names, rest);
+    let path = bound_of(alloc, names, word)?;
+    let other = bound_of(alloc, names, rest)?;
+    Ok(Paths {
+        path,
+        other,
+        first,
+        second,
+        rest,
+    })
+}
 
 /// The answer to a question on paths, known or not:
 ///
@@ -19,142 +44,88 @@ pub fn answer(
     alloc: Global,
     world: &World,
     asked: Question<'_>,
-) -> Result<Option<String>, AllocError> {
-    match asked.call {
-        "is_known" => some(is_known(alloc, world, asked.rest)),
-        "is_class" => some(is_class(alloc, world, asked.rest)),
-        "has_number" => some(has_number(alloc, world, asked.rest)),
-        "has_field" => some(has_field(alloc, world, asked.rest)),
-        "is_below" => some(below_text(alloc, world, asked.rest)),
-        "supers" => some(supers_text(alloc, world, asked.rest)),
-        _ => of_names(alloc, world.program.names.as_slice(), asked),
+    out: &mut Answer,
+) -> Result<bool, AllocError> {
+    let paths = paths_of(alloc, world.program.names.as_slice(), asked.rest)?;
+    let told = of_table(alloc, world, asked.call, &paths, out);
+    Ok(told || of_names(alloc, world, asked.call, &paths, out))
+}
+
+fn of_table(alloc: Global, world: &World, call: &str, paths: &Paths<'_>, out: &mut Answer) -> bool {
+    let table = &world.table;
+    let path = &paths.path;
+    match call {
+        "is_known" => out.say(path.is_known(table)),
+        "is_class" => out.say(path.is_class(table)),
+        "has_number" => out.say(path.number(table).is_some()),
+        "has_field" => out.say(path.has_field(table, paths.second)),
+        "is_below" => put_all_below(alloc, world, paths, out),
+        "supers" => put_supers(alloc, world, path, out),
+        _ => return false,
     }
+    true
 }
 
 /// What is asked of names alone.
-fn of_names(
-    alloc: Global,
-    names: &[Text],
-    asked: Question<'_>,
-) -> Result<Option<String>, AllocError> {
-    match asked.call {
-        "depth" => some(depth_text(alloc, names, asked.rest)),
-        "without" => some(without_text(alloc, names, asked.rest)),
-        "is" => some(is_text(alloc, names, asked.rest)),
-        "same_names" => some(same_names_text(alloc, names, asked.rest)),
-        "has_name" => some(has_name_text(alloc, names, asked.rest)),
-        "is_name" => some(is_name_text(alloc, names, asked.rest)),
-        _ => Ok(None),
+fn of_names(alloc: Global, world: &World, call: &str, paths: &Paths<'_>, out: &mut Answer) -> bool {
+    let path = &paths.path;
+    match call {
+        "depth" => out.put_number(path.depth()),
+        "without" => put_without(alloc, world, path, read_number(paths.rest), out),
+        "is" => out.say(path.is(&paths.other)),
+        "same_names" => out.say(same_names(path.names(), paths.other.names())),
+        "has_name" => out.say(has_name(path.names(), paths.second)),
+        "is_name" => out.say(is_name(paths.first, paths.second)),
+        _ => return false,
     }
-}
-
-fn is_known(alloc: Global, world: &World, text: &str) -> Result<String, AllocError> {
-    let path = bound_of(alloc, world.program.names.as_slice(), text)?;
-    said(alloc, path.is_known(&world.table))
-}
-
-fn is_class(alloc: Global, world: &World, text: &str) -> Result<String, AllocError> {
-    let path = bound_of(alloc, world.program.names.as_slice(), text)?;
-    said(alloc, path.is_class(&world.table))
-}
-
-fn has_number(alloc: Global, world: &World, text: &str) -> Result<String, AllocError> {
-    let path = bound_of(alloc, world.program.names.as_slice(), text)?;
-    said(alloc, path.number(&world.table).is_some())
-}
-
-fn has_field(alloc: Global, world: &World, text: &str) -> Result<String, AllocError> {
-    let names = world.program.names.as_slice();
-    let (first, second) = split(text);
-    let path = bound_of(alloc, names, first)?;
-    said(
-        alloc,
-        path.has_field(&world.table, read_name(names, second)),
-    )
+    true
 }
 
 /// Whether each path but the first is a super of that.
-fn below_text(alloc: Global, world: &World, text: &str) -> Result<String, AllocError> {
-    let (first, others) = split(text);
-    let path = bound_of(alloc, world.program.names.as_slice(), first)?;
-    let mut out = String::new(alloc);
-    for word in others.split_whitespace() {
-        put_below(alloc, &mut out, world, &path, word)?;
+fn put_all_below(alloc: Global, world: &World, paths: &Paths<'_>, out: &mut Answer) {
+    for word in paths.rest.split_whitespace() {
+        put_below(alloc, world, &paths.path, word, out);
     }
-    Ok(out)
 }
 
-fn put_below(
-    alloc: Global,
-    out: &mut String,
-    world: &World,
-    path: &Bound,
-    word: &str,
-) -> Result<(), AllocError> {
+fn put_below(alloc: Global, world: &World, path: &Bound, word: &str, out: &mut Answer) {
     if !out.is_empty() {
-        out.push_str(" ")?;
+        out.put(" ");
     }
-    let other = bound_of(alloc, world.program.names.as_slice(), word)?;
-    out.push_str(word_of(path.is_below(&world.table, &other)))
+    match bound_of(alloc, world.program.names.as_slice(), word) {
+        Err(_) => out.fail(),
+        Ok(other) => out.say(path.is_below(&world.table, &other)),
+    }
 }
 
-fn supers_text(alloc: Global, world: &World, text: &str) -> Result<String, AllocError> {
-    let names = world.program.names.as_slice();
-    let path = bound_of(alloc, names, text)?;
-    let supers = path.supers(alloc, &world.table)?;
-    shown_all(alloc, names, &supers)
+fn put_supers(alloc: Global, world: &World, path: &Bound, out: &mut Answer) {
+    match path.supers(alloc, &world.table) {
+        Err(_) => out.fail(),
+        Ok(supers) => put_paths(world, &supers, out),
+    }
 }
 
-fn shown_all(alloc: Global, names: &[Text], paths: &[Bound]) -> Result<String, AllocError> {
-    let mut out = String::new(alloc);
+fn put_paths(world: &World, paths: &[Bound], out: &mut Answer) {
     for path in paths {
         if !out.is_empty() {
-            out.push_str(" ")?;
+            out.put(" ");
         }
-        put_path(&mut out, names, path.names())?;
+        put_path(out, world.program.names.as_slice(), path.names());
     }
-    Ok(out)
 }
 
-fn depth_text(alloc: Global, names: &[Text], text: &str) -> Result<String, AllocError> {
-    let depth = bound_of(alloc, names, text)?.depth();
-    format!(in alloc; "{depth}")
+fn put_without(alloc: Global, world: &World, path: &Bound, k: usize, out: &mut Answer) {
+    match path.without(alloc, k) {
+        Err(_) => out.fail(),
+        Ok(left) => put_shown(alloc, world, &left, out),
+    }
 }
 
-fn without_text(alloc: Global, names: &[Text], text: &str) -> Result<String, AllocError> {
-    let (first, second) = split(text);
-    let path = bound_of(alloc, names, first)?;
-    let left = path.without(alloc, read_number(second))?;
-    let shown = left.shown(alloc)?;
-    path_text(alloc, names, shown.names.as_slice())
-}
-
-fn is_text(alloc: Global, names: &[Text], text: &str) -> Result<String, AllocError> {
-    let (first, second) = split(text);
-    let path = bound_of(alloc, names, first)?;
-    let other = bound_of(alloc, names, second)?;
-    said(alloc, path.is(&other))
-}
-
-fn same_names_text(alloc: Global, names: &[Text], text: &str) -> Result<String, AllocError> {
-    let (first, second) = split(text);
-    let path = bound_of(alloc, names, first)?;
-    let other = bound_of(alloc, names, second)?;
-    said(alloc, same_names(path.names(), other.names()))
-}
-
-fn has_name_text(alloc: Global, names: &[Text], text: &str) -> Result<String, AllocError> {
-    let (first, second) = split(text);
-    let path = bound_of(alloc, names, first)?;
-    said(alloc, has_name(path.names(), read_name(names, second)))
-}
-
-fn is_name_text(alloc: Global, names: &[Text], text: &str) -> Result<String, AllocError> {
-    let (first, second) = split(text);
-    said(
-        alloc,
-        is_name(read_name(names, first), read_name(names, second)),
-    )
+fn put_shown(alloc: Global, world: &World, path: &Bound, out: &mut Answer) {
+    match path.shown(alloc) {
+        Err(_) => out.fail(),
+        Ok(shown) => put_path(out, world.program.names.as_slice(), shown.names.as_slice()),
+    }
 }
 
 /// A path, its names put on one after the other.

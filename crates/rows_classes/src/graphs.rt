@@ -5,7 +5,7 @@ ghost use Rattle.jn_reach.specs.Graph.{InRange};
 ghost use Rattle.jn_reach.specs.Pairs.{AreBelow};
 
 use crate::reading::{Question, read_number, read_numbers};
-use crate::shown::{said, some};
+use crate::shown::Answer;
 use jn_reach::{
     are_below, class_firsts, class_members, closure, edges_of, first_on_cycle, has_edge, least_set,
     origins, reached, reached_from,
@@ -25,11 +25,12 @@ pub fn answer(
     alloc: Global,
     graph: &str,
     asked: Question<'_>,
-) -> Result<Option<String>, AllocError> {
+    out: &mut Answer,
+) -> Result<bool, AllocError> {
     let (count, pairs) = graph_of(graph);
     let pairs = read_pairs(alloc, pairs)?;
     let nodes = read_numbers(alloc, asked.rest)?;
-    within(alloc, count, &pairs, &nodes, asked)
+    Ok(within(alloc, count, &pairs, &nodes, asked.call, out))
 }
 
 /// The number of nodes that a text says, and its pairs.
@@ -38,66 +39,6 @@ fn graph_of(text: &str) -> (usize, &str) {
         None => (0, text),
         Some((count, pairs)) => (read_number(count), pairs),
     }
-}
-
-/// The answer, where no pair and no node leads out of the graph.
-fn within(
-    alloc: Global,
-    count: usize,
-    pairs: &[(usize, usize)],
-    nodes: &[usize],
-    asked: Question<'_>,
-) -> Result<Option<String>, AllocError> {
-    if !are_below(count, pairs) || !are_nodes(count, nodes) {
-        return some(String::from_str(alloc, "it leads out of the graph"));
-    }
-    of_pairs(alloc, count, pairs, nodes, asked)
-}
-
-fn of_pairs(
-    alloc: Global,
-    count: usize,
-    pairs: &[(usize, usize)],
-    nodes: &[usize],
-    asked: Question<'_>,
-) -> Result<Option<String>, AllocError>
-    requires pairs { AreBelow count pairs.now }
-    requires nodes { All (λ a. a < count) nodes.now }
-{
-    match asked.call {
-        "least_set" => some(set_text(alloc, count, pairs, nodes)),
-        "class_firsts" => some(firsts_text(alloc, count, pairs)),
-        "class_members" => some(members_text(alloc, count, pairs)),
-        _ => of_edges(alloc, count, pairs, nodes, asked),
-    }
-}
-
-fn set_text(
-    alloc: Global,
-    count: usize,
-    pairs: &[(usize, usize)],
-    nodes: &[usize],
-) -> Result<String, AllocError>
-    requires pairs { AreBelow count pairs.now }
-    requires nodes { All (λ a. a < count) nodes.now }
-{
-    let set = least_set(alloc, count, nodes, pairs)?;
-    nodes_text(alloc, &set)
-}
-
-fn firsts_text(alloc: Global, count: usize, pairs: &[(usize, usize)]) -> Result<String, AllocError>
-    requires { AreBelow count pairs.now }
-{
-    let firsts = class_firsts(alloc, count, pairs)?;
-    nodes_text(alloc, &firsts)
-}
-
-fn members_text(alloc: Global, count: usize, pairs: &[(usize, usize)]) -> Result<String, AllocError>
-    requires { AreBelow count pairs.now }
-{
-    let firsts = class_firsts(alloc, count, pairs)?;
-    let rows = class_members(alloc, &firsts)?;
-    rows_text(alloc, &rows)
 }
 
 fn read_pairs(alloc: Global, text: &str) -> Result<Vec<(usize, usize)>, AllocError> {
@@ -118,12 +59,65 @@ fn are_nodes(count: usize, nodes: &[usize]) -> bool
     nodes.iter().all(|node| *node < count)
 }
 
-fn nodes_text(alloc: Global, nodes: &[usize]) -> Result<String, AllocError> {
-    format!(in alloc; "{nodes:?}")
+/// The answer, where no pair and no node leads out of the graph.
+fn within(
+    alloc: Global,
+    count: usize,
+    pairs: &[(usize, usize)],
+    nodes: &[usize],
+    call: &str,
+    out: &mut Answer,
+) -> bool {
+    if !are_below(count, pairs) || !are_nodes(count, nodes) {
+        out.put("it leads out of the graph");
+        return true;
+    }
+    of_pairs(alloc, count, pairs, nodes, call, out)
 }
 
-fn rows_text(alloc: Global, rows: &[Vec<usize>]) -> Result<String, AllocError> {
-    format!(in alloc; "{rows:?}")
+fn of_pairs(
+    alloc: Global,
+    count: usize,
+    pairs: &[(usize, usize)],
+    nodes: &[usize],
+    call: &str,
+    out: &mut Answer,
+) -> bool
+    requires pairs { AreBelow count pairs.now }
+    requires nodes { All (λ a. a < count) nodes.now }
+{
+    match call {
+        "least_set" => put_nodes(alloc, least_set(alloc, count, nodes, pairs), out),
+        "class_firsts" => put_nodes(alloc, class_firsts(alloc, count, pairs), out),
+        "class_members" => put_rows(alloc, members_of(alloc, count, pairs), out),
+        _ => return of_edges(alloc, count, pairs, nodes, call, out),
+    }
+    true
+}
+
+fn members_of(
+    alloc: Global,
+    count: usize,
+    pairs: &[(usize, usize)],
+) -> Result<Vec<Vec<usize>>, AllocError>
+    requires { AreBelow count pairs.now }
+{
+    let firsts = class_firsts(alloc, count, pairs)?;
+    class_members(alloc, &firsts)
+}
+
+fn put_nodes(alloc: Global, nodes: Result<Vec<usize>, AllocError>, out: &mut Answer) {
+    match nodes {
+        Err(_) => out.fail(),
+        Ok(nodes) => out.put_made(format!(in alloc; "{nodes:?}")),
+    }
+}
+
+fn put_rows(alloc: Global, rows: Result<Vec<Vec<usize>>, AllocError>, out: &mut Answer) {
+    match rows {
+        Err(_) => out.fail(),
+        Ok(rows) => out.put_made(format!(in alloc; "{rows:?}")),
+    }
 }
 
 fn of_edges(
@@ -131,87 +125,81 @@ fn of_edges(
     count: usize,
     pairs: &[(usize, usize)],
     nodes: &[usize],
-    asked: Question<'_>,
-) -> Result<Option<String>, AllocError>
+    call: &str,
+    out: &mut Answer,
+) -> bool
     requires pairs { AreBelow count pairs.now }
     requires nodes { All (λ a. a < count) nodes.now }
 {
-    let edges = edges_of(alloc, count, pairs)?;
-    of_graph(alloc, &edges, nodes, asked)
+    match edges_of(alloc, count, pairs) {
+        Err(_) => {
+            out.fail();
+            true
+        }
+        Ok(edges) => of_graph(alloc, &edges, nodes, call, out),
+    }
 }
 
 fn of_graph(
     alloc: Global,
     edges: &[Vec<usize>],
     nodes: &[usize],
-    asked: Question<'_>,
-) -> Result<Option<String>, AllocError>
+    call: &str,
+    out: &mut Answer,
+) -> bool
     requires edges { InRange edges.now (length edges.now) }
     requires nodes { All (λ a. a < length edges.now) nodes.now }
 {
-    match asked.call {
-        "closure" => some(closure_text(alloc, edges)),
-        "first_on_cycle" => some(cycle_text(alloc, edges)),
-        "reached" => some(reached_text(alloc, edges, nodes)),
-        "origins" => some(origins_text(alloc, edges, nodes)),
-        "reached_from" => some(reached_from_text(alloc, edges, nodes)),
-        "has_edge" => some(edge_text(alloc, edges, nodes)),
-        _ => Ok(None),
+    match call {
+        "closure" => put_rows(alloc, closure(alloc, edges), out),
+        "first_on_cycle" => put_cycle(alloc, edges, out),
+        "reached" => put_nodes(alloc, reached(alloc, edges, nodes), out),
+        "origins" => put_origins(alloc, edges, nodes, out),
+        "reached_from" => put_reached_from(alloc, edges, nodes, out),
+        "has_edge" => put_edge(edges, nodes, out),
+        _ => return false,
+    }
+    true
+}
+
+fn put_cycle(alloc: Global, edges: &[Vec<usize>], out: &mut Answer)
+    requires { InRange edges.now (length edges.now) }
+{
+    match closure(alloc, edges) {
+        Err(_) => out.fail(),
+        Ok(rows) => match first_on_cycle(edges, &rows) {
+            None => out.put("none"),
+            Some(node) => out.put_number(node),
+        },
     }
 }
 
-fn closure_text(alloc: Global, edges: &[Vec<usize>]) -> Result<String, AllocError>
-    requires { InRange edges.now (length edges.now) }
+fn put_origins(alloc: Global, edges: &[Vec<usize>], nodes: &[usize], out: &mut Answer)
+    requires edges { InRange edges.now (length edges.now) }
+    requires nodes { All (λ a. a < length edges.now) nodes.now }
 {
-    let rows = closure(alloc, edges)?;
-    rows_text(alloc, &rows)
-}
-
-fn cycle_text(alloc: Global, edges: &[Vec<usize>]) -> Result<String, AllocError>
-    requires { InRange edges.now (length edges.now) }
-{
-    let rows = closure(alloc, edges)?;
-    match first_on_cycle(edges, &rows) {
-        None => String::from_str(alloc, "none"),
-        Some(node) => format!(in alloc; "{node}"),
+    match origins(alloc, edges, nodes) {
+        Err(_) => out.fail(),
+        Ok(origins) => out.put_made(format!(in alloc; "{origins:?}")),
     }
 }
 
-fn reached_text(alloc: Global, edges: &[Vec<usize>], nodes: &[usize]) -> Result<String, AllocError>
-    requires edges { InRange edges.now (length edges.now) }
-    requires nodes { All (λ a. a < length edges.now) nodes.now }
-{
-    let found = reached(alloc, edges, nodes)?;
-    nodes_text(alloc, &found)
-}
-
-fn origins_text(alloc: Global, edges: &[Vec<usize>], nodes: &[usize]) -> Result<String, AllocError>
-    requires edges { InRange edges.now (length edges.now) }
-    requires nodes { All (λ a. a < length edges.now) nodes.now }
-{
-    let origins = origins(alloc, edges, nodes)?;
-    format!(in alloc; "{origins:?}")
-}
-
-fn reached_from_text(
-    alloc: Global,
-    edges: &[Vec<usize>],
-    nodes: &[usize],
-) -> Result<String, AllocError>
+fn put_reached_from(alloc: Global, edges: &[Vec<usize>], nodes: &[usize], out: &mut Answer)
     requires { InRange edges.now (length edges.now) }
 {
     match nodes.first() {
-        Some(start) if *start < edges.len() => {
-            let found = reached_from(alloc, edges, *start)?;
-            nodes_text(alloc, &found)
-        }
-        _ => String::from_str(alloc, "there is no such node"),
+        Some(start) if *start < edges.len() => put_nodes(
+            alloc,
+            reached_from(alloc, edges, *start),
+            out,
+        ),
+        _ => out.put("there is no such node"),
     }
 }
 
-fn edge_text(alloc: Global, edges: &[Vec<usize>], nodes: &[usize]) -> Result<String, AllocError> {
+fn put_edge(edges: &[Vec<usize>], nodes: &[usize], out: &mut Answer) {
     match nodes {
-        [from, to] if *from < edges.len() => said(alloc, has_edge(edges, *from, *to)),
-        _ => String::from_str(alloc, "there is no such node"),
+        [from, to] if *from < edges.len() => out.say(has_edge(edges, *from, *to)),
+        _ => out.put("there is no such node"),
     }
 }

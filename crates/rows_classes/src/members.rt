@@ -1,13 +1,45 @@
 //! Questions on members and on groups of shared classes.
 
 use crate::reading::{Question, read_name, read_path, split};
-use crate::shown::{refusal_text, said, some};
-use crate::tables::{id_text, put_id};
+use crate::shown::{Answer, put_refusal};
+use crate::tables::put_id;
 use crate::world::World;
+use jn_base::tree::Name;
 use jn_names::{Least, Members};
 use jn_share::{Groups, ShareFault};
 use jn_table::ClassId;
 use std::alloc::{AllocError, Global};
+
+/// What the two words of a question stand for: the numbers of two paths, or one that no path has, and the name that the
+/// second word is.
+#[derive(Clone, Copy)]
+pub struct Words {
+    pub first: ClassId,
+    pub second: ClassId,
+    pub name: Name,
+}
+
+/// What the two words of a text stand for.
+pub fn words_of(alloc: Global, world: &World, text: &str) -> Result<Words, AllocError> {
+    let (first, second) = split(text);
+    let name = read_name(world.program.names.as_slice(), second);
+    let first = number_of(alloc, world, first)?;
+    let second = number_of(alloc, world, second)?;
+    Ok(Words {
+        first,
+        second,
+        name,
+    })
+}
+
+/// The number of the path that a text is, or one that no path has.
+fn number_of(alloc: Global, world: &World, text: &str) -> Result<ClassId, AllocError> {
+    let path = read_path(alloc, world.program.names.as_slice(), text)?;
+    match world.table.find(&path) {
+        None => Ok(ClassId(u16::MAX)),
+        Some(id) => Ok(id),
+    }
+}
 
 /// The answer to a question on members or groups:
 ///
@@ -19,83 +51,69 @@ pub fn answer(
     alloc: Global,
     world: &World,
     asked: Question<'_>,
-) -> Result<Option<String>, AllocError> {
+    out: &mut Answer,
+) -> Result<bool, AllocError> {
+    let words = words_of(alloc, world, asked.rest)?;
     match asked.call {
-        "least" => some(least_text(alloc, world, asked)),
-        "field" => some(least_text(alloc, world, asked)),
-        "groups" => some(groups_text(alloc, world, asked)),
-        "related" => some(groups_text(alloc, world, asked)),
-        "counterpart" => some(groups_text(alloc, world, asked)),
-        _ => Ok(None),
+        "least" => put_member(alloc, world, asked.call, words, out),
+        "field" => put_member(alloc, world, asked.call, words, out),
+        "groups" => put_groups(alloc, world, asked.call, words, out),
+        "related" => put_groups(alloc, world, asked.call, words, out),
+        "counterpart" => put_groups(alloc, world, asked.call, words, out),
+        _ => return Ok(false),
+    }
+    Ok(true)
+}
+
+fn put_member(alloc: Global, world: &World, call: &str, words: Words, out: &mut Answer) {
+    match Members::build(alloc, &world.program, &world.table) {
+        Err(_) => out.fail(),
+        Ok(members) => put_least(world, least_of(&members, call, words), out),
     }
 }
 
-/// The number of the path that a text is, or one that no path has.
-pub fn number_of(alloc: Global, world: &World, text: &str) -> Result<ClassId, AllocError> {
-    let path = read_path(alloc, world.program.names.as_slice(), text)?;
-    match world.table.find(&path) {
-        None => Ok(ClassId(u16::MAX)),
-        Some(id) => Ok(id),
+fn least_of(members: &Members, call: &str, words: Words) -> Least {
+    if call == "least" {
+        return members.least(words.first, words.name);
     }
+    members.field(words.first, words.name)
 }
 
-fn least_text(alloc: Global, world: &World, asked: Question<'_>) -> Result<String, AllocError> {
-    let (first, second) = split(asked.rest);
-    let class = number_of(alloc, world, first)?;
-    let name = read_name(world.program.names.as_slice(), second);
-    let members = Members::build(alloc, &world.program, &world.table)?;
-    let least = match asked.call {
-        "least" => members.least(class, name),
-        _ => members.field(class, name),
-    };
-    shown_least(alloc, world, least)
-}
-
-fn shown_least(alloc: Global, world: &World, least: Least) -> Result<String, AllocError> {
-    let mut out = String::new(alloc);
-    put_least(&mut out, world, least)?;
-    Ok(out)
-}
-
-fn put_least(out: &mut String, world: &World, least: Least) -> Result<(), AllocError> {
+fn put_least(world: &World, least: Least, out: &mut Answer) {
     match least {
-        Least::None => out.push_str("none"),
+        Least::None => out.put("none"),
         Least::One(id) => {
-            out.push_str("one ")?;
-            put_id(out, world, id)
+            out.put("one ");
+            put_id(world, id, out);
         }
         Least::Many(a, b) => {
-            out.push_str("many ")?;
-            put_id(out, world, a)?;
-            out.push_str(" ")?;
-            put_id(out, world, b)
+            out.put("many ");
+            put_id(world, a, out);
+            out.put(" ");
+            put_id(world, b, out);
         }
     }
 }
 
-fn groups_text(alloc: Global, world: &World, asked: Question<'_>) -> Result<String, AllocError> {
+fn put_groups(alloc: Global, world: &World, call: &str, words: Words, out: &mut Answer) {
     match Groups::build(alloc, &world.program, &world.table) {
-        Err(ShareFault::Memory) => Err(AllocError),
-        Err(ShareFault::Refused(r)) => refusal_text(alloc, Some(&world.program), &r),
-        Ok(groups) => of_groups(alloc, world, &groups, asked),
+        Err(ShareFault::Memory) => out.fail(),
+        Err(ShareFault::Refused(r)) => put_refusal(alloc, out, &world.program, &r),
+        Ok(groups) => of_groups(world, &groups, call, words, out),
     }
 }
 
-fn of_groups(
-    alloc: Global,
-    world: &World,
-    groups: &Groups,
-    asked: Question<'_>,
-) -> Result<String, AllocError> {
-    let (first, second) = split(asked.rest);
-    let a = number_of(alloc, world, first)?;
-    let b = number_of(alloc, world, second)?;
-    match asked.call {
-        "related" => said(alloc, groups.related(a, b)),
-        "counterpart" => match groups.counterpart(a, b) {
-            None => String::from_str(alloc, "none"),
-            Some(id) => id_text(alloc, world, id),
-        },
-        _ => String::from_str(alloc, "Ok"),
+fn of_groups(world: &World, groups: &Groups, call: &str, words: Words, out: &mut Answer) {
+    match call {
+        "related" => out.say(groups.related(words.first, words.second)),
+        "counterpart" => put_partner(world, groups.counterpart(words.first, words.second), out),
+        _ => out.put("Ok"),
+    }
+}
+
+fn put_partner(world: &World, partner: Option<ClassId>, out: &mut Answer) {
+    match partner {
+        None => out.put("none"),
+        Some(id) => put_id(world, id, out),
     }
 }

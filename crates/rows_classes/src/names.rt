@@ -4,70 +4,59 @@ ghost use Rattle.std.specs.Prelude.{◌<◌, vec_len};
 
 use crate::reading::{Question, read_name, split};
 use crate::setting::{Setting, newest, spot_of};
-use crate::shown::{atom_text, name_of, names_text, refusal_text, some, type_text};
+use crate::shown::{Answer, name_of, put_atom, put_names, put_refusal, put_type};
 use crate::tables::put_id;
 use crate::typing::typing_of;
 use crate::world::World;
 use jn_base::tree::{Program, Term, TypeTerm, ViewTerm};
-use jn_names::{NameFault, Role, Vars, field_types, resolve, resolve_type, resolve_view};
+use jn_names::{NameFault, Role, Spot, Vars, field_types, resolve, resolve_type, resolve_view};
 use jn_table::{FieldTy, FieldTypes, Table};
 use sqlite_items::Items;
-use std::alloc::{AllocError, Global};
+use std::alloc::Global;
 
 /// The answer to a question on names that needs no method:
 ///
 /// - `mask_names`: the mask names in the order of their numbers.
 /// - `field_types`: each declared field with its type, or the line of what is refused.
-pub fn answer(
-    alloc: Global,
-    world: &mut World,
-    asked: Question<'_>,
-) -> Result<Option<String>, AllocError> {
+pub fn answer(alloc: Global, world: &mut World, asked: Question<'_>, out: &mut Answer) -> bool {
     match asked.call {
-        "mask_names" => some(names_text(alloc, world.program.names.as_slice(), &world.masks)),
-        "field_types" => some(fields_text(alloc, world)),
-        _ => Ok(None),
+        "mask_names" => put_names(out, world.program.names.as_slice(), &world.masks),
+        "field_types" => put_types(alloc, world, out),
+        _ => return false,
     }
+    true
 }
 
-fn fields_text(alloc: Global, world: &mut World) -> Result<String, AllocError> {
+fn put_types(alloc: Global, world: &mut World, out: &mut Answer) {
     match field_types(alloc, &world.program, &mut world.table) {
-        Err(fault) => fault_text(alloc, &world.program, &fault),
-        Ok(types) => listed_fields(alloc, world, &types),
+        Err(fault) => put_fault(alloc, out, &world.program, &fault),
+        Ok(types) => put_fields(world, &types, out),
     }
 }
 
-fn listed_fields(alloc: Global, world: &World, types: &FieldTypes) -> Result<String, AllocError> {
-    let mut out = String::new(alloc);
+fn put_fields(world: &World, types: &FieldTypes, out: &mut Answer) {
     for one in &types.list {
         if !out.is_empty() {
-            out.push_str(", ")?;
+            out.put(", ");
         }
-        put_field(alloc, &mut out, world, one)?;
+        put_field(world, one, out);
     }
-    Ok(out)
 }
 
-fn put_field(
-    alloc: Global,
-    out: &mut String,
-    world: &World,
-    one: &FieldTy,
-) -> Result<(), AllocError> {
+fn put_field(world: &World, one: &FieldTy, out: &mut Answer) {
     let names = world.program.names.as_slice();
-    put_id(out, world, one.class)?;
-    out.push_str(".")?;
-    out.push_str(name_of(names, one.field))?;
-    out.push_str(": ")?;
-    let ty = type_text(alloc, names, &world.masks, &one.ty)?;
-    out.push_str(ty.as_str())
+    put_id(world, one.class, out);
+    out.put(".");
+    out.put(name_of(names, one.field));
+    out.put(": ");
+    put_type(out, names, &world.masks, &one.ty);
 }
 
-/// The line of what is refused of names.
-pub fn fault_text(alloc: Global, p: &Program, fault: &NameFault) -> Result<String, AllocError> {
+/// Puts the line of what is refused of names.
+pub fn put_fault(alloc: Global, out: &mut Answer, p: &Program, fault: &NameFault) {
     match fault {
-        NameFault::Memory => Err(AllocError),
-        NameFault::Refused(r) => refusal_text(alloc, Some(p), r),
+        NameFault::Memory => out.fail(),
+        NameFault::Refused(r) => put_refusal(alloc, out, p, r),
     }
 }
 
@@ -83,18 +72,20 @@ pub fn of_method(
     setting: &Setting<'_>,
     table: &mut Table,
     asked: Question<'_>,
-) -> Result<Option<String>, AllocError> {
+    out: &mut Answer,
+) -> bool {
     let (role, rest) = split(asked.rest);
     let role = match role_of(role) {
-        None => return Ok(None),
+        None => return false,
         Some(role) => role,
     };
     match asked.call {
-        "resolve" => some(of_variable(alloc, setting, table, role, rest, true)),
-        "resolve_type" => some(of_variable(alloc, setting, table, role, rest, false)),
-        "resolve_view" => some(of_constraint(alloc, setting, table, role, rest)),
-        _ => Ok(None),
+        "resolve" => of_variable(alloc, setting, table, role, rest, true, out),
+        "resolve_type" => of_variable(alloc, setting, table, role, rest, false, out),
+        "resolve_view" => of_constraint(alloc, setting, table, role, rest, out),
+        _ => return false,
     }
+    true
 }
 
 fn role_of(word: &str) -> Option<Role> {
@@ -117,12 +108,12 @@ fn of_variable(
     role: Role,
     word: &str,
     term_alone: bool,
-) -> Result<String, AllocError> {
+    out: &mut Answer,
+) {
     let name = read_name(setting.program.names.as_slice(), word);
-    let variables = setting.variables.as_slice();
-    match newest(variables, name) {
-        None => String::from_str(alloc, "there is no such variable"),
-        Some(at) => of_place(alloc, setting, table, role, at, term_alone),
+    match newest(setting.variables.as_slice(), name) {
+        None => out.put("there is no such variable"),
+        Some(at) => of_place(alloc, setting, table, role, at, term_alone, out),
     }
 }
 
@@ -133,13 +124,24 @@ fn of_place(
     role: Role,
     at: usize,
     term_alone: bool,
-) -> Result<String, AllocError>
+    out: &mut Answer,
+)
     requires { at < vec_len setting.now.variables }
 {
     let variables = setting.variables.as_slice();
-    let typing = typing_of(alloc, setting, table, &variables[..at])?;
-    let ty = variables[at].ty;
-    of_written(alloc, setting, table, role, &typing.vars, ty, term_alone)
+    match typing_of(alloc, setting, table, &variables[..at]) {
+        Err(_) => out.fail(),
+        Ok(typing) => of_written(
+            alloc,
+            setting,
+            table,
+            role,
+            &typing.vars,
+            variables[at].ty,
+            term_alone,
+            out,
+        ),
+    }
 }
 
 fn of_written(
@@ -150,10 +152,14 @@ fn of_written(
     vars: &Vars,
     ty: &TypeTerm,
     term_alone: bool,
-) -> Result<String, AllocError> {
-    match first_term(ty) {
-        Some(term) if term_alone => of_term(alloc, setting, table, role, vars, term),
-        _ => of_type(alloc, setting, table, role, vars, ty),
+    out: &mut Answer,
+) {
+    match spot_of(alloc, setting, role) {
+        Err(_) => out.fail(),
+        Ok(spot) => match first_term(ty) {
+            Some(term) if term_alone => of_term(alloc, setting, table, &spot, vars, term, out),
+            _ => of_type(alloc, setting, table, &spot, vars, ty, out),
+        },
     }
 }
 
@@ -161,14 +167,14 @@ fn of_term(
     alloc: Global,
     setting: &Setting<'_>,
     table: &mut Table,
-    role: Role,
+    spot: &Spot,
     vars: &Vars,
     term: &Term,
-) -> Result<String, AllocError> {
-    let spot = spot_of(alloc, setting, role)?;
-    match resolve(alloc, setting.program, table, &spot, vars, term) {
-        Err(fault) => fault_text(alloc, setting.program, &fault),
-        Ok(atom) => atom_text(alloc, setting.program.names.as_slice(), &atom),
+    out: &mut Answer,
+) {
+    match resolve(alloc, setting.program, table, spot, vars, term) {
+        Err(fault) => put_fault(alloc, out, setting.program, &fault),
+        Ok(atom) => put_atom(out, setting.program.names.as_slice(), &atom),
     }
 }
 
@@ -184,15 +190,15 @@ fn of_type(
     alloc: Global,
     setting: &Setting<'_>,
     table: &mut Table,
-    role: Role,
+    spot: &Spot,
     vars: &Vars,
     ty: &TypeTerm,
-) -> Result<String, AllocError> {
-    let spot = spot_of(alloc, setting, role)?;
+    out: &mut Answer,
+) {
     let p = setting.program;
-    match resolve_type(alloc, p, table, &spot, vars, setting.masks, ty) {
-        Err(fault) => fault_text(alloc, p, &fault),
-        Ok(ty) => type_text(alloc, p.names.as_slice(), setting.masks, &ty),
+    match resolve_type(alloc, p, table, spot, vars, setting.masks, ty) {
+        Err(fault) => put_fault(alloc, out, p, &fault),
+        Ok(ty) => put_type(out, p.names.as_slice(), setting.masks, &ty),
     }
 }
 
@@ -202,16 +208,31 @@ fn of_constraint(
     table: &mut Table,
     role: Role,
     side: &str,
-) -> Result<String, AllocError> {
+    out: &mut Answer,
+) {
     match setting.method.sharing.as_slice().first() {
-        None => String::from_str(alloc, "there is no constraint"),
+        None => out.put("there is no constraint"),
         Some(constraint) => {
             let view = match side {
                 "from" => &constraint.from,
                 _ => &constraint.to,
             };
-            of_view(alloc, setting, table, role, view)
+            of_side(alloc, setting, table, role, view, out)
         }
+    }
+}
+
+fn of_side(
+    alloc: Global,
+    setting: &Setting<'_>,
+    table: &mut Table,
+    role: Role,
+    view: &ViewTerm,
+    out: &mut Answer,
+) {
+    match spot_of(alloc, setting, role) {
+        Err(_) => out.fail(),
+        Ok(spot) => of_view(alloc, setting, table, &spot, view, out),
     }
 }
 
@@ -219,15 +240,15 @@ fn of_view(
     alloc: Global,
     setting: &Setting<'_>,
     table: &mut Table,
-    role: Role,
+    spot: &Spot,
     view: &ViewTerm,
-) -> Result<String, AllocError> {
-    let spot = spot_of(alloc, setting, role)?;
+    out: &mut Answer,
+) {
     let list = Items::new(alloc);
     let vars = Vars { list };
     let p = setting.program;
-    match resolve_view(alloc, p, table, &spot, &vars, setting.masks, view) {
-        Err(fault) => fault_text(alloc, p, &fault),
-        Ok(ty) => type_text(alloc, p.names.as_slice(), setting.masks, &ty),
+    match resolve_view(alloc, p, table, spot, &vars, setting.masks, view) {
+        Err(fault) => put_fault(alloc, out, p, &fault),
+        Ok(ty) => put_type(out, p.names.as_slice(), setting.masks, &ty),
     }
 }

@@ -1,7 +1,7 @@
 //! Questions on sets of masks.
 
 use crate::reading::{Question, read_number, read_numbers};
-use crate::shown::{said, some};
+use crate::shown::Answer;
 use jn_base::types::Masks;
 use jn_masks::{add, drop, has, join, within};
 use std::alloc::{AllocError, Global};
@@ -11,7 +11,7 @@ use std::alloc::{AllocError, Global};
 /// - `add {0}, 64`, `drop {0 64}, 64`, `join {0}, {64}`: the set.
 /// - `has {0}, 64`, `within {0}, {0 64}`: `yes` or `no`.
 /// - `words {0 64}`: the four words of the set.
-pub fn answer(alloc: Global, asked: Question<'_>) -> Result<Option<String>, AllocError> {
+pub fn answer(alloc: Global, asked: Question<'_>, out: &mut Answer) -> Result<bool, AllocError> {
     let (first, second) = match asked.rest.split_once(',') {
         None => (asked.rest, ""),
         Some(pair) => pair,
@@ -20,19 +20,20 @@ pub fn answer(alloc: Global, asked: Question<'_>) -> Result<Option<String>, Allo
     let b = read_set(alloc, second)?;
     let mask = mask_of(second);
     match asked.call {
-        "add" => some(set_text(alloc, add(a, mask))),
-        "drop" => some(set_text(alloc, drop(a, mask))),
-        "has" => some(said(alloc, has(a, mask))),
-        "join" => some(set_text(alloc, join(a, b))),
-        "within" => some(said(alloc, within(a, b))),
-        "words" => some(words_text(alloc, a)),
-        _ => Ok(None),
+        "add" => put_set(out, add(a, mask)),
+        "drop" => put_set(out, drop(a, mask)),
+        "has" => out.say(has(a, mask)),
+        "join" => put_set(out, join(a, b)),
+        "within" => out.say(within(a, b)),
+        "words" => put_words(alloc, out, a),
+        _ => return Ok(false),
     }
+    Ok(true)
 }
 
-fn words_text(alloc: Global, set: Masks) -> Result<String, AllocError> {
+fn put_words(alloc: Global, out: &mut Answer, set: Masks) {
     let words = set.0;
-    format!(in alloc; "{words:?}")
+    out.put_made(format!(in alloc; "{words:?}"));
 }
 
 /// A mask's number, 255 for each that is greater.
@@ -55,15 +56,15 @@ fn read_set(alloc: Global, text: &str) -> Result<Masks, AllocError> {
     Ok(set)
 }
 
-fn set_text(alloc: Global, set: Masks) -> Result<String, AllocError> {
-    let mut out = String::from_str(alloc, "{")?;
+fn put_set(out: &mut Answer, set: Masks) {
+    out.put("{");
     let mut before = "";
     for i in 0..=255u8 {
         if has(set, i) {
-            out.push_str(format!(in alloc; "{before}{i}")?.as_str())?;
+            out.put(before);
+            out.put_number(i as usize);
             before = " ";
         }
     }
-    out.push_str("}")?;
-    Ok(out)
+    out.put("}");
 }

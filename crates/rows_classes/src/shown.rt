@@ -1,4 +1,4 @@
-//! How names, paths, types and refusals are written in answers.
+//! How answers are written: words, numbers, names, paths, types and refusals.
 
 use jn_base::refusal::Refusal;
 use jn_base::tree::{Name, Program, Text};
@@ -6,6 +6,74 @@ use jn_base::types::{Anchor, Atom, Masks, Ty};
 use jn_masks::has;
 use jn_words::refusal_line;
 use std::alloc::{AllocError, Global};
+
+/// An answer that is being written. Where memory is wanting it takes no more for good, and its end says so.
+#[derive(Drop)]
+pub struct Answer {
+    alloc: Global,
+    text: String,
+    wanting: bool,
+}
+
+impl Answer {
+    /// No text yet.
+    pub fn new(alloc: Global) -> Answer {
+        Answer {
+            alloc,
+            text: String::new(alloc),
+            wanting: false,
+        }
+    }
+
+    /// Puts a text behind what is there.
+    pub fn put(&mut self, text: &str) {
+        if self.text.push_str(text).is_err() {
+            self.wanting = true;
+        }
+    }
+
+    /// Puts a text that was to be made.
+    pub fn put_made(&mut self, made: Result<String, AllocError>) {
+        match made {
+            Ok(text) => self.put(text.as_str()),
+            Err(_) => self.fail(),
+        }
+    }
+
+    /// Puts a number.
+    pub fn put_number(&mut self, number: usize) {
+        let made = format!(in self.alloc; "{number}");
+        self.put_made(made);
+    }
+
+    /// Puts `yes` or `no`.
+    pub fn say(&mut self, so: bool) {
+        self.put(word_of(so));
+    }
+
+    /// Says that memory was wanting.
+    pub fn fail(&mut self) {
+        self.wanting = true;
+    }
+
+    /// Whether there is no text yet.
+    pub fn is_empty(&self) -> bool {
+        self.text.is_empty()
+    }
+
+    /// The text, unless memory was wanting.
+    pub fn end(self) -> Result<String, AllocError> {
+        if self.wanting {
+            return Err(AllocError);
+        }
+        Ok(self.text)
+    }
+}
+
+/// `yes` or `no`.
+fn word_of(so: bool) -> &'static str {
+    if so { "yes" } else { "no" }
+}
 
 /// A name as the source has it, or `?` where the program has no such name.
 pub fn name_of(names: &[Text], name: Name) -> &str {
@@ -19,146 +87,104 @@ pub fn name_of(names: &[Text], name: Name) -> &str {
 }
 
 /// Puts names with a dot between them, and one before the first where there is something to part from.
-pub fn put_dotted(
-    out: &mut String,
-    names: &[Text],
-    path: &[Name],
-    follows: bool,
-) -> Result<(), AllocError> {
+fn put_dotted(out: &mut Answer, names: &[Text], path: &[Name], follows: bool) {
     let mut follows = follows;
     for name in path {
         if follows {
-            out.push_str(".")?;
+            out.put(".");
         }
-        out.push_str(name_of(names, *name))?;
+        out.put(name_of(names, *name));
         follows = true;
     }
-    Ok(())
 }
 
-/// A path with dots, as `a.C`; the program itself is a lone dot.
-pub fn path_text(alloc: Global, names: &[Text], path: &[Name]) -> Result<String, AllocError> {
-    let mut out = String::new(alloc);
-    put_path(&mut out, names, path)?;
-    Ok(out)
-}
-
-/// Puts a path with dots.
-pub fn put_path(out: &mut String, names: &[Text], path: &[Name]) -> Result<(), AllocError> {
+/// Puts a path with dots, as `a.C`; the program itself is a lone dot.
+pub fn put_path(out: &mut Answer, names: &[Text], path: &[Name]) {
     if path.is_empty() {
-        return out.push_str(".");
+        return out.put(".");
     }
     put_dotted(out, names, path, false)
 }
 
-/// Names in square brackets, as `[f g]`.
-pub fn names_text(alloc: Global, names: &[Text], list: &[Name]) -> Result<String, AllocError> {
-    let mut out = String::new(alloc);
-    put_names(&mut out, names, list)?;
-    Ok(out)
-}
-
-/// Puts names in square brackets.
-pub fn put_names(out: &mut String, names: &[Text], list: &[Name]) -> Result<(), AllocError> {
-    out.push_str("[")?;
+/// Puts names in square brackets, as `[f g]`.
+pub fn put_names(out: &mut Answer, names: &[Text], list: &[Name]) {
+    out.put("[");
     let mut follows = false;
     for name in list {
         if follows {
-            out.push_str(" ")?;
+            out.put(" ");
         }
-        out.push_str(name_of(names, *name))?;
+        out.put(name_of(names, *name));
         follows = true;
     }
-    out.push_str("]")
+    out.put("]");
 }
 
-/// An atom: its anchor, unless that is the root, and its names, with `!` behind the last exact one.
-fn put_atom(alloc: Global, out: &mut String, names: &[Text], x: &Atom) -> Result<(), AllocError> {
-    let anchored = put_anchor(alloc, out, x.anchor)?;
-    put_dotted(out, names, x.exact.as_slice(), anchored)?;
+/// Puts an atom: its anchor, unless that is the root, and its names, with `!` behind the last exact one.
+pub fn put_atom(out: &mut Answer, names: &[Text], x: &Atom) {
+    let anchored = put_anchor(out, x.anchor);
+    put_dotted(out, names, x.exact.as_slice(), anchored);
     if x.exact.is_empty() {
         return put_dotted(out, names, x.names.as_slice(), anchored);
     }
-    out.push_str("!")?;
+    out.put("!");
     put_dotted(out, names, x.names.as_slice(), true)
 }
 
 /// Puts an anchor, and tells whether it is another than the root.
-fn put_anchor(alloc: Global, out: &mut String, anchor: Anchor) -> Result<bool, AllocError> {
+fn put_anchor(out: &mut Answer, anchor: Anchor) -> bool {
     match anchor {
-        Anchor::Root => Ok(false),
+        Anchor::Root => false,
         Anchor::Up(path, k) => {
-            out.push_str(format!(in alloc; "Up({path}, {k})")?.as_str())?;
-            Ok(true)
+            out.put("Up(");
+            out.put_number(path as usize);
+            out.put(", ");
+            out.put_number(k as usize);
+            out.put(")");
+            true
         }
     }
 }
 
-/// An atom alone.
-pub fn atom_text(alloc: Global, names: &[Text], x: &Atom) -> Result<String, AllocError> {
-    let mut out = String::new(alloc);
-    put_atom(alloc, &mut out, names, x)?;
-    Ok(out)
-}
-
-fn put_atoms(
-    alloc: Global,
-    out: &mut String,
-    names: &[Text],
-    xs: &[Atom],
-) -> Result<(), AllocError> {
+fn put_atoms(out: &mut Answer, names: &[Text], xs: &[Atom]) {
     let mut follows = false;
     for x in xs {
         if follows {
-            out.push_str(" & ")?;
+            out.put(" & ");
         }
-        put_atom(alloc, out, names, x)?;
+        put_atom(out, names, x);
         follows = true;
     }
-    Ok(())
 }
 
-fn put_masks(out: &mut String, names: &[Text], masks: &[Name], m: Masks) -> Result<(), AllocError> {
+fn put_masks(out: &mut Answer, names: &[Text], masks: &[Name], m: Masks) {
     let mut number = 0u8;
     for name in masks {
         if has(m, number) {
-            out.push_str("\\")?;
-            out.push_str(name_of(names, *name))?;
+            out.put("\\");
+            out.put(name_of(names, *name));
         }
         number = number.saturating_add(1);
     }
-    Ok(())
 }
 
-/// A type: its atoms with `&` between them, and its masks by the numbers that the program gives them.
-pub fn type_text(
-    alloc: Global,
-    names: &[Text],
-    masks: &[Name],
-    ty: &Ty,
-) -> Result<String, AllocError> {
-    let mut out = String::new(alloc);
-    put_type(alloc, &mut out, names, masks, ty)?;
-    Ok(out)
-}
-
-fn put_type(
-    alloc: Global,
-    out: &mut String,
-    names: &[Text],
-    masks: &[Name],
-    ty: &Ty,
-) -> Result<(), AllocError> {
+/// Puts a type: its atoms with `&` between them, and its masks by the numbers that the program gives them.
+pub fn put_type(out: &mut Answer, names: &[Text], masks: &[Name], ty: &Ty) {
     match ty {
-        Ty::Int => out.push_str("int"),
-        Ty::Bool => out.push_str("boolean"),
-        Ty::Null => out.push_str("null"),
-        Ty::Void => out.push_str("void"),
+        Ty::Int => out.put("int"),
+        Ty::Bool => out.put("boolean"),
+        Ty::Null => out.put("null"),
+        Ty::Void => out.put("void"),
         Ty::Class(atoms, m) => {
-            put_atoms(alloc, out, names, atoms.as_slice())?;
-            put_masks(out, names, masks, *m)
+            put_atoms(out, names, atoms.as_slice());
+            put_masks(out, names, masks, *m);
         }
     }
+}
+
+/// Puts the line of a refusal, without its line feed.
+pub fn put_refusal(alloc: Global, out: &mut Answer, p: &Program, r: &Refusal) {
+    out.put_made(refusal_text(alloc, Some(p), r));
 }
 
 /// The line of a refusal, without its line feed.
@@ -168,19 +194,4 @@ pub fn refusal_text(alloc: Global, p: Option<&Program>, r: &Refusal) -> Result<S
         Ok(line) => String::from_str(alloc, line.trim_end()),
         Err(_) => String::from_str(alloc, "no line"),
     }
-}
-
-/// `yes` or `no`.
-pub fn word_of(so: bool) -> &'static str {
-    if so { "yes" } else { "no" }
-}
-
-/// `yes` or `no`.
-pub fn said(alloc: Global, so: bool) -> Result<String, AllocError> {
-    String::from_str(alloc, word_of(so))
-}
-
-/// The answer that a text is.
-pub fn some(text: Result<String, AllocError>) -> Result<Option<String>, AllocError> {
-    Ok(Some(text?))
 }

@@ -1,26 +1,26 @@
 //! Questions on slots, and on what sharing grants.
 
-use crate::members::number_of;
-use crate::names::fault_text;
-use crate::reading::{Question, read_name, split};
+use crate::members::{Words, words_of};
+use crate::names::put_fault;
+use crate::reading::{Question, split};
 use crate::setting::Setting;
-use crate::shown::{name_of, put_path, refusal_text, said, some};
-use crate::types::{Wanted, type_of};
+use crate::shown::{Answer, name_of, put_path, put_refusal};
+use crate::types::type_of;
 use crate::typing::typing_of;
 use crate::world::{World, path_at};
 use jn_base::tree::{Name, Program};
-use jn_base::types::{Atom, Masks, Ty};
-use jn_names::field_types;
+use jn_base::types::Ty;
+use jn_names::{Vars, field_types};
 use jn_share::{Groups, ShareFault, Slots};
 use jn_table::{ClassId, FieldTypes, Table};
 use jn_views::{Held, holds};
 use std::alloc::{AllocError, Global};
 
-/// The groups and slots of a program, or the line of what is refused.
+/// The groups and slots of a program.
 #[derive(Drop)]
-enum Shared {
-    Slots(Groups, Slots),
-    Refused(String),
+struct Shared {
+    groups: Groups,
+    slots: Slots,
 }
 
 /// The answer to a question on slots:
@@ -33,13 +33,90 @@ pub fn answer(
     alloc: Global,
     world: &mut World,
     asked: Question<'_>,
-) -> Result<Option<String>, AllocError> {
+    out: &mut Answer,
+) -> Result<bool, AllocError> {
+    let words = words_of(alloc, world, asked.rest)?;
     match asked.call {
-        "slots" => some(slots_text(alloc, world, asked)),
-        "slot" => some(slots_text(alloc, world, asked)),
-        "size" => some(slots_text(alloc, world, asked)),
-        "hangs" => some(slots_text(alloc, world, asked)),
-        _ => Ok(None),
+        "slots" => of_world(alloc, world, asked.call, words, out),
+        "slot" => of_world(alloc, world, asked.call, words, out),
+        "size" => of_world(alloc, world, asked.call, words, out),
+        "hangs" => of_world(alloc, world, asked.call, words, out),
+        _ => return Ok(false),
+    }
+    Ok(true)
+}
+
+fn of_world(alloc: Global, world: &mut World, call: &str, words: Words, out: &mut Answer) {
+    match shared_of(alloc, &world.program, &mut world.table, out) {
+        None => {}
+        Some(shared) => of_slots(&shared.slots, call, words, out),
+    }
+}
+
+fn of_slots(slots: &Slots, call: &str, words: Words, out: &mut Answer) {
+    match call {
+        "slot" => put_slot(slots.slot(words.first, words.name), out),
+        "size" => out.put_number(slots.size(words.first) as usize),
+        "hangs" => out.say(slots.hangs(words.first, words.name)),
+        _ => out.put("Ok"),
+    }
+}
+
+fn put_slot(slot: Option<u8>, out: &mut Answer) {
+    match slot {
+        None => out.put("none"),
+        Some(slot) => out.put_number(slot as usize),
+    }
+}
+
+/// The groups and slots of a program; where they are refused the line is put, and there are none.
+fn shared_of(alloc: Global, p: &Program, table: &mut Table, out: &mut Answer) -> Option<Shared> {
+    match field_types(alloc, p, table) {
+        Err(fault) => {
+            put_fault(alloc, out, p, &fault);
+            None
+        }
+        Ok(types) => of_types(alloc, p, table, &types, out),
+    }
+}
+
+fn of_types(
+    alloc: Global,
+    p: &Program,
+    table: &Table,
+    types: &FieldTypes,
+    out: &mut Answer,
+) -> Option<Shared> {
+    match Groups::build(alloc, p, table) {
+        Err(fault) => {
+            put_share_fault(alloc, out, p, &fault);
+            None
+        }
+        Ok(groups) => of_groups(alloc, p, table, types, groups, out),
+    }
+}
+
+fn of_groups(
+    alloc: Global,
+    p: &Program,
+    table: &Table,
+    types: &FieldTypes,
+    groups: Groups,
+    out: &mut Answer,
+) -> Option<Shared> {
+    match Slots::build(alloc, table, &groups, types) {
+        Err(fault) => {
+            put_share_fault(alloc, out, p, &fault);
+            None
+        }
+        Ok(slots) => Some(Shared { groups, slots }),
+    }
+}
+
+fn put_share_fault(alloc: Global, out: &mut Answer, p: &Program, fault: &ShareFault) {
+    match fault {
+        ShareFault::Memory => out.fail(),
+        ShareFault::Refused(r) => put_refusal(alloc, out, p, r),
     }
 }
 
@@ -52,176 +129,115 @@ pub fn of_method(
     setting: &Setting<'_>,
     table: &mut Table,
     asked: Question<'_>,
-) -> Result<Option<String>, AllocError> {
-    match asked.call {
-        "holds" => some(holds_text(alloc, setting, table, asked.rest)),
-        _ => Ok(None),
+    out: &mut Answer,
+) -> bool {
+    if asked.call != "holds" {
+        return false;
     }
-}
-
-fn slots_text(alloc: Global, world: &mut World, asked: Question<'_>) -> Result<String, AllocError> {
-    match shared_of(alloc, &world.program, &mut world.table)? {
-        Shared::Refused(text) => Ok(text),
-        Shared::Slots(_, slots) => of_slots(alloc, world, &slots, asked),
+    match typing_of(alloc, setting, table, setting.variables.as_slice()) {
+        Err(_) => out.fail(),
+        Ok(typing) => of_words(alloc, setting, table, &typing.vars, asked.rest, out),
     }
+    true
 }
 
-/// The groups and slots of a program.
-fn shared_of(alloc: Global, p: &Program, table: &mut Table) -> Result<Shared, AllocError> {
-    match field_types(alloc, p, table) {
-        Err(fault) => refused(fault_text(alloc, p, &fault)),
-        Ok(types) => of_types(alloc, p, table, &types),
-    }
-}
-
-fn refused(text: Result<String, AllocError>) -> Result<Shared, AllocError> {
-    Ok(Shared::Refused(text?))
-}
-
-fn of_types(
-    alloc: Global,
-    p: &Program,
-    table: &Table,
-    types: &FieldTypes,
-) -> Result<Shared, AllocError> {
-    match Groups::build(alloc, p, table) {
-        Err(fault) => refused(share_text(alloc, p, &fault)),
-        Ok(groups) => of_built(alloc, p, table, types, groups),
-    }
-}
-
-fn of_built(
-    alloc: Global,
-    p: &Program,
-    table: &Table,
-    types: &FieldTypes,
-    groups: Groups,
-) -> Result<Shared, AllocError> {
-    match Slots::build(alloc, table, &groups, types) {
-        Err(fault) => refused(share_text(alloc, p, &fault)),
-        Ok(slots) => Ok(Shared::Slots(groups, slots)),
-    }
-}
-
-fn share_text(alloc: Global, p: &Program, fault: &ShareFault) -> Result<String, AllocError> {
-    match fault {
-        ShareFault::Memory => Err(AllocError),
-        ShareFault::Refused(r) => refusal_text(alloc, Some(p), r),
-    }
-}
-
-fn of_slots(
-    alloc: Global,
-    world: &World,
-    slots: &Slots,
-    asked: Question<'_>,
-) -> Result<String, AllocError> {
-    let (path, field) = split(asked.rest);
-    let class = number_of(alloc, world, path)?;
-    let field = read_name(world.program.names.as_slice(), field);
-    match asked.call {
-        "slot" => slot_text(alloc, slots.slot(class, field)),
-        "size" => number_text(alloc, slots.size(class)),
-        "hangs" => said(alloc, slots.hangs(class, field)),
-        _ => String::from_str(alloc, "Ok"),
-    }
-}
-
-fn slot_text(alloc: Global, slot: Option<u8>) -> Result<String, AllocError> {
-    match slot {
-        None => String::from_str(alloc, "none"),
-        Some(slot) => format!(in alloc; "{slot}"),
-    }
-}
-
-fn number_text(alloc: Global, number: u16) -> Result<String, AllocError> {
-    format!(in alloc; "{number}")
-}
-
-fn holds_text(
+fn of_words(
     alloc: Global,
     setting: &Setting<'_>,
     table: &mut Table,
+    vars: &Vars,
     text: &str,
-) -> Result<String, AllocError> {
+    out: &mut Answer,
+) {
     let (first, second) = split(text);
-    let typing = typing_of(alloc, setting, table, setting.variables.as_slice())?;
-    match type_of(alloc, setting, table, &typing.vars, first)? {
-        Wanted::None(text) => Ok(text),
-        Wanted::Type(from) => {
-            let to = type_of(alloc, setting, table, &typing.vars, second)?;
-            to_text(alloc, setting, table, &from, &to)
-        }
-    }
-}
-
-fn to_text(
-    alloc: Global,
-    setting: &Setting<'_>,
-    table: &mut Table,
-    from: &Ty,
-    to: &Wanted,
-) -> Result<String, AllocError> {
-    match to {
-        Wanted::None(text) => String::from_str(alloc, text.as_str()),
-        Wanted::Type(Ty::Class(atoms, m)) => match atoms.as_slice().first() {
-            None => String::from_str(alloc, "there is no atom"),
-            Some(atom) => held_text(alloc, setting, table, from, atom, *m),
+    match type_of(alloc, setting, table, vars, first, out) {
+        None => {}
+        Some(from) => match type_of(alloc, setting, table, vars, second, out) {
+            None => {}
+            Some(to) => of_sides(alloc, setting, table, &from, &to, out),
         },
-        Wanted::Type(_) => String::from_str(alloc, "there is no atom"),
     }
 }
 
-fn held_text(
+fn of_sides(
     alloc: Global,
     setting: &Setting<'_>,
     table: &mut Table,
     from: &Ty,
-    to: &Atom,
-    m: Masks,
-) -> Result<String, AllocError> {
-    match shared_of(alloc, setting.program, table)? {
-        Shared::Refused(text) => Ok(text),
-        Shared::Slots(groups, slots) => {
-            let held = holds(table, &groups, &slots, from, to, m, setting.masks);
-            shown(alloc, setting.program, table, held)
-        }
+    to: &Ty,
+    out: &mut Answer,
+) {
+    match shared_of(alloc, setting.program, table, out) {
+        None => {}
+        Some(shared) => put_told(setting, table, &shared, from, to, out),
     }
 }
 
-fn shown(alloc: Global, p: &Program, table: &Table, held: Held) -> Result<String, AllocError> {
-    match held {
-        Held::Yes => String::from_str(alloc, "Yes"),
-        Held::NoCounterpart(class) => told(alloc, p, table, "NoCounterpart ", class, None),
-        Held::Unshared(class, field) => told(alloc, p, table, "Unshared ", class, Some(field)),
-    }
-}
-
-fn told(
-    alloc: Global,
-    p: &Program,
+fn put_told(
+    setting: &Setting<'_>,
     table: &Table,
-    word: &str,
+    shared: &Shared,
+    from: &Ty,
+    to: &Ty,
+    out: &mut Answer,
+) {
+    match held_of(setting, table, shared, from, to) {
+        None => out.put("there is no atom"),
+        Some(Held::Yes) => out.put("Yes"),
+        Some(Held::NoCounterpart(class)) => put_refuted(setting, table, class, None, out),
+        Some(Held::Unshared(class, field)) => put_refuted(setting, table, class, Some(field), out),
+    }
+}
+
+/// Whether the constraint to the first atom of the second type holds; nothing where it has none.
+fn held_of(
+    setting: &Setting<'_>,
+    table: &Table,
+    shared: &Shared,
+    from: &Ty,
+    to: &Ty,
+) -> Option<Held> {
+    match to {
+        Ty::Class(atoms, m) => {
+            let atom = atoms.as_slice().first()?;
+            Some(holds(
+                table,
+                &shared.groups,
+                &shared.slots,
+                from,
+                atom,
+                *m,
+                setting.masks,
+            ))
+        }
+        _ => None,
+    }
+}
+
+fn put_refuted(
+    setting: &Setting<'_>,
+    table: &Table,
     class: ClassId,
     field: Option<Name>,
-) -> Result<String, AllocError> {
-    let mut out = String::from_str(alloc, word)?;
-    put_class(&mut out, p, table, class)?;
-    if let Some(field) = field {
-        out.push_str(" ")?;
-        out.push_str(name_of(p.names.as_slice(), field))?;
+    out: &mut Answer,
+) {
+    match field {
+        None => {
+            out.put("NoCounterpart ");
+            put_class(setting, table, class, out);
+        }
+        Some(field) => {
+            out.put("Unshared ");
+            put_class(setting, table, class, out);
+            out.put(" ");
+            out.put(name_of(setting.program.names.as_slice(), field));
+        }
     }
-    Ok(out)
 }
 
-fn put_class(
-    out: &mut String,
-    p: &Program,
-    table: &Table,
-    class: ClassId,
-) -> Result<(), AllocError> {
+fn put_class(setting: &Setting<'_>, table: &Table, class: ClassId, out: &mut Answer) {
     match path_at(table, class) {
-        None => out.push_str("none"),
-        Some(path) => put_path(out, p.names.as_slice(), path.names.as_slice()),
+        None => out.put("none"),
+        Some(path) => put_path(out, setting.program.names.as_slice(), path.names.as_slice()),
     }
 }

@@ -1,10 +1,10 @@
 //! Questions on the class table.
 
 use crate::reading::{Question, read_path, split};
-use crate::shown::{name_of, names_text, path_text, put_names, put_path, said, some};
+use crate::shown::{Answer, name_of, put_names, put_path};
 use crate::world::{World, path_at};
 use jn_base::path::Path;
-use jn_base::tree::Kind;
+use jn_base::tree::{Kind, Name};
 use jn_table::{ClassId, Row, RowMember, Table, TableFault};
 use std::alloc::{AllocError, Global};
 
@@ -20,157 +20,130 @@ pub fn answer(
     alloc: Global,
     world: &World,
     asked: Question<'_>,
-) -> Result<Option<String>, AllocError> {
-    match asked.call {
-        "ask_all" => some(filling(alloc, world)),
-        "known" => some(paths_text(alloc, world)),
-        "count" => some(count_text(alloc, world)),
-        "find" => some(number_text(alloc, world, asked.rest)),
-        "row" => some(row_text(alloc, world, asked.rest)),
-        "sup" => some(sup_text(alloc, world, asked.rest)),
-        "before" => some(before_text(alloc, world, asked.rest)),
-        "own_methods" => some(own_methods(alloc, world, asked.rest)),
-        "own_fields" => some(own_fields(alloc, world, asked.rest)),
-        _ => Ok(None),
+    out: &mut Answer,
+) -> Result<bool, AllocError> {
+    let names = world.program.names.as_slice();
+    let (first, second) = split(asked.rest);
+    let a = read_path(alloc, names, first)?;
+    let b = read_path(alloc, names, second)?;
+    Ok(of_paths(world, asked.call, &a, &b, out))
+}
+
+fn of_paths(world: &World, call: &str, a: &Path, b: &Path, out: &mut Answer) -> bool {
+    match call {
+        "ask_all" => put_filling(world, out),
+        "known" => put_known(world, out),
+        "count" => out.put_number(world.table.known().len()),
+        "find" => put_found(world, a, out),
+        "row" => put_row_of(world, a, out),
+        "sup" => put_whether(is_sup(&world.table, a, b), out),
+        "before" => put_whether(is_before(&world.table, a, b), out),
+        "own_methods" => put_own_methods(world, a, out),
+        "own_fields" => put_own_fields(world, a, out),
+        _ => return false,
+    }
+    true
+}
+
+fn put_filling(world: &World, out: &mut Answer) {
+    match &world.refused {
+        None => out.put("Ok"),
+        Some(TableFault::Memory) => out.put("Memory"),
+        Some(TableFault::NoClass(_)) => out.put("NoClass"),
+        Some(TableFault::TooMany(path)) => put_refused(world, "TooMany ", path, out),
+        Some(TableFault::Cycle(path)) => put_refused(world, "Cycle ", path, out),
+        Some(TableFault::Kind(path)) => put_refused(world, "Kind ", path, out),
     }
 }
 
-fn count_text(alloc: Global, world: &World) -> Result<String, AllocError> {
-    let count = world.table.known().len();
-    format!(in alloc; "{count}")
+fn put_refused(world: &World, word: &str, path: &Path, out: &mut Answer) {
+    out.put(word);
+    put_path(out, world.program.names.as_slice(), path.names.as_slice());
 }
 
-fn filling(alloc: Global, world: &World) -> Result<String, AllocError> {
-    let (word, path) = match &world.refused {
-        None => return String::from_str(alloc, "Ok"),
-        Some(TableFault::Memory) => return String::from_str(alloc, "Memory"),
-        Some(TableFault::NoClass(_)) => return String::from_str(alloc, "NoClass"),
-        Some(TableFault::TooMany(path)) => ("TooMany", path),
-        Some(TableFault::Cycle(path)) => ("Cycle", path),
-        Some(TableFault::Kind(path)) => ("Kind", path),
-    };
+fn put_known(world: &World, out: &mut Answer) {
     let names = world.program.names.as_slice();
-    let path = path_text(alloc, names, path.names.as_slice())?;
-    format!(in alloc; "{word} {path}")
-}
-
-fn paths_text(alloc: Global, world: &World) -> Result<String, AllocError> {
-    let names = world.program.names.as_slice();
-    let mut out = String::new(alloc);
     for path in world.table.known() {
         if !out.is_empty() {
-            out.push_str(" ")?;
+            out.put(" ");
         }
-        put_path(&mut out, names, path.names.as_slice())?;
-    }
-    Ok(out)
-}
-
-/// The path that a text is.
-fn path_in(alloc: Global, world: &World, text: &str) -> Result<Path, AllocError> {
-    read_path(alloc, world.program.names.as_slice(), text)
-}
-
-fn number_text(alloc: Global, world: &World, text: &str) -> Result<String, AllocError> {
-    let path = path_in(alloc, world, text)?;
-    match world.table.find(&path) {
-        None => String::from_str(alloc, "none"),
-        Some(id) => {
-            let number = id.0;
-            format!(in alloc; "{number}")
-        }
+        put_path(out, names, path.names.as_slice());
     }
 }
 
-fn sup_text(alloc: Global, world: &World, text: &str) -> Result<String, AllocError> {
-    let (first, second) = split(text);
-    let a = path_in(alloc, world, first)?;
-    let b = path_in(alloc, world, second)?;
-    match is_sup(&world.table, &a, &b) {
-        None => String::from_str(alloc, "none"),
-        Some(so) => said(alloc, so),
+fn put_found(world: &World, path: &Path, out: &mut Answer) {
+    match world.table.find(path) {
+        None => out.put("none"),
+        Some(id) => out.put_number(id.0 as usize),
+    }
+}
+
+/// Puts `yes` or `no`, or `none` where one of the paths has no number.
+fn put_whether(so: Option<bool>, out: &mut Answer) {
+    match so {
+        None => out.put("none"),
+        Some(so) => out.say(so),
     }
 }
 
 fn is_sup(table: &Table, a: &Path, b: &Path) -> Option<bool> {
-    match table.find(a) {
-        None => None,
-        Some(a) => match table.find(b) {
-            None => None,
-            Some(b) => Some(table.sup(a, b)),
-        },
-    }
-}
-
-fn before_text(alloc: Global, world: &World, text: &str) -> Result<String, AllocError> {
-    let (first, second) = split(text);
-    let a = path_in(alloc, world, first)?;
-    let b = path_in(alloc, world, second)?;
-    match is_before(&world.table, &a, &b) {
-        None => String::from_str(alloc, "none"),
-        Some(so) => said(alloc, so),
-    }
+    let a = table.find(a)?;
+    let b = table.find(b)?;
+    Some(table.sup(a, b))
 }
 
 fn is_before(table: &Table, a: &Path, b: &Path) -> Option<bool> {
-    match table.find(a) {
-        None => None,
-        Some(a) => match table.find(b) {
-            None => None,
-            Some(b) => Some(table.before(a, b)),
-        },
+    let a = table.find(a)?;
+    let b = table.find(b)?;
+    Some(table.before(a, b))
+}
+
+fn put_own_methods(world: &World, path: &Path, out: &mut Answer) {
+    match world.table.find(path) {
+        None => out.put("none"),
+        Some(id) => put_own(world, world.table.own_methods(id), out),
     }
 }
 
-fn own_methods(alloc: Global, world: &World, text: &str) -> Result<String, AllocError> {
-    let path = path_in(alloc, world, text)?;
-    match world.table.find(&path) {
-        None => String::from_str(alloc, "none"),
-        Some(id) => {
-            let names = world.table.own_methods(id)?;
-            names_text(alloc, world.program.names.as_slice(), &names)
-        }
+fn put_own_fields(world: &World, path: &Path, out: &mut Answer) {
+    match world.table.find(path) {
+        None => out.put("none"),
+        Some(id) => put_own(world, world.table.own_fields(id), out),
     }
 }
 
-fn own_fields(alloc: Global, world: &World, text: &str) -> Result<String, AllocError> {
-    let path = path_in(alloc, world, text)?;
-    match world.table.find(&path) {
-        None => String::from_str(alloc, "none"),
-        Some(id) => {
-            let names = world.table.own_fields(id)?;
-            names_text(alloc, world.program.names.as_slice(), &names)
-        }
+fn put_own(world: &World, own: Result<Vec<Name>, AllocError>, out: &mut Answer) {
+    match own {
+        Err(_) => out.fail(),
+        Ok(list) => put_names(out, world.program.names.as_slice(), &list),
     }
 }
 
-/// The row of a path: its kind, its namespace, its direct supers, its supers, its members, and the names of its
-/// methods and fields.
-fn row_text(alloc: Global, world: &World, text: &str) -> Result<String, AllocError> {
-    let path = path_in(alloc, world, text)?;
-    match world.table.find(&path) {
-        None => String::from_str(alloc, "none"),
-        Some(id) => shown_row(alloc, world, world.table.row(id)),
+fn put_row_of(world: &World, path: &Path, out: &mut Answer) {
+    match world.table.find(path) {
+        None => out.put("none"),
+        Some(id) => put_row(world, world.table.row(id), out),
     }
 }
 
-fn shown_row(alloc: Global, world: &World, row: &Row) -> Result<String, AllocError> {
+/// Puts a row: its kind, its namespace, its direct supers, its supers, its members, and the names of its methods and
+/// fields.
+fn put_row(world: &World, row: &Row, out: &mut Answer) {
     let names = world.program.names.as_slice();
-    let mut out = String::from_str(alloc, kind_word(row.kind))?;
-    put_path(&mut out, names, row.path.names.as_slice())?;
-    out.push_str(" in ")?;
-    put_up(&mut out, world, row.up)?;
-    out.push_str(", direct ")?;
-    put_ids(&mut out, world, &row.direct)?;
-    out.push_str(", sups ")?;
-    put_ids(&mut out, world, &row.sups)?;
-    out.push_str(", members ")?;
-    put_members(&mut out, world, &row.members)?;
-    out.push_str(", ")?;
-    put_names(&mut out, names, &row.methods)?;
-    out.push_str(" ")?;
-    put_names(&mut out, names, &row.fields)?;
-    Ok(out)
+    out.put(kind_word(row.kind));
+    put_path(out, names, row.path.names.as_slice());
+    out.put(" in ");
+    put_up(world, row.up, out);
+    out.put(", direct ");
+    put_ids(world, &row.direct, out);
+    out.put(", sups ");
+    put_ids(world, &row.sups, out);
+    out.put(", members ");
+    put_members(world, &row.members, out);
+    out.put(", ");
+    put_names(out, names, &row.methods);
+    out.put(" ");
+    put_names(out, names, &row.fields);
 }
 
 fn kind_word(kind: Kind) -> &'static str {
@@ -180,53 +153,46 @@ fn kind_word(kind: Kind) -> &'static str {
     }
 }
 
-fn put_up(out: &mut String, world: &World, up: Option<ClassId>) -> Result<(), AllocError> {
+fn put_up(world: &World, up: Option<ClassId>, out: &mut Answer) {
     match up {
-        None => out.push_str("nothing"),
-        Some(id) => put_id(out, world, id),
+        None => out.put("nothing"),
+        Some(id) => put_id(world, id, out),
     }
 }
 
 /// Puts the path of a number.
-pub fn put_id(out: &mut String, world: &World, id: ClassId) -> Result<(), AllocError> {
+pub fn put_id(world: &World, id: ClassId, out: &mut Answer) {
     match path_at(&world.table, id) {
-        None => out.push_str("none"),
+        None => out.put("none"),
         Some(path) => put_path(out, world.program.names.as_slice(), path.names.as_slice()),
     }
 }
 
-/// The path of a number.
-pub fn id_text(alloc: Global, world: &World, id: ClassId) -> Result<String, AllocError> {
-    let mut out = String::new(alloc);
-    put_id(&mut out, world, id)?;
-    Ok(out)
-}
-
-fn put_ids(out: &mut String, world: &World, ids: &[ClassId]) -> Result<(), AllocError> {
-    out.push_str("[")?;
+fn put_ids(world: &World, ids: &[ClassId], out: &mut Answer) {
+    out.put("[");
     let mut follows = false;
     for id in ids {
         if follows {
-            out.push_str(" ")?;
+            out.put(" ");
         }
-        put_id(out, world, *id)?;
+        put_id(world, *id, out);
         follows = true;
     }
-    out.push_str("]")
+    out.put("]");
 }
 
-fn put_members(out: &mut String, world: &World, members: &[RowMember]) -> Result<(), AllocError> {
+fn put_members(world: &World, members: &[RowMember], out: &mut Answer) {
     let names = world.program.names.as_slice();
-    out.push_str("[")?;
+    out.put("[");
     let mut follows = false;
     for member in members {
         if follows {
-            out.push_str(" ")?;
+            out.put(" ");
         }
-        out.push_str(name_of(names, member.name))?;
-        out.push_str("=")?;
-        put_id(out, world, member.id)?;
+        out.put(name_of(names, member.name));
+        out.put("=");
+        put_id(world, member.id, out);
         follows = true;
     }
-    out.push_str("]")
+    out.put("]");
 }

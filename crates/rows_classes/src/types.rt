@@ -1,13 +1,15 @@
 //! Questions on types in the scope of a method.
 
+ghost use Rattle.jn_intern.specs.Pools.{InPool};
+
 use crate::fits::{moved_fits, scope_fits, type_fits};
 use crate::reading::{Question, read_name, split};
 use crate::setting::{Setting, newest};
-use crate::shown::{refusal_text, said, some, type_text};
+use crate::shown::{Answer, put_refusal, put_type};
 use crate::typing::{Typed, Typing, path_of as path_of_name, read_type, typing_of};
 use jn_base::tree::{Ref, Text};
 use jn_base::types::Ty;
-use jn_intern::{Pool, Scope, copied_type};
+use jn_intern::{Pool, Scope, TyId, copied_type};
 use jn_names::Vars;
 use jn_normal::{normal, subst};
 use jn_subtype::Judge;
@@ -32,9 +34,15 @@ pub fn answer(
     setting: &Setting<'_>,
     table: &mut Table,
     asked: Question<'_>,
-) -> Result<Option<String>, AllocError> {
-    let mut typing = typing_of(alloc, setting, table, setting.variables.as_slice())?;
-    in_scope(alloc, setting, table, &mut typing, asked)
+    out: &mut Answer,
+) -> bool {
+    match typing_of(alloc, setting, table, setting.variables.as_slice()) {
+        Err(_) => {
+            out.fail();
+            true
+        }
+        Ok(mut typing) => in_scope(alloc, setting, table, &mut typing, asked, out),
+    }
 }
 
 fn in_scope(
@@ -43,36 +51,32 @@ fn in_scope(
     table: &mut Table,
     typing: &mut Typing,
     asked: Question<'_>,
-) -> Result<Option<String>, AllocError> {
+    out: &mut Answer,
+) -> bool {
     match asked.call {
-        "normal" => some(of_one(alloc, setting, table, typing, asked)),
-        "subst" => some(of_one(alloc, setting, table, typing, asked)),
-        "sub" => some(of_two(alloc, setting, table, typing, asked)),
-        "same" => some(of_two(alloc, setting, table, typing, asked)),
-        "intern" => some(interned(alloc, setting, table, &typing.vars, asked.rest)),
-        _ => Ok(None),
+        "normal" => of_one(alloc, setting, table, typing, asked, out),
+        "subst" => of_one(alloc, setting, table, typing, asked, out),
+        "sub" => of_two(alloc, setting, table, typing, asked, out),
+        "same" => of_two(alloc, setting, table, typing, asked, out),
+        "intern" => intern_all(alloc, setting, table, &typing.vars, asked.rest, out),
+        _ => return false,
     }
+    true
 }
 
-/// What comes of a word that stands for a type.
-#[derive(Drop)]
-pub enum Wanted {
-    Type(Ty),
-    None(String),
-}
-
-/// The type of a word, or why there is none.
+/// The type of a word; where there is none, it is put why.
 pub fn type_of(
     alloc: Global,
     setting: &Setting<'_>,
     table: &mut Table,
     vars: &Vars,
     word: &str,
-) -> Result<Wanted, AllocError> {
+    out: &mut Answer,
+) -> Option<Ty> {
     match word {
-        "null" => Ok(Wanted::Type(Ty::Null)),
-        "void" => Ok(Wanted::Type(Ty::Void)),
-        _ => type_of_variable(alloc, setting, table, vars, word),
+        "null" => Some(Ty::Null),
+        "void" => Some(Ty::Void),
+        _ => type_of_variable(alloc, setting, table, vars, word, out),
     }
 }
 
@@ -82,20 +86,27 @@ fn type_of_variable(
     table: &mut Table,
     vars: &Vars,
     word: &str,
-) -> Result<Wanted, AllocError> {
+    out: &mut Answer,
+) -> Option<Ty> {
     let name = read_name(setting.program.names.as_slice(), word);
     let variables = setting.variables.as_slice();
     match newest(variables, name) {
-        None => none(String::from_str(alloc, "there is no such variable")),
-        Some(at) => match read_type(alloc, setting, table, vars, variables[at].ty)? {
-            Typed::Type(ty) => Ok(Wanted::Type(ty)),
-            Typed::Refused(r) => none(refusal_text(alloc, Some(setting.program), &r)),
+        None => {
+            out.put("there is no such variable");
+            None
+        }
+        Some(at) => match read_type(alloc, setting, table, vars, variables[at].ty) {
+            Ok(Typed::Type(ty)) => Some(ty),
+            Ok(Typed::Refused(r)) => {
+                put_refusal(alloc, out, setting.program, &r);
+                None
+            }
+            Err(_) => {
+                out.fail();
+                None
+            }
         },
     }
-}
-
-fn none(text: Result<String, AllocError>) -> Result<Wanted, AllocError> {
-    Ok(Wanted::None(text?))
 }
 
 fn of_one(
@@ -104,11 +115,16 @@ fn of_one(
     table: &mut Table,
     typing: &mut Typing,
     asked: Question<'_>,
-) -> Result<String, AllocError> {
+    out: &mut Answer,
+) {
     let (word, rest) = split(asked.rest);
-    match type_of(alloc, setting, table, &typing.vars, word)? {
-        Wanted::None(text) => Ok(text),
-        Wanted::Type(ty) => formed(alloc, setting, typing, &ty, asked.call, rest),
+    match type_of(alloc, setting, table, &typing.vars, word, out) {
+        None => {}
+        Some(ty) => put_formed(
+            setting,
+            formed(alloc, setting, typing, &ty, asked.call, rest),
+            out,
+        ),
     }
 }
 
@@ -119,14 +135,20 @@ fn formed(
     ty: &Ty,
     call: &str,
     rest: &str,
-) -> Result<String, AllocError> {
-    let form = if call == "normal" {
-        normal_of(alloc, &mut typing.pool, &typing.scope, ty)?
-    } else {
-        let swaps = swaps_of(alloc, setting.program.names.as_slice(), &typing.vars, rest)?;
-        subst_of(alloc, &mut typing.pool, &typing.scope, ty, &swaps)?
-    };
-    formed_text(alloc, setting, &form)
+) -> Result<Option<Ty>, AllocError> {
+    if call == "normal" {
+        return normal_of(alloc, &mut typing.pool, &typing.scope, ty);
+    }
+    let swaps = swaps_of(alloc, setting.program.names.as_slice(), &typing.vars, rest)?;
+    subst_of(alloc, &mut typing.pool, &typing.scope, ty, &swaps)
+}
+
+fn put_formed(setting: &Setting<'_>, formed: Result<Option<Ty>, AllocError>, out: &mut Answer) {
+    match formed {
+        Err(_) => out.fail(),
+        Ok(None) => out.put(UNFIT),
+        Ok(Some(ty)) => put_type(out, setting.program.names.as_slice(), setting.masks, &ty),
+    }
 }
 
 /// Paths that are put in place of others.
@@ -137,18 +159,22 @@ struct Swaps {
 }
 
 fn swaps_of(alloc: Global, names: &[Text], vars: &Vars, text: &str) -> Result<Swaps, AllocError> {
-    let mut from = Vec::new(alloc);
-    let mut to = Vec::new(alloc);
+    let mut swaps = Swaps {
+        from: Vec::new(alloc),
+        to: Vec::new(alloc),
+    };
     for word in text.split_whitespace() {
-        match word.split_once("->") {
-            None => {}
-            Some((a, b)) => {
-                from.push(path_of(names, vars, a))?;
-                to.push(path_of(names, vars, b))?;
-            }
+        if let Some((a, b)) = word.split_once("->") {
+            add_swap(&mut swaps, path_of(names, vars, a), path_of(names, vars, b))?;
         }
     }
-    Ok(Swaps { from, to })
+    Ok(swaps)
+}
+
+fn add_swap(swaps: &mut Swaps, from: u32, to: u32) -> Result<(), AllocError> {
+    swaps.from.push(from)?;
+    swaps.to.push(to)?;
+    Ok(())
 }
 
 /// The number of a path, one that no scope has where there is no such variable in scope.
@@ -194,31 +220,29 @@ fn subst_of(
     Ok(Some(copied_type(alloc, pool.show(form))?))
 }
 
-fn formed_text(
-    alloc: Global,
-    setting: &Setting<'_>,
-    formed: &Option<Ty>,
-) -> Result<String, AllocError> {
-    match formed {
-        None => String::from_str(alloc, UNFIT),
-        Some(ty) => type_text(alloc, setting.program.names.as_slice(), setting.masks, ty),
-    }
-}
-
 fn of_two(
     alloc: Global,
     setting: &Setting<'_>,
     table: &mut Table,
     typing: &mut Typing,
     asked: Question<'_>,
-) -> Result<String, AllocError> {
+    out: &mut Answer,
+) {
     let (first, second) = split(asked.rest);
-    match type_of(alloc, setting, table, &typing.vars, first)? {
-        Wanted::None(text) => Ok(text),
-        Wanted::Type(s) => match type_of(alloc, setting, table, &typing.vars, second)? {
-            Wanted::None(text) => Ok(text),
-            Wanted::Type(t) => compared(alloc, table, typing, asked.call, &s, &t),
+    match type_of(alloc, setting, table, &typing.vars, first, out) {
+        None => {}
+        Some(s) => match type_of(alloc, setting, table, &typing.vars, second, out) {
+            None => {}
+            Some(t) => put_compared(compared(alloc, table, typing, asked.call, &s, &t), out),
         },
+    }
+}
+
+fn put_compared(told: Result<Option<bool>, AllocError>, out: &mut Answer) {
+    match told {
+        Err(_) => out.fail(),
+        Ok(None) => out.put(UNFIT),
+        Ok(Some(so)) => out.say(so),
     }
 }
 
@@ -229,21 +253,18 @@ fn compared(
     call: &str,
     s: &Ty,
     t: &Ty,
-) -> Result<String, AllocError> {
+) -> Result<Option<bool>, AllocError> {
     if call == "same" {
-        return said(alloc, is_same(alloc, s, t)?);
+        return is_same(alloc, s, t);
     }
-    match is_below(alloc, table, &mut typing.pool, &typing.scope, s, t)? {
-        None => String::from_str(alloc, UNFIT),
-        Some(so) => said(alloc, so),
-    }
+    is_below(alloc, table, &mut typing.pool, &typing.scope, s, t)
 }
 
-fn is_same(alloc: Global, s: &Ty, t: &Ty) -> Result<bool, AllocError> {
+fn is_same(alloc: Global, s: &Ty, t: &Ty) -> Result<Option<bool>, AllocError> {
     let mut pool = Pool::new(alloc)?;
     let a = pool.intern(s)?;
     let b = pool.intern(t)?;
-    Ok(pool.same(a, b))
+    Ok(Some(pool.same(a, b)))
 }
 
 /// What the judge answers; nothing where the scope or a type does not fit.
@@ -272,21 +293,24 @@ fn is_below(
     Ok(Some(is_below))
 }
 
-fn interned(
+fn intern_all(
     alloc: Global,
     setting: &Setting<'_>,
     table: &mut Table,
     vars: &Vars,
     words: &str,
-) -> Result<String, AllocError> {
-    let mut pool = Pool::new(alloc)?;
-    let mut out = String::new(alloc);
-    for word in words.split_whitespace() {
-        put_in(alloc, setting, table, vars, &mut pool, &mut out, word)?;
+    out: &mut Answer,
+) {
+    match Pool::new(alloc) {
+        Err(_) => out.fail(),
+        Ok(mut pool) => {
+            for word in words.split_whitespace() {
+                put_in(alloc, setting, table, vars, &mut pool, word, out);
+            }
+            out.put_number(pool.len() as usize);
+            out.put(" in all");
+        }
     }
-    let count = pool.len();
-    out.push_str(format!(in alloc; "{count} in all")?.as_str())?;
-    Ok(out)
 }
 
 /// Puts the type of a word into the pool, and tells its number and what the pool shows for that.
@@ -296,27 +320,28 @@ fn put_in(
     table: &mut Table,
     vars: &Vars,
     pool: &mut Pool,
-    out: &mut String,
     word: &str,
-) -> Result<(), AllocError> {
-    match type_of(alloc, setting, table, vars, word)? {
-        Wanted::None(text) => out.push_str(text.as_str()),
-        Wanted::Type(ty) => {
-            let text = text_in(alloc, setting, pool, &ty)?;
-            out.push_str(text.as_str())
-        }
+    out: &mut Answer,
+) {
+    match type_of(alloc, setting, table, vars, word, out) {
+        None => {}
+        Some(ty) => match pool.intern(&ty) {
+            Err(_) => out.fail(),
+            Ok(id) => put_kept(setting, pool, id, out),
+        },
     }
 }
 
-fn text_in(
-    alloc: Global,
-    setting: &Setting<'_>,
-    pool: &mut Pool,
-    ty: &Ty,
-) -> Result<String, AllocError> {
-    let id = pool.intern(ty)?;
-    let number = id.0;
-    let names = setting.program.names.as_slice();
-    let shown = type_text(alloc, names, setting.masks, pool.show(id))?;
-    format!(in alloc; "{number} {shown}, ")
+fn put_kept(setting: &Setting<'_>, pool: &Pool, id: TyId, out: &mut Answer)
+    requires { InPool pool.now id }
+{
+    out.put_number(id.0 as usize);
+    out.put(" ");
+    put_type(
+        out,
+        setting.program.names.as_slice(),
+        setting.masks,
+        pool.show(id),
+    );
+    out.put(", ");
 }

@@ -63,17 +63,27 @@ fn declare(
 
 /// The scope of `this` alone.
 fn of_this(alloc: Global, class: &Path) -> Result<Typing, AllocError> {
-    let this = type_of_this(alloc, class)?;
-    let mut pool = Pool::new(alloc)?;
-    let ty = pool.intern(&this)?;
-    let mut binds = Vec::new(alloc);
-    binds.push(Bind { path: 0, ty })?;
+    let mut typing = no_types(alloc)?;
+    bind_this(alloc, &mut typing, class)?;
+    Ok(typing)
+}
+
+fn no_types(alloc: Global) -> Result<Typing, AllocError> {
+    let pool = Pool::new(alloc)?;
+    let binds = Vec::new(alloc);
     let list = Items::new(alloc);
     Ok(Typing {
         pool,
         scope: Scope { binds },
         vars: Vars { list },
     })
+}
+
+fn bind_this(alloc: Global, typing: &mut Typing, class: &Path) -> Result<(), AllocError> {
+    let this = type_of_this(alloc, class)?;
+    let ty = typing.pool.intern(&this)?;
+    typing.scope.binds.push(Bind { path: 0, ty })?;
+    Ok(())
 }
 
 fn type_of_this(alloc: Global, class: &Path) -> Result<Ty, AllocError> {

@@ -33,7 +33,7 @@ pub fn made_of(alloc: Global, source: &[u8]) -> Result<Made, AllocError> {
         return refused(String::from_str(alloc, "it is too long"));
     }
     match parse(alloc, source) {
-        Ok(program) => world_made(world_of(alloc, program)),
+        Ok(program) => world_of(alloc, program),
         Err(ParseFault::Refused(r)) => refused(refusal_text(alloc, None, &r)),
         Err(ParseFault::Memory) => Err(AllocError),
     }
@@ -43,16 +43,31 @@ fn refused(text: Result<String, AllocError>) -> Result<Made, AllocError> {
     Ok(Made::Refused(text?))
 }
 
-fn world_made(world: Result<World, AllocError>) -> Result<Made, AllocError> {
-    Ok(Made::World(world?))
+/// What a program has beside itself: its table, what filling that refused, and its mask names.
+#[derive(Drop)]
+struct Parts {
+    table: Table,
+    refused: Option<TableFault>,
+    masks: Vec<Name>,
 }
 
-fn world_of(alloc: Global, program: Program) -> Result<World, AllocError> {
-    let masks = mask_names(alloc, &program)?;
-    let mut table = Table::new(alloc, &program)?;
+fn world_of(alloc: Global, program: Program) -> Result<Made, AllocError> {
+    match parts_of(alloc, &program) {
+        Err(fault) => Err(fault),
+        Ok(parts) => Ok(Made::World(World {
+            program,
+            table: parts.table,
+            refused: parts.refused,
+            masks: parts.masks,
+        })),
+    }
+}
+
+fn parts_of(alloc: Global, program: &Program) -> Result<Parts, AllocError> {
+    let masks = mask_names(alloc, program)?;
+    let mut table = Table::new(alloc, program)?;
     let refused = filled(&mut table)?;
-    Ok(World {
-        program,
+    Ok(Parts {
         table,
         refused,
         masks,

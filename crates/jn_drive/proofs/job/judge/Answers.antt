@@ -1,15 +1,14 @@
 use Rattle.std.proofs.Common.{subst, rules, None}
 use Rattle.jn_base.specs.declared.refusal.Refusal.{Refusal}
 use Rattle.jn_drive.specs.Answer.{IsRefusedBy}
-use Rattle.jn_drive.proofs.Judging.{spelled, fault_judged, long_judged}
-use Rattle.jn_base.proofs.SpelledNames.{spelled_is_named}
+use Rattle.jn_drive.proofs.Judging.{spelled, fault_judged, long_judged, within_limits}
 use Rattle.jn_drive.proofs.job.judge.Goals as goal
 
 pub returns-then-source-gt-LIMIT : goal.returns-then-source-gt-LIMIT
 returns-then-source-gt-LIMIT c = long_judged _ _ (search rules) c.refused.result (subst (λ (r : Refusal). IsRefusedBy None r c.refused.result) c.too_long.ensures c.refused.ensures)
 
 pub answer_tree-requires : goal.answer_tree-requires
-answer_tree-requires c = spelled_is_named _ _ c.in-Ok.ensures.found.spelled
+answer_tree-requires c = within_limits _ _ c.in-Ok.ensures.found
 
 pub returns-in-Ok : goal.returns-in-Ok
 returns-in-Ok c = spelled _ _ _ c.in-Ok.ensures.found (λ q is. c.in-Ok.ensures.only q is) _ c.answer_tree.ensures

@@ -1,0 +1,14 @@
+use Rattle.jn_rules.specs.Plans.{Nothing}
+use Rattle.jn_header.proofs.Judging.{slots_refused}
+use Rattle.jn_header.proofs.Limits.{limits_pass}
+use Rattle.jn_header.proofs.shared.slots_of.Goals as goal
+
+pub returns-in-Ok : goal.returns-in-Ok
+returns-in-Ok c =
+    let h = c.in-Ok.ensures.gives c.args.p.now c.requires.asked in
+    (limits_pass c.args.p.now c.requires.members h.0, h.1)
+
+pub returns-in-Err : goal.returns-in-Err
+returns-in-Err c =
+    slots_refused c.args.p.now (λ (u : Nothing). Nothing) c.args.t.now.known.items c.requires.members c.in-Err.fault c.of_share.result c.of_share.ensures
+    (c.in-Err.ensures.gives c.args.p.now c.requires.asked)
