@@ -29,9 +29,6 @@ use Rattle.jn_rules.specs.Headers.{Header, header_typed, constraint_asked, metho
 use Rattle.jn_rules.specs.Forms.{member_headers, headers_in}
 use Rattle.jn_rules.proofs.PlanLaws.{then_gives, then_refuses}
 use Rattle.jn_rules.proofs.FormLaws.{decl_forms}
-use Rattle.jn_rule_laws.proofs.Replies.{one_outcome}
-use Rattle.jn_base.specs.ProgramNames.{IsNamed}
-use Rattle.jn_base.specs.TableRules.{DeclarationsPass}
 use Rattle.jn_heads.specs.declared.fault.CheckFault.{CheckFault}
 use Rattle.jn_heads.specs.declared.fault.CheckFault.TheVariants.{Refused, Memory}
 use Rattle.jn_heads.specs.declared.sides.Pledge.{Pledge}
@@ -129,9 +126,3 @@ pub plan_told : (p : Program) (P : Path) (ds : List Decl) (r : Result Nothing Ch
 plan_told p P ds r e i g =
     subst (λ (xs : List (Plan Nothing)). Told (Gives p (in_turn xs)) itself r)
     (ap (λ (S : Path). map (headers_in_space S) ds) e ∙ (ap (map (headers_in_space [])) i ∙ map_decls p.decls)) g
-
-pub only_told : (p : Program) (r : Result Nothing CheckFault) → IsNamed p → Told (Gives p (header_plan p)) itself r → DeclarationsPass p
-    → (o : Result Nothing Refusal) → Gives p (header_plan p) o → Told (λ (a : Result Nothing Refusal). a ≡ o) itself r
-only_told p (Ok u) named g ok o h = (one_outcome p ok named (header_plan p)).one (Ok u) o g h
-only_told p (Err (Refused q)) named g ok o h = (one_outcome p ok named (header_plan p)).one (Err q) o g h
-only_told p (Err Memory) named g ok o h = tt

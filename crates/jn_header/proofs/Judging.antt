@@ -23,6 +23,7 @@ use Rattle.jn_laws.proofs.StoredValues.{same_path}
 use Rattle.jn_laws.proofs.PlacesAside.{programs_within_limits}
 use Rattle.jn_heads.specs.declared.fault.CheckFault.{CheckFault}
 use Rattle.jn_heads.specs.declared.fault.CheckFault.TheVariants.{Refused, Memory}
+use Rattle.jn_heads.specs.Places.{IsReady}
 use Rattle.jn_heads.specs.Told.{Told, itself, of_names}
 use Rattle.jn_rules.specs.Plans.{Nothing}
 use Rattle.jn_rules.specs.Questions.{Gives}
@@ -144,6 +145,9 @@ pub verdict_only : (p : Program) → duplicates p ≡ [] → IsNamed p → (r : 
 verdict_only p once named (Ok h) k o v = (one_headers p once named).one (Ok tt) o k v
 verdict_only p once named (Err (Refused r)) k o v = (one_headers p once named).one (Err r) o k v
 verdict_only p once named (Err Memory) k o v = tt
+
+pub ready_there : (p : Program) (t : Table) (names others : List Name) → IsWithinLimits p → IsFilled p t → names ≡ mask_names p → others ≡ names → IsReady p t others
+ready_there p t names others limits filled e same = record { filled = filled; shallow = (programs_within_limits p limits).shallow; masks = same ∙ e }
 
 pub judged_there : (p : Program) (t u : Table) (names : List Name) → IsWithinLimits p → duplicates p ≡ [] → IsFilled p t → TablePasses p → Gives p (header_plan p) (Ok tt) → names ≡ mask_names p → u ≡ t
     → IsJudged p u names

@@ -1,9 +1,6 @@
-ghost use Rattle.std.specs.Prelude.{◌≡◌, map, Result};
-ghost use Rattle.jn_base.specs.declared.refusal.Refusal.{Refusal as ARefusal};
-ghost use Rattle.jn_base.specs.TableRules.{DeclarationsPass};
-ghost use Rattle.jn_table.specs.Tables.{IsFilled};
+ghost use Rattle.std.specs.Prelude.{◌≡◌, map};
 ghost use Rattle.jn_intern.specs.Pools.{Keeps};
-ghost use Rattle.jn_rules.specs.Plans.{Nothing, in_turn};
+ghost use Rattle.jn_rules.specs.Plans.{in_turn};
 ghost use Rattle.jn_rules.specs.Questions.{Gives};
 ghost use Rattle.jn_rules.specs.Headers.{constraint_asked, method_asked, field_asked, decl_headers, header_plan};
 ghost use Rattle.jn_heads.specs.Told.{Told, itself};
@@ -13,9 +10,9 @@ ghost use Rattle.jn_header.specs.Asked.{header_at, headers_in_space};
 use crate::listed::judge_listed;
 use jn_base::names::{Role, Vars};
 use jn_base::tree::{Constraint, Decl, Field, Member, Method, Name, Program};
-use jn_heads::{CheckFault, header_of, is_shallow, of_names, pledge_of, spot};
+use jn_heads::{CheckFault, header_of, of_names, pledge_of, spot};
 use jn_intern::Pool;
-use jn_names::{Bound, mask_names, resolve_type};
+use jn_names::{Bound, resolve_type};
 use jn_table::Table;
 use sqlite_items::Items;
 use std::alloc::Global;
@@ -209,27 +206,21 @@ fn judge_decls(
 /// of fields, and of each method its parameters, its result and its constraints. The first that doesn't is
 /// answered.
 ///
-/// The universe is filled in the table. Types are added to the pool, whose older numbers keep their meaning. Of a
-/// program with a path of more than 255 names, or with a class type without a term, which no source spells, nothing
-/// is told.
+/// The universe is filled in the table. Types are added to the pool, whose older numbers keep their meaning.
 pub fn check_types(
     alloc: Global,
     p: &Program,
     t: &mut Table,
+    masks: &[Name],
     pool: &mut Pool,
 ) -> Result<(), CheckFault>
-    requires { IsFilled p.now t.old }
-    // What the plan of the headers gives is answered, and no other answer is given.
+    requires { IsReady p.now t.old masks.now }
+    // What the plan of the headers gives is answered.
     ensures told { Told (Gives p.now (header_plan p.now)) itself result }
-    ensures only { DeclarationsPass p.now → (o : Result Nothing ARefusal) → Gives p.now (header_plan p.now) o → Told (λ a. a ≡ o) itself result }
     // Types are added to the pool, and the table is as before.
     ensures keeps { Keeps pool.old pool.new }
     ensures kept { t.new ≡ t.old }
 {
-    if !is_shallow(t) {
-        return Err(CheckFault::Memory);
-    }
-    let masks = mask_names(alloc, p)?;
     let root = Bound::root(alloc);
-    judge_decls(alloc, p, t, &masks, pool, &root, p.decls.as_slice())
+    judge_decls(alloc, p, t, masks, pool, &root, p.decls.as_slice())
 }

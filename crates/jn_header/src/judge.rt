@@ -112,12 +112,10 @@ fn behind_table(
     ensures keeps { Keeps pool.old pool.new }
     ensures kept { t.new ≡ t.old }
 {
-    match check_types(alloc, p, t, pool) {
+    let masks = mask_names(alloc, p)?;
+    match check_types(alloc, p, t, &masks, pool) {
         Err(fault) => Err(fault),
-        Ok(()) => {
-            let masks = mask_names(alloc, p)?;
-            behind_types(alloc, p, t, masks, pool)
-        }
+        Ok(()) => behind_types(alloc, p, t, masks, pool),
     }
 }
 

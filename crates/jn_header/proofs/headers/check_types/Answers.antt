@@ -1,10 +1,5 @@
-use Rattle.jn_header.proofs.Heads.{plan_told, only_told}
+use Rattle.jn_header.proofs.Heads.{plan_told}
 use Rattle.jn_header.proofs.headers.check_types.Goals as goal
 
 pub returns-clause-told : goal.returns-clause-told
 returns-clause-told c = plan_told c.args.p.now _ _ c.judge_decls.result c.root-root.ensures c.as_slice.ensures c.judge_decls.ensures.told
-
-pub returns-clause-only : goal.returns-clause-only
-returns-clause-only c =
-    only_told c.args.p.now c.judge_decls.result c.requires.table.named
-    (plan_told c.args.p.now _ _ c.judge_decls.result c.root-root.ensures c.as_slice.ensures c.judge_decls.ensures.told)
