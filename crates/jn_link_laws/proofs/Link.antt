@@ -197,7 +197,8 @@ module _ (p : Program) (i : Image) (n : Naming) (m d : ℕ) (K : Knows) where
   one_more (End q bytes) = refl
 
   -- Quiet instructions and one more, and then the rest.
-  pub compose : (R : Running → Machine → ℕ → Type 0) (x : Then) (g : machine.Frame) (gs : List machine.Frame) (a : List ℤ)
+  pub compose : (R : Running → Machine → ℕ → Type 0) (x : Then) (g : machine.Frame) (gs : List machine.Frame)
+      (a : List ℤ)
       (out : List ℕ) (what : machine.Did) (cost left w : ℕ) → Comes i m g a what cost → Meets R x
       (does what gs out) left → cost + left ≤ w → Lead R 1 x (engine (g ∷ gs) a out) w
   compose R x g gs a out what cost left w k meets le = at_next (does what gs out) x there meets

@@ -228,7 +228,8 @@ module _ (p : Program) (i : Image) (n : Naming) (m d : ℕ) (K : Knows) (t : Opt
       )
   handed b links r v u (f ∷ (q ∷ fs)) x (g ∷ gs) a out w ma hb gb st bot =
       wakes p i n m d K (Held b) v f (q ∷ fs) x (machine.given u g) gs a out w
-      (settles b links st.5 (given v f) (q ∷ fs) x (machine.given u g) gs a out st.0 st.1 w (same_result p i n m d K v f ∙ st.6)
+      (settles b links st.5 (given v f) (q ∷ fs) x (machine.given u g) gs a out st.0 st.1 w
+      (same_result p i n m d K v f ∙ st.6)
       ma (st.7 x a v u st.4 ma hb gb) st.8 (same_bottom f st.5 (q ∷ fs) gs st.6 bot) st.3
       (λ e back. subst (λ (hs : List Frame). Meet (Held b) (resumed None (q ∷ fs) out (settled hs x.heap out))
       (return_to (rules i m) None gs a out) st.1) (none_given p i n m d K (q ∷ fs))
@@ -245,7 +246,8 @@ module _ (p : Program) (i : Image) (n : Naming) (m d : ℕ) (K : Knows) (t : Opt
   ended_below b links r f x fs gs a out w same ma st bot e back =
       subst (λ (hs : List Frame). Meet (Held b) (resumed None fs out (settled hs x.heap out))
       (return_to (rules i m) None gs a out) w) (none_given p i n m d K fs)
-      (handed b links r None None fs x gs a out w ma (no_result p i n m d K x r.method.result (sym same ∙ e)) back st bot)
+      (handed b links r None None fs x gs a out w ma (no_result p i n m d K x r.method.result (sym same ∙ e))
+      back st bot)
 
   begun : (b : ℕ) → Links b
       → (f : Frame) (fs : List Frame) (x : World) (g : machine.Frame) (gs : List machine.Frame) (a : List ℤ)
@@ -316,7 +318,8 @@ module _ (p : Program) (i : Image) (n : Naming) (m d : ℕ) (K : Knows) (t : Opt
       (l.left + u) (rate + w) l.comes
       (settles b links r f fs z l.next gs l.arena (out ++ bytes) l.left u
       (l.left + u) l.result l.matches l.goes_on st' bot (omega arith)
-      (ended_below b links r f z fs gs l.arena (out ++ bytes) u l.result l.matches st' bot)) (omega (arith, l.within, le)))
+      (ended_below b links r f z fs gs l.arena (out ++ bytes) u l.result l.matches st' bot))
+      (omega (arith, l.within, le)))
   stepped b links all r (Enters e args f h) fs x g gs a out v u w l st bot le y pr =
       let z = at x h l.firsts in
       let st' = stack_later p i n m d K b r x z fs gs u l.onward st in
@@ -324,14 +327,17 @@ module _ (p : Program) (i : Image) (n : Naming) (m d : ℕ) (K : Knows) (t : Opt
       (l.left, u, z, omega arith, onward_itself z, r, l.result, l.waits, st') in
       let there =
       enters_there b links all e args l.code l.words f fs z l.next gs l.arena out
-      (l.left + u) l.matches l.are l.entry l.may waits (deeper (entered e args) f fs l.next gs (same_bottom r f fs gs (sym l.result) bot))
+      (l.left + u) l.matches l.are l.entry l.may waits
+      (deeper (entered e args) f fs l.next gs (same_bottom r f fs gs (sym l.result) bot))
       (nat_lt (length fs) d) y pr in
-      let same : does p i n m d K (Enters l.code l.words l.next l.arena) gs out ≡ if nat_lt (length fs) d then begin (rules i m)
+      let same : does p i n m d K (Enters l.code l.words l.next l.arena) gs out ≡
+      if nat_lt (length fs) d then begin (rules i m)
       ((rules i m).fresh l.code l.words) (l.next ∷ gs) l.arena out else End machine.Depth out =
       ap (λ (k : ℕ). let y : Next Machine Halt = if nat_lt k d then begin (rules i m)
       ((rules i m).fresh l.code l.words) (l.next ∷ gs) l.arena out else End machine.Depth out in y)
       (sym (stack_length p i n m d K b r x fs gs u st)) in
-      compose p i n m d K (Held b) y g gs a out (Enters l.code l.words l.next l.arena) l.cost (paid e.vars + (l.left + u))
+      compose p i n m d K (Held b) y g gs a out (Enters l.code l.words l.next l.arena) l.cost
+      (paid e.vars + (l.left + u))
       (rate + w) l.comes
       (subst (λ (k : Next Machine Halt). Meet (Held b) y k (paid e.vars + (l.left + u))) (sym same) there)
       (omega (arith, l.within, le))
@@ -377,7 +383,8 @@ module _ (p : Program) (i : Image) (n : Naming) (m d : ℕ) (K : Knows) (t : Opt
       at_result : (t : Option TypeTerm) → f.method.result ≡ t
           → Link (Held b) 1 (ended t out (resumed None fs out (settled fs x.heap out))) (run_of (g ∷ gs) a out)
           (rate + w)
-      at_result (Some t) i0 = stuck_leads p i n m d K (Held b) 1 (Stuck why.Kind) out (run_of (g ∷ gs) a out) (rate + w) refl
+      at_result (Some t) i0 = stuck_leads p i n m d K (Held b) 1 (Stuck why.Kind) out (run_of (g ∷ gs) a out)
+          (rate + w) refl
       at_result None i0 =
           compose p i n m d K (Held b) (resumed None fs out (settled fs x.heap out)) g gs a out (Leaves None a) v u
           (rate + w) (l i0).comes (ended_below b links r f x fs gs a out u same ma st bot i0 (l i0).gives)

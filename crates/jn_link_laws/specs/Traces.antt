@@ -24,8 +24,8 @@ abbrev pub has_result : Option TypeTerm → Bool
 has_result None = false
 has_result (Some t) = true
 
--- The frame that waits for it, which keeps a result where there is one. (It has nothing to return, so no charge leads on
--- from it: there the run of the body is over.)
+-- The frame that waits for it, which keeps a result where there is one. (It has nothing to return, so no charge leads
+-- on from it: there the run of the body is over.)
 abbrev pub idle : Option TypeTerm → Frame
 idle t = record start_frame { todo = todo 0 (Return true) ∷ []; keeps = has_result t }
 
@@ -41,7 +41,8 @@ abbrev pub HasReturned : Running → Type 0
 HasReturned s = (f : Frame) × (s.frames ≡ f ∷ [])
 
 -- Both have returned, with a result and its word, or with none; and the arena matches the heap.
-pub record GaveBack (p : Program) (i : Image) (n : Naming) (t : Option TypeTerm) (s : Running) (m : Machine) : Type 0 where
+pub record GaveBack (p : Program) (i : Image) (n : Naming) (t : Option TypeTerm) (s : Running) (m : Machine) :
+    Type 0 where
   pub firsts : List First
   pub matches : Matches p i n (record { firsts = firsts; heap = s.heap }) m.heap
   pub value : Option Value
@@ -63,7 +64,8 @@ Is p i m d k y r = RunIs 32 (Charge p m d) shown (instruct i m d) (λ (s : Machi
 abbrev pub ran : Image → (capacity depth k : ℕ) → Machine → Report Halt
 ran i m d k s = run (instruct i m d) (λ (s : Machine). s.output) k s
 
--- Within b charges the code that begins with s goes with the body that begins with y, where w instructions were paid for.
+-- Within b charges the code that begins with s goes with the body that begins with y, where w instructions were paid
+-- for.
 pub record Traced (p : Program) (i : Image) (n : Naming) (m d : ℕ) (t : Option TypeTerm) (y : Then) (s : Machine)
     (b w : ℕ) : Type 0 where
   -- what k instructions wrote is the first part of what k charges print; where they halt, these end so
@@ -74,8 +76,8 @@ pub record Traced (p : Program) (i : Image) (n : Naming) (m d : ℕ) (t : Option
   pub returned : (k : ℕ) (u : Running) → k ≤ b → Comes p m d k y u → HasReturned u
       → (j : ℕ) × (v : Machine) × (j ≤ 32 * k + w) × (after (instruct i m d) j s ≡ On v) × GaveBack p i n t u v
 
--- Of each code, from each entry that typing allows, with whatever depth: 8 instructions are left to it, and 3 for each test
--- of a parameter.
+-- Of each code, from each entry that typing allows, with whatever depth: 8 instructions are left to it, and 3 for each
+-- test of a parameter.
 abbrev pub BodiesTraced : Program → Image → Naming → (capacity depth b : ℕ) → Knows → Type 0
 BodiesTraced p i n m d b K =
     (e : Entry) (k : ℕ) (x : World) (a : List ℤ) (r : Value) (args : List Value) (words : List ℤ) (c : Code)

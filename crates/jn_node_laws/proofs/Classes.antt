@@ -1,15 +1,15 @@
 -- The class of an atom: one of the program's own, or found from the view of a path.
-use Rattle.std.proofs.Common.{◌≡◌, ◌≢◌, ℕ, zero, suc, ◌+◌, ◌<◌, ◌≤◌, List, [], ◌∷◌, ◌++◌, length, drop, Option, Some, None, Bool, true, false, refl, sym, ap, ◌∙◌, subst, arith, nat_eq, append_assoc}
+use Rattle.std.proofs.Common.{◌≡◌, ℕ, zero, suc, ◌+◌, ◌<◌, List, [], ◌∷◌, ◌++◌, length, drop, Option, Some, None, Bool, true, false, refl, sym, ap, ◌∙◌, subst, arith, nat_eq, append_assoc}
 use Rattle.std.specs.Prelude.{ℤ, pos, slice_get, cond, if◌then◌else◌, unwrap_or}
-use Rattle.std.specs.Option.{option_map, option_and_then}
+use Rattle.std.specs.Option.{option_and_then}
 use Rattle.std.proofs.lemmas.Bool.{eqb-true, ne_eqb}
 use Rattle.std.proofs.lemmas.List.{append-nil, length-append}
 use Rattle.std.proofs.lemmas.Option.{slice_get_within}
-use Rattle.jn_steps.specs.Steps.{Goes, Faults, on_some}
+use Rattle.jn_steps.specs.Steps.{Goes, on_some}
 use Rattle.jn_base.specs.declared.tree.Name.{Name}
 use Rattle.jn_base.specs.declared.tree.Program.{Program}
 use Rattle.jn_base.specs.declared.types.Anchor.{Anchor}
-use Rattle.jn_base.specs.declared.types.Anchor.TheVariants.{Root, Up}
+use Rattle.jn_base.specs.declared.types.Anchor.TheVariants.{Up}
 use Rattle.jn_base.specs.Paths.{Path}
 use Rattle.jn_base.specs.Universe.{IsNamespace, InUniverse}
 use Rattle.jn_base.specs.Atoms.{Atom, Among, first, later, anchor_at, atom_at}
@@ -28,7 +28,7 @@ use Rattle.jn_sem.specs.Terms.{Site}
 use Rattle.jn_sem.specs.State.{Heap, Frame, Variable, frame_views, view_in, view_of_var}
 use Rattle.jn_agree.specs.Naming.{Naming, IsWord}
 use Rattle.jn_agree.specs.Matches.{World, Matches}
-use Rattle.jn_agree.specs.Rows.{RowIs, RowsAre, UpIs}
+use Rattle.jn_agree.specs.Rows.{RowsAre}
 use Rattle.jn_agree.specs.Follows.{Knows, quiet}
 use Rattle.jn_agree.specs.Places.{At, Run, ClassCode, fixed, seen, up_by, downs}
 use Rattle.jn_match_laws.proofs.RowLaws.{row_at, place_of, block_low}

@@ -1,33 +1,29 @@
 -- How a body begins, how a run does, and what the rows say of texts and constructors.
-use Rattle.std.proofs.Common.{◌≡◌, ℕ, suc, ◌+◌, ◌*◌, ◌≤◌, List, [], ◌∷◌, ◌++◌, length, map, replicate, Option, Some, None, Bool, true, false, refl, sym, ap, ◌∙◌, subst, arith}
+use Rattle.std.proofs.Common.{◌≡◌, ℕ, suc, ◌+◌, ◌*◌, List, [], ◌∷◌, ◌++◌, length, replicate, Option, Some, None, true, false, refl, sym, ap, ◌∙◌, subst, arith}
 use Rattle.std.specs.Prelude.{ℤ, pos, slice_get}
 use Rattle.std.specs.List.{filter}
 use Rattle.std.specs.Option.{option_map}
 use Rattle.std.proofs.lemmas.List.{length-append, length-replicate}
 use Rattle.std.proofs.lemmas.Option.{slice_get-map}
-use Rattle.jn_base.specs.declared.tree.Name.{Name}
 use Rattle.jn_base.specs.declared.tree.Param.{Param}
 use Rattle.jn_base.specs.declared.tree.TypeTerm.{TypeTerm}
 use Rattle.jn_base.specs.declared.tree.Text.{Text}
 use Rattle.jn_base.specs.declared.tree.Program.{Program}
 use Rattle.jn_base.specs.declared.names.Var.{Var}
-use Rattle.jn_base.specs.Paths.{Path}
 use Rattle.jn_code.specs.declared.image.Text as image
 use Rattle.jn_code.specs.declared.image.Image.{Image}
 use Rattle.jn_code.specs.declared.image.Code.{Code}
-use Rattle.jn_code.specs.declared.image.Shape.{Shape}
 use Rattle.jn_code.specs.Machine as machine
 use Rattle.jn_sem.specs.Values.{Value}
 use Rattle.jn_base.specs.Atoms.{Among}
 use Rattle.jn_steps.specs.Steps.{Faults}
-use Rattle.jn_sem.specs.State.{Heap, Frame, Variable, frame_views, with_values, declared_vars, has_null_path}
+use Rattle.jn_sem.specs.State.{Heap, Frame, Variable, frame_views, declared_vars, has_null_path}
 use Rattle.jn_sem.specs.Does.{Body, IsBody, AreParams, Entry}
 use Rattle.jn_sem.specs.Run.{AreIn, frame_of}
-use Rattle.jn_agree.specs.Naming.{Naming, AreWords, IsWord, WordsAre}
-use Rattle.jn_agree.specs.Matches.{World, Matches}
+use Rattle.jn_agree.specs.Naming.{Naming, IsWord, WordsAre}
 use Rattle.jn_agree.specs.Rows.{RowsAre, HasShape, ResultKind}
 use Rattle.jn_agree.specs.Follows.{Knows, Comes, EntryIs, MayEnter, Entered, Begins, LocalAt, paid, is_tested}
-use Rattle.jn_agree.specs.Places.{Run, MethodOf, tests}
+use Rattle.jn_agree.specs.Places.{Run, tests}
 use Rattle.jn_match_laws.proofs.RowLaws.{got_same}
 use Rattle.jn_node_laws.specs.Cont.{Placed, active}
 use Rattle.jn_node_laws.specs.Facts.{HasText, SameText}

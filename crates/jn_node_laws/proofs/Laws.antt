@@ -17,7 +17,7 @@ use Rattle.jn_node_laws.proofs.Calls.{call}
 use Rattle.jn_node_laws.proofs.Prints.{print}
 use Rattle.jn_node_laws.proofs.News.{make, takes_flat, narrowed}
 use Rattle.jn_node_laws.proofs.Nodes.{narrow}
-use Rattle.std.specs.Prelude.{ℕ, zero, suc, ◌+◌, List, ◌∷◌, [], Bool, Some, slice_get, ◌≡◌}
+use Rattle.std.specs.Prelude.{ℕ, zero, suc, ◌+◌, List, [], Bool, Some, slice_get, ◌≡◌}
 use Rattle.std.proofs.Common.{refl}
 use Rattle.jn_base.specs.declared.tree.Program.{Program}
 use Rattle.jn_code.specs.declared.image.Image.{Image}

@@ -1,5 +1,5 @@
 -- `new`: of a class of the program's own and of one that hangs on a path, with a constructor and without one.
-use Rattle.std.proofs.Common.{◌≡◌, ◌≢◌, ℕ, zero, suc, ◌+◌, ◌*◌, ◌<◌, ◌≤◌, List, [], ◌∷◌, ◌++◌, length, Option, Some, None, Bool, true, false, refl, sym, ap, ◌∙◌, subst, arith, append_assoc}
+use Rattle.std.proofs.Common.{◌≡◌, ℕ, zero, suc, ◌+◌, ◌*◌, ◌<◌, ◌≤◌, List, [], ◌∷◌, ◌++◌, length, Option, Some, None, Bool, true, false, refl, sym, ap, ◌∙◌, subst, arith, append_assoc}
 use Rattle.std.specs.Prelude.{ℤ, pos, slice_get, Result, Ok, if◌then◌else◌}
 use Rattle.std.proofs.lemmas.Bool.{ne_eqb}
 use Rattle.std.proofs.lemmas.Option.{slice_get_within}
@@ -26,15 +26,13 @@ use Rattle.jn_code.specs.Machine.{code_in}
 use Rattle.jn_sem.specs.declared.outcome.Why.{Why}
 use Rattle.jn_sem.specs.declared.outcome.Why.TheVariants as why
 use Rattle.jn_sem.specs.Sets.{AnchorSeen, view_at}
-use Rattle.jn_sem.specs.Terms.{Site, TermIs, spot_at, vars_at}
+use Rattle.jn_sem.specs.Terms.{Site, TermIs}
 use Rattle.jn_sem.specs.Sharing.{IsClass}
 use Rattle.jn_sem.specs.Slots.{IsSize}
 use Rattle.jn_sem.specs.Acts.{Make, Todo, todo}
-use Rattle.jn_sem.specs.State.{Frame, Heap, Stored, frame_views, site_of}
-use Rattle.jn_sem.specs.Run.{acting}
-use Rattle.jn_sem.specs.Asks.{Only, OnTest, holds, fails}
+use Rattle.jn_sem.specs.State.{Frame, Heap, frame_views, site_of}
+use Rattle.jn_sem.specs.Asks.{Only, holds, fails}
 use Rattle.jn_sem.specs.Does.{Stuck, Body, IsBody, IsConstructorBody, IsNewClass, AreFresh, Did, args_of, makes, constructs}
-use Rattle.jn_sem.specs.Does as does
 use Rattle.jn_agree.specs.declared.selectors.MethodSel.{MethodSel}
 use Rattle.jn_agree.specs.Naming.{Naming}
 use Rattle.jn_agree.specs.Matches.{World, Matches, RowOf}
@@ -42,7 +40,7 @@ use Rattle.jn_agree.specs.Rows.{RowIs, RowsAre, HasShape}
 use Rattle.jn_agree.specs.Follows.{Knows, blank, Follows}
 use Rattle.jn_agree.specs.Places.{At, Run, MethodOf, ClassCode, dropping}
 use Rattle.jn_match_laws.proofs.RowLaws.{row_at, got_same}
-use Rattle.jn_node_laws.specs.Cont.{of_frame, Layout, TakesAll, with_value, trimmed, PlacedOn, Placed, active, ContOn, Cont, LeadsTo}
+use Rattle.jn_node_laws.specs.Cont.{Layout, TakesAll, with_value, trimmed, PlacedOn, Placed, active, ContOn, Cont, LeadsTo}
 use Rattle.jn_node_laws.specs.Facts.{FewNumbers, MakesWell, MakesBare, BodiesOnce}
 use Rattle.jn_node_laws.proofs.Classes.{Split, split, class_had}
 use Rattle.jn_node_laws.proofs.Objects.{with_ctor, without_ctor}

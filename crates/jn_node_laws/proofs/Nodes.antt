@@ -20,7 +20,7 @@ use Rattle.jn_sem.specs.State.{Heap}
 use Rattle.jn_agree.specs.Naming.{Naming, First, IsWord, WordsAre}
 use Rattle.jn_agree.specs.Matches.{World, Matches, Onward}
 use Rattle.jn_agree.specs.Follows.{Knows, halt_of, when_quiet, quiet, Comes, rate, blank, Follows, LocalAt, Local}
-use Rattle.jn_node_laws.specs.Cont.{Mark, of_frame, of_this, Layout, LaidOut, AreLaid, trimmed, PlacedOn, Placed, active, ContOn, Cont, Led, LeadsTo, Then, Shows}
+use Rattle.jn_node_laws.specs.Cont.{of_frame, of_this, Layout, LaidOut, AreLaid, trimmed, PlacedOn, active, ContOn, Led, LeadsTo, Then, Shows}
 use Rattle.jn_agree.specs.Places.{At}
 use Rattle.jn_link_laws.proofs.Link.{onward_itself}
 

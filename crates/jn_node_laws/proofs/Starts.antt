@@ -1,5 +1,5 @@
 -- How a run begins: an object of Main is made, and `main` is called on it.
-use Rattle.std.proofs.Common.{◌≡◌, ℕ, zero, suc, ◌+◌, ◌*◌, ◌<◌, List, [], ◌∷◌, ◌++◌, length, replicate, Option, Some, None, Bool, true, false, refl, sym, ap, ◌∙◌, subst, arith, nat_eq}
+use Rattle.std.proofs.Common.{◌≡◌, ℕ, zero, suc, ◌+◌, ◌*◌, ◌<◌, List, [], ◌∷◌, ◌++◌, length, replicate, Option, Some, Bool, true, false, refl, sym, ap, ◌∙◌, subst, arith, nat_eq}
 use Rattle.std.specs.Prelude.{ℤ, pos, slice_get, codes}
 use Rattle.jn_steps.specs.Steps.{Faults, on_args}
 use Rattle.std.proofs.lemmas.Bool.{eqb-true}
@@ -7,7 +7,6 @@ use Rattle.jn_base.specs.declared.tree.Name.{Name}
 use Rattle.jn_base.specs.declared.tree.Program.{Program}
 use Rattle.jn_base.specs.declared.types.Anchor.TheVariants.{Root}
 use Rattle.jn_base.specs.Paths.{Path}
-use Rattle.jn_base.specs.Atoms.{Among}
 use Rattle.jn_code.specs.declared.instr.Instr.{Instr}
 use Rattle.jn_code.specs.declared.instr.Instr.TheVariants as ins
 use Rattle.jn_code.specs.declared.image.Image.{Image}
@@ -16,8 +15,7 @@ use Rattle.jn_code.specs.declared.image.Shape.{Shape}
 use Rattle.jn_code.specs.Machine.{ref_word}
 use Rattle.jn_code.specs.Machine as machine
 use Rattle.jn_sem.specs.declared.outcome.Why.{Why}
-use Rattle.jn_sem.specs.Values.{Value, Number, Truth, Null, Reference}
-use Rattle.jn_sem.specs.Terms.{Site}
+use Rattle.jn_sem.specs.Values.{Value, Null, Reference}
 use Rattle.jn_sem.specs.Sharing.{IsClass}
 use Rattle.jn_sem.specs.Slots.{IsSize}
 use Rattle.jn_sem.specs.Acts.{Begin, Open, Todo, todo}
@@ -26,7 +24,7 @@ use Rattle.jn_sem.specs.Asks.{Only}
 use Rattle.jn_sem.specs.Does.{AtNull, Stuck, Did, Body, Entry, IsBody, IsConstructorBody, IsSpelled, AreParams, AreFresh, makes, constructs, waiting, calls}
 use Rattle.jn_sem.specs.Run.{start_frame}
 use Rattle.jn_agree.specs.declared.selectors.MethodSel.{MethodSel}
-use Rattle.jn_agree.specs.Naming.{Naming, First, IsWord}
+use Rattle.jn_agree.specs.Naming.{Naming, IsWord}
 use Rattle.jn_agree.specs.Matches.{World, Matches}
 use Rattle.jn_agree.specs.Rows.{RowsAre, HasShape}
 use Rattle.jn_agree.specs.Follows.{Knows, blank, quiet, Follows, Local, entered, rate}

@@ -1,10 +1,9 @@
 -- `super`, without arguments and with them.
-use Rattle.std.proofs.Common.{◌≡◌, ℕ, suc, ◌+◌, ◌*◌, ◌<◌, ◌≤◌, ◌++◌, List, [], ◌∷◌, length, Option, Some, Bool, true, refl, sym, ap, ◌∙◌, subst, arith, nat_eq}
+use Rattle.std.proofs.Common.{◌≡◌, ℕ, suc, ◌+◌, ◌*◌, ◌<◌, ◌≤◌, List, [], ◌∷◌, length, Some, Bool, true, refl, sym, ap, ◌∙◌, subst, arith, nat_eq}
 use Rattle.std.specs.Prelude.{ℤ, pos, slice_get, slice_set, get_or}
 use Rattle.std.proofs.lemmas.Option.{slice_get-get_or}
 use Rattle.jn_base.specs.declared.names.Var.{Var}
 use Rattle.jn_base.specs.Atoms.{Among}
-use Rattle.jn_sem.specs.State.{Variable, declared_vars}
 use Rattle.std.proofs.lemmas.Bool.{eqb-true}
 use Rattle.jn_steps.specs.Steps.{Goes, Enters, Faults, on_some, on_one, on_args}
 use Rattle.jn_base.specs.declared.tree.Name.{Name}
@@ -25,8 +24,7 @@ use Rattle.jn_sem.specs.Terms.{Site, SuperBound}
 use Rattle.jn_sem.specs.Asks.{Only}
 use Rattle.jn_sem.specs.Acts.{Super, Todo, todo}
 use Rattle.jn_sem.specs.State.{Heap, Frame, site_of}
-use Rattle.jn_sem.specs.Does.{Stuck, Did, Does, Body, IsBody, AreParams, Entry, args_of, calls}
-use Rattle.jn_sem.specs.Run.{acting}
+use Rattle.jn_sem.specs.Does.{Stuck, Did, Body, IsBody, AreParams, Entry, args_of, calls}
 use Rattle.jn_agree.specs.Naming.{Naming, First, IsWord, WordsAre}
 use Rattle.jn_agree.specs.Matches.{World, Matches}
 use Rattle.jn_agree.specs.Rows.{RowsAre}

@@ -1,8 +1,8 @@
 -- The tests of final parameters, where a body begins.
-use Rattle.std.proofs.Common.{◌≡◌, ℕ, zero, suc, ◌+◌, ◌*◌, ◌≤◌, List, [], ◌∷◌, ◌++◌, length, map, replicate, Option, Some, None, Bool, true, false, ◌&&◌, ◌||◌, refl, sym, ap, ◌∙◌, subst, arith, append_assoc}
-use Rattle.std.specs.Prelude.{ℤ, pos, slice_get, if◌then◌else◌}
-use Rattle.std.specs.List.{filter, list_any}
-use Rattle.std.proofs.lemmas.List.{length-append, append-nil, length-replicate}
+use Rattle.std.proofs.Common.{◌≡◌, ℕ, suc, ◌+◌, ◌*◌, List, [], ◌∷◌, ◌++◌, length, Option, Some, None, Bool, true, false, ◌&&◌, ◌||◌, refl, sym, ap, ◌∙◌, subst, arith, append_assoc}
+use Rattle.std.specs.Prelude.{ℤ, slice_get, if◌then◌else◌}
+use Rattle.std.specs.List.{filter}
+use Rattle.std.proofs.lemmas.List.{length-append}
 use Rattle.jn_steps.specs.Steps.{Goes, Faults, on_some}
 use Rattle.jn_base.specs.declared.tree.Param.{Param}
 use Rattle.jn_base.specs.declared.tree.Program.{Program}
@@ -11,7 +11,6 @@ use Rattle.jn_base.specs.declared.types.Ty.TheVariants as ty
 use Rattle.jn_base.specs.declared.names.Var.{Var}
 use Rattle.jn_base.specs.Resolve.{is_class}
 use Rattle.jn_base.specs.Atoms.{Among, first, later}
-use Rattle.jn_code.specs.declared.instr.Instr.{Instr}
 use Rattle.jn_code.specs.declared.instr.Instr.TheVariants as ins
 use Rattle.jn_code.specs.declared.image.Image.{Image}
 use Rattle.jn_code.specs.declared.image.Code.{Code}
@@ -20,7 +19,6 @@ use Rattle.jn_code.specs.Machine as machine
 use Rattle.jn_code.proofs.Words.{ref_in_word, get_right}
 use Rattle.jn_sem.specs.Sets.{Views}
 use Rattle.jn_sem.specs.Values.{Value, Number, Truth, Null, Reference}
-use Rattle.jn_sem.specs.Acts.{Todo}
 use Rattle.jn_sem.specs.State.{Heap, Frame, Variable, declared_vars, with_values, IsIn, is_null, is_null_path, has_null_path}
 use Rattle.jn_sem.specs.Does.{Body, AreParamsAfter, var}
 use Rattle.jn_agree.specs.Naming.{Naming, First, IsWord, WordsAre}

@@ -12,7 +12,7 @@ use Rattle.jn_sem.specs.Asks.{OnOnly, OnTest, OnSome, OnIf, OnFirst, Only, found
 use Rattle.jn_sem.specs.Does.{Ending, AtNull, Stuck, Did, Way, args_of, on_object, on_truth, ends}
 use Rattle.jn_sem.specs.Does as does
 use Rattle.jn_agree.specs.Naming.{Naming, First, IsWord, WordsAre}
-use Rattle.jn_node_laws.specs.Cont.{Mark, of_frame, of_this, Layout, LaidOut, Takes, TakesAll}
+use Rattle.jn_node_laws.specs.Cont.{of_frame, of_this, Layout, LaidOut, Takes, TakesAll}
 
 module _ (Q : Did → Type 0) (no_way : (d : Did) (w : Why) → d ≡ Faults (Stuck w) → Q d) where
   pub w_only : {A : Type 0} (Is : A → Type 0) (Go : A → Way) (d : Did) → OnOnly Is does.missing Go d →

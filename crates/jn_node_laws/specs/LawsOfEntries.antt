@@ -1,5 +1,5 @@
 -- How a body begins, and how a run does.
-use Rattle.std.specs.Prelude.{◌≡◌, ◌<◌, ℕ, zero, suc, List, [], ◌∷◌, length, false, Option, None, Some, slice_get}
+use Rattle.std.specs.Prelude.{◌≡◌, ◌<◌, ℕ, suc, List, [], ◌∷◌, length, false, None, Some, slice_get}
 use Rattle.jn_base.specs.declared.tree.Name.{Name}
 use Rattle.jn_base.specs.declared.tree.Program.{Program}
 use Rattle.jn_code.specs.declared.image.Image.{Image}
@@ -8,7 +8,7 @@ use Rattle.jn_code.specs.declared.image.Shape.{Shape}
 use Rattle.jn_base.specs.Paths.{Path}
 use Rattle.jn_sem.specs.Values.{Value}
 use Rattle.jn_sem.specs.Terms.{Site}
-use Rattle.jn_sem.specs.Acts.{Begin, Open, Todo, todo, stmts_acts}
+use Rattle.jn_sem.specs.Acts.{Begin, Open, todo, stmts_acts}
 use Rattle.jn_sem.specs.State.{Heap, Frame, has_null_path}
 use Rattle.jn_sem.specs.Does.{Entry, Body, IsBody}
 use Rattle.jn_sem.specs.Run.{AreIn, frame_of, start_frame, no_method}

@@ -1,33 +1,19 @@
 -- Where the code is that of a form, its calls have at most 15 arguments.
-use Rattle.std.proofs.Common.{◌≡◌, ℕ, zero, suc, ◌+◌, ◌*◌, ◌≤◌, List, [], ◌∷◌, ◌++◌, length, map, Option, Some, None, Bool, true, false, refl, sym, ap, ◌∙◌, subst, arith}
-use Rattle.std.proofs.lemmas.List.{length-append}
+use Rattle.std.proofs.Common.{◌≡◌, ℕ, suc, ◌+◌, ◌≤◌, List, [], ◌∷◌, length, map, Option, Some, None, Bool, true, false, sym, ap, subst, arith}
 use Rattle.jn_base.specs.declared.tree.Name.{Name}
-use Rattle.jn_base.specs.declared.tree.Place.{Place}
-use Rattle.jn_base.specs.declared.tree.Op.{Op}
-use Rattle.jn_base.specs.declared.tree.Op.TheVariants as op
 use Rattle.jn_base.specs.declared.tree.Expr.{Expr}
 use Rattle.jn_base.specs.declared.tree.Link.{Link}
 use Rattle.jn_base.specs.declared.tree.Suffix.{Suffix, out-Suffix}
 use Rattle.jn_base.specs.declared.tree.Stmt.{Stmt}
-use Rattle.jn_base.specs.declared.tree.Stmt.TheVariants as stmt
-use Rattle.jn_base.specs.declared.tree.Node.TheVariants as node
 use Rattle.jn_base.specs.declared.tree.Program.{Program}
-use Rattle.jn_base.specs.declared.types.Ty.{Ty}
-use Rattle.jn_base.specs.declared.types.Ty.TheVariants as ty
-use Rattle.jn_base.specs.declared.names.Var.{Var}
-use Rattle.jn_base.specs.declared.names.Role.TheVariants as role
-use Rattle.jn_base.specs.Resolve.{is_class}
-use Rattle.jn_base.specs.Paths.{Path}
 use Rattle.jn_base.specs.Atoms.{Atom}
 use Rattle.jn_code.specs.declared.instr.Instr.{Instr}
-use Rattle.jn_code.specs.declared.instr.Instr.TheVariants as ins
 use Rattle.jn_code.specs.declared.image.Code.{Code}
 use Rattle.jn_sem.specs.Terms.{Site}
 use Rattle.jn_agree.specs.Naming.{Naming}
-use Rattle.jn_agree.specs.Follows.{is_tested}
-use Rattle.jn_agree.specs.Places.{Run, ClassCode, fixed, seen, CtorCode, ctor, bare, dropping, tuck, downs, up_by, operator, binding, testing, tests, last_return, ExprAt, at_number, at_truth, at_null, at_this, at_var, at_new, at_super, at_bare_super, at_post, at_not, at_neg, at_view, at_chain, ArgsAt, no_args, one_arg, PartsAt, no_parts, last_part, one_part, PartAt, at_field, at_call, LinksAt, no_links, one_link, one_deciding, StmtsAt, no_stmts, block_at, local_at, assign_at, set_at, do_at, if_at, while_at, return_at, end_at, print_at, text_at}
+use Rattle.jn_agree.specs.Places.{CtorCode, ctor, bare, ExprAt, at_number, at_truth, at_null, at_this, at_var, at_new, at_super, at_bare_super, at_post, at_not, at_neg, at_view, at_chain, ArgsAt, no_args, one_arg, PartsAt, no_parts, last_part, one_part, PartAt, at_field, at_call, LinksAt, no_links, one_link, one_deciding, StmtsAt, no_stmts, block_at, local_at, assign_at, set_at, do_at, if_at, while_at, return_at, end_at, print_at, text_at}
 use Rattle.std.proofs.Math.Nat.{max-le}
-use Rattle.jn_size_laws.specs.Operands.{Needs, most, expr_needs, link_needs, suffix_needs, stmt_needs, stmts_need}
+use Rattle.jn_size_laws.specs.Operands.{Needs, most, expr_needs, link_needs, suffix_needs, stmts_need}
 use Rattle.jn_size_laws.specs.LawsOfOperands.{FewParams, OperandsOf}
 use Rattle.jn_size_laws.proofs.NeedEquations as size
 use Rattle.jn_size_laws.proofs.Operands.{counted, expr_holds, stmts_hold}

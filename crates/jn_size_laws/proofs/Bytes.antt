@@ -1,5 +1,5 @@
 -- What the code of a body takes in a file.
-use Rattle.std.proofs.Common.{◌≡◌, ℕ, zero, suc, ◌+◌, ◌-◌, ◌*◌, ◌≤◌, List, [], ◌∷◌, ◌++◌, length, map, Option, Some, None, Bool, true, false, refl, sym, ap, ◌∙◌, subst, arith}
+use Rattle.std.proofs.Common.{◌≡◌, ℕ, zero, suc, ◌+◌, ◌-◌, ◌*◌, ◌≤◌, List, [], ◌∷◌, ◌++◌, length, map, Bool, true, false, refl, sym, ap, ◌∙◌, subst, arith}
 use Rattle.std.specs.Int.{w16, w32, w64, cast_unsigned}
 use Rattle.std.specs.List.{flat_map}
 use Rattle.std.proofs.lemmas.List.{length-append}
@@ -12,30 +12,29 @@ use Rattle.jn_base.specs.declared.tree.Member.TheOpen.{Member-F}
 use Rattle.jn_base.specs.declared.tree.Member.TheVariants as member
 use Rattle.jn_base.specs.declared.tree.Member.TheVariants.{outs-Inner, outs-Slot, outs-Body}
 use Rattle.jn_base.specs.declared.tree.Kind.{Kind}
-use Rattle.jn_base.specs.declared.tree.TypeTerm.{TypeTerm}
-use Rattle.jn_base.specs.declared.tree.Stmt.{Stmt}
 use Rattle.jn_base.specs.declared.tree.Program.{Program}
 use Rattle.jn_base.specs.declared.names.Var.{Var}
-use Rattle.jn_base.specs.declared.word.Mark.TheVariants.{CloseBrace, CloseParen, Comma, OpenBrace, OpenParen}
+use Rattle.jn_base.specs.declared.word.Mark.TheVariants.{CloseBrace, CloseParen, OpenBrace, OpenParen}
 use Rattle.jn_base.specs.Parts.{Part, Parameter, mark, name, opening, new_name}
 use Rattle.jn_base.specs.GrammarDecl as g
 use Rattle.jn_code.specs.declared.instr.Instr.{Instr}
 use Rattle.jn_code.specs.declared.instr.Instr.TheVariants as ins
 use Rattle.jn_code.specs.declared.image.Code.{Code}
-use Rattle.jn_code.specs.SpellsFields.{byte, number, at_most, part, last, listed, counted, kind_byte}
-use Rattle.jn_code.specs.SpellsInstr.{instr, instr_bytes}
+use Rattle.jn_code.specs.SpellsFields.{byte, number, at_most, part, last, counted}
+use Rattle.jn_code.specs.SpellsInstr.{instr_bytes}
 use Rattle.jn_code.specs.SpellsFile as file
 use Rattle.jn_code.proofs.FieldLaws.{wide16, wide32, wide64}
 use Rattle.jn_sem.specs.Does.{Body, AreParamsAfter, var}
 use Rattle.jn_agree.specs.Naming.{Naming}
 use Rattle.jn_agree.specs.Rows.{kind_of_type}
 use Rattle.jn_agree.specs.Follows.{is_tested}
-use Rattle.jn_agree.specs.Places.{Run, testing, tests, last_return, BodyAt}
+use Rattle.jn_agree.specs.Places.{testing, tests, last_return, BodyAt}
 use Rattle.jn_sem.specs.Acts.{path_behind}
 use Rattle.jn_size_laws.specs.Sizes.{stmts_size}
-use Rattle.jn_size_laws.specs.LawsOfSizes.{CodesAreShort}
+use Rattle.jn_size_laws.specs.LawsOfSizes.{BodiesSized, CodesAreShort}
 use Rattle.jn_size_laws.proofs.Fits.{run_long, stmts_fit}
 use Rattle.jn_size_laws.proofs.Tokens.{stmts_short}
+use Rattle.jn_size_laws.proofs.Locals.{stmts_few}
 
 -- ---- bytes
 
@@ -91,12 +90,13 @@ instrs_long (x ∷ xs) =
     let l = length-append (instr_bytes x) (flat_map instr_bytes xs) in
     omega (arith, a, b, l)
 
-bytes_long : (xs : List ℕ) → length (flat_map (λ (k : ℕ). k ∷ []) xs) ≡ length xs
+pub bytes_long : (xs : List ℕ) → length (flat_map (λ (k : ℕ). k ∷ []) xs) ≡ length xs
 bytes_long [] = refl
 bytes_long (x ∷ xs) = ap suc (bytes_long xs)
 
 -- a count in a byte, and a byte for each kind
-kinds_long : (most : ℕ) (ks : List ℕ) → length ((counted (at_most most byte) file.kinds).spelled ks) ≡ suc (length ks)
+pub kinds_long : (most : ℕ) (ks : List ℕ) →
+    length ((counted (at_most most byte) file.kinds).spelled ks) ≡ suc (length ks)
 unfolding part
 kinds_long most ks = ap suc (bytes_long ks)
 
@@ -216,6 +216,7 @@ record MethodLong (w : List Part) (m : Method) : Type 0 where
   pub all : params + (stmts + 5) ≤ length w
   pub params_there : length m.params ≤ params
   pub stmts_there : stmts_size m.body ≤ 4 * stmts
+  pub locals_there : (n : ℕ) → path_behind m.body n ≤ n + stmts
 
 no_inner : (t : Decl) (m : Method) → member.Inner t ≡ member.Body m → ⊥
 no_inner t m e = clash (sym (outs-Inner t) ∙ ap out-Member e ∙ outs-Body m)
@@ -261,15 +262,34 @@ method_long k d depth w x m e (g.method {m = locals} {x = y} p o c b z {r = r} {
           omega (arith, a, l, q, f);
       params_there = params_there (suc d) v ts given;
       stmts_there = stmts_short (suc d) 0 locals body ss stmts;
+      locals_there = λ n. stmts_few (suc d) 0 locals body ss n stmts;
     })
 
+pub bodies_sized : BodiesSized
+bodies_sized p n b code at locals = record {
+  params = params_counted p n b code at;
+  instrs = body_long p n b code at;
+  locals = locals;
+}
+
 pub codes_short : CodesAreShort
-codes_short p n b code k d depth w m at same member_is locals =
+codes_short b code k d depth w m sized same member_is =
     let bytes = code_long code in
-    let many = body_long p n b code at in
-    let ps = params_counted p n b code at in
+    let many = sized.instrs in
+    let ps = sized.params in
+    let locals = sized.locals in
     let tokens = method_long k d depth w m b.method same member_is in
     let all = tokens.all in
     let pt = tokens.params_there in
     let st = tokens.stmts_there in
-    omega (arith, bytes, many, ps, all, pt, st, locals)
+    let lt = tokens.locals_there (length code.params) in
+    omega (arith, bytes, many, ps, all, pt, st, lt, locals)
+
+-- so many bytes a selector of the method takes
+pub head_short : (b : Body) (k : Kind) (d depth : ℕ) (w : List Part) → g.IsMember k d depth w (member.Body b.method) →
+    2 + length b.method.params ≤ length w
+head_short b k d depth w is =
+    let tokens = method_long k d depth w (member.Body b.method) b.method refl is in
+    let all = tokens.all in
+    let pt = tokens.params_there in
+    omega (arith, all, pt)

@@ -1,22 +1,17 @@
 -- The places of a form have at most as many instructions as its size says.
-use Rattle.std.proofs.Common.{◌≡◌, ℕ, zero, suc, ◌+◌, ◌*◌, ◌≤◌, List, [], ◌∷◌, ◌++◌, length, map, Option, Some, None, Bool, true, false, refl, sym, ap, ◌∙◌, subst, arith}
+use Rattle.std.proofs.Common.{◌≡◌, ℕ, zero, suc, ◌+◌, ◌≤◌, List, [], ◌∷◌, ◌++◌, length, map, Option, Some, None, Bool, true, false, refl, ap, arith}
 use Rattle.std.proofs.lemmas.List.{length-append}
 use Rattle.jn_base.specs.declared.tree.Name.{Name}
-use Rattle.jn_base.specs.declared.tree.Place.{Place}
 use Rattle.jn_base.specs.declared.tree.Op.{Op}
 use Rattle.jn_base.specs.declared.tree.Op.TheVariants as op
 use Rattle.jn_base.specs.declared.tree.Expr.{Expr}
 use Rattle.jn_base.specs.declared.tree.Link.{Link}
 use Rattle.jn_base.specs.declared.tree.Suffix.{Suffix, out-Suffix}
 use Rattle.jn_base.specs.declared.tree.Stmt.{Stmt}
-use Rattle.jn_base.specs.declared.tree.Stmt.TheVariants as stmt
-use Rattle.jn_base.specs.declared.tree.Node.TheVariants as node
 use Rattle.jn_base.specs.declared.tree.Program.{Program}
 use Rattle.jn_base.specs.declared.types.Ty.{Ty}
 use Rattle.jn_base.specs.declared.types.Ty.TheVariants as ty
-use Rattle.jn_base.specs.declared.names.Var.{Var}
 use Rattle.jn_base.specs.declared.names.Role.TheVariants as role
-use Rattle.jn_base.specs.Resolve.{is_class}
 use Rattle.jn_base.specs.Paths.{Path}
 use Rattle.jn_base.specs.Atoms.{Atom}
 use Rattle.jn_code.specs.declared.instr.Instr.{Instr}
@@ -24,9 +19,8 @@ use Rattle.jn_code.specs.declared.instr.Instr.TheVariants as ins
 use Rattle.jn_code.specs.declared.image.Code.{Code}
 use Rattle.jn_sem.specs.Terms.{Site}
 use Rattle.jn_agree.specs.Naming.{Naming}
-use Rattle.jn_agree.specs.Follows.{is_tested}
-use Rattle.jn_agree.specs.Places.{Run, ClassCode, fixed, seen, CtorCode, ctor, bare, dropping, tuck, downs, up_by, operator, binding, testing, tests, last_return, ExprAt, at_number, at_truth, at_null, at_this, at_var, at_new, at_super, at_bare_super, at_post, at_not, at_neg, at_view, at_chain, ArgsAt, no_args, one_arg, PartsAt, no_parts, last_part, one_part, PartAt, at_field, at_call, LinksAt, no_links, one_link, one_deciding, StmtsAt, no_stmts, block_at, local_at, assign_at, set_at, do_at, if_at, while_at, return_at, end_at, print_at, text_at}
-use Rattle.jn_size_laws.specs.Sizes.{total, class_size, expr_size, link_size, suffix_size, stmt_size, stmts_size}
+use Rattle.jn_agree.specs.Places.{Run, ClassCode, fixed, seen, CtorCode, ctor, bare, dropping, tuck, downs, up_by, operator, binding, ExprAt, at_number, at_truth, at_null, at_this, at_var, at_new, at_super, at_bare_super, at_post, at_not, at_neg, at_view, at_chain, ArgsAt, no_args, one_arg, PartsAt, no_parts, last_part, one_part, PartAt, at_field, at_call, LinksAt, no_links, one_link, one_deciding, StmtsAt, no_stmts, block_at, local_at, assign_at, set_at, do_at, if_at, while_at, return_at, end_at, print_at, text_at}
+use Rattle.jn_size_laws.specs.Sizes.{total, expr_size, link_size, suffix_size, stmts_size}
 use Rattle.jn_size_laws.proofs.Equations as size
 use Rattle.jn_size_laws.proofs.Terms.{names_counted, view_counted}
 
@@ -55,12 +49,12 @@ class_long n x xs (seen q k up is) =
     let u = up_long k in
     omega (arith, l, a, d, u)
 
-ctor_long : (n : Naming) (x : Atom) (count : ℕ) (xs : List Instr) → CtorCode n x count xs → length xs ≤ 1
+pub ctor_long : (n : Naming) (x : Atom) (count : ℕ) (xs : List Instr) → CtorCode n x count xs → length xs ≤ 1
 ctor_long n x count xs (ctor C P s shape names sel many void is) =
     let l = ap (λ (xs : List Instr). length xs) is in omega (arith, l)
 ctor_long n x count xs (bare none no_one is) = let l = ap (λ (xs : List Instr). length xs) is in omega (arith, l)
 
-dropped_long : (keeps : Bool) (k : ℕ) → length (dropping keeps k) ≤ 1
+pub dropped_long : (keeps : Bool) (k : ℕ) → length (dropping keeps k) ≤ 1
 dropped_long true k = omega arith
 dropped_long false zero = omega arith
 dropped_long false (suc k) = omega arith

@@ -6,3 +6,7 @@ pub mod Bytes
 pub mod NeedEquations
 pub mod Operands
 pub mod Arguments
+pub mod Files
+pub mod Apart
+pub mod Limits
+pub mod Locals

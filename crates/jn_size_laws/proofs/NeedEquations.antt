@@ -1,6 +1,6 @@
 -- What each form needs.
 use Rattle.std.specs.Prelude.{max}
-use Rattle.std.proofs.Common.{◌≡◌, ℕ, suc, ◌+◌, ℤ, Bool, List, [], ◌∷◌, length, map, refl, ap, ◌∙◌, Option, Some, None}
+use Rattle.std.proofs.Common.{◌≡◌, ℕ, suc, ◌+◌, ℤ, Bool, List, length, map, refl, ap, ◌∙◌, Option, Some, None}
 use Rattle.jn_base.specs.declared.tree.Name.{Name}
 use Rattle.jn_base.specs.declared.tree.Named.{Named}
 use Rattle.jn_base.specs.declared.tree.Place.{Place}
@@ -22,7 +22,7 @@ use Rattle.jn_base.specs.declared.tree.Stmt.TheFolds.{map-Stmt, fold_out-Stmt}
 use Rattle.jn_base.specs.declared.tree.Stmt.TheVariants as stmt
 use Rattle.jn_base.specs.declared.tree.Stmt.TheVariants.{outs-Block, outs-Local, outs-Assign, outs-Set, outs-Do, outs-If, outs-While, outs-Return, outs-Print, outs-PrintText}
 use Rattle.jn_base.specs.Parts.{expr, suffix, named}
-use Rattle.jn_size_laws.specs.Operands.{Needs, needs, most, highest, stacked, super_holds, link_holds, also, all_need, node_step, expr_step, link_step, suffix_step, node_needs, expr_needs, link_needs, suffix_needs, value_needs, stmt_step, stmt_needs, stmts_need}
+use Rattle.jn_size_laws.specs.Operands.{Needs, needs, most, highest, stacked, super_holds, link_holds, also, node_step, expr_step, link_step, suffix_step, node_needs, expr_needs, link_needs, suffix_needs, value_needs, stmt_step, stmt_needs, stmts_need}
 
 node_from : (n : Node) (f : Node-F Node Expr Link Suffix) → out-Node n ≡ f
     → node_needs n ≡ node_step (map-Node _ _ _ _ _ _ _ _ node_needs expr_needs link_needs suffix_needs f)

@@ -1,11 +1,8 @@
 -- How many operands the code of a form holds, by how many marks may still be opened around it.
 use Rattle.std.specs.Prelude.{max}
 use Rattle.std.proofs.Math.Nat.{max-le, le-max_left, le-max_right}
-use Rattle.std.proofs.Common.{◌≡◌, ℕ, zero, suc, ◌+◌, ◌*◌, ◌≤◌, List, [], ◌∷◌, ◌++◌, length, map, Option, Some, None, Bool, true, false, refl, sym, ap, ◌∙◌, subst, arith}
-use Rattle.jn_base.specs.declared.tree.Name.{Name}
+use Rattle.std.proofs.Common.{◌≡◌, ℕ, zero, suc, ◌+◌, ◌*◌, ◌≤◌, List, [], ◌∷◌, ◌++◌, length, map, Some, None, true, false, refl, sym, ap, subst, arith}
 use Rattle.jn_base.specs.declared.tree.Place.{Place}
-use Rattle.jn_base.specs.declared.tree.Term.{Term}
-use Rattle.jn_base.specs.declared.tree.ViewTerm.{ViewTerm}
 use Rattle.jn_base.specs.declared.tree.Level.{Level}
 use Rattle.jn_base.specs.declared.tree.Level.TheVariants as level
 use Rattle.jn_base.specs.declared.tree.Op.{Op}
@@ -15,13 +12,12 @@ use Rattle.jn_base.specs.declared.tree.Link.{Link}
 use Rattle.jn_base.specs.declared.tree.Suffix.{Suffix}
 use Rattle.jn_base.specs.declared.tree.Stmt.{Stmt}
 use Rattle.jn_base.specs.declared.word.Mark.{Mark}
-use Rattle.jn_base.specs.declared.word.Mark.TheVariants.{Bang, CloseBrace, CloseBracket, CloseParen, Comma, Dot, Equals, OpenBrace, OpenBracket, OpenParen, Semicolon}
-use Rattle.jn_base.specs.declared.word.Keyword.TheVariants.{Class}
-use Rattle.jn_base.specs.Parts.{Part, Local, key, mark, name, opening, new_name, link, suffix, posted, chained}
+use Rattle.jn_base.specs.declared.word.Mark.TheVariants.{CloseBrace, CloseBracket, CloseParen, Dot, Equals, OpenBrace, OpenParen, Semicolon}
+use Rattle.jn_base.specs.Parts.{Part, Local, mark, name, opening, new_name, link, posted, chained}
 use Rattle.jn_base.specs.GrammarExpr as g
 use Rattle.jn_base.specs.GrammarStmt as s
-use Rattle.jn_size_laws.specs.Operands.{Needs, needs, most, highest, stacked, super_holds, link_holds, also, all_need, expr_needs, link_needs, suffix_needs, stmt_needs, stmts_need}
-use Rattle.jn_size_laws.specs.LawsOfOperands.{Nests, NestsOne}
+use Rattle.jn_size_laws.specs.Operands.{Needs, most, highest, stacked, super_holds, link_holds, expr_needs, link_needs, suffix_needs, stmt_needs, stmts_need}
+use Rattle.jn_size_laws.specs.LawsOfOperands.{Nests}
 use Rattle.jn_size_laws.proofs.NeedEquations as size
 
 -- ---- the greater of two

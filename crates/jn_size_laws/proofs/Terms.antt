@@ -1,5 +1,5 @@
 -- The atom of a term has the names of the term.
-use Rattle.std.proofs.Common.{◌≡◌, ℕ, ◌+◌, ◌≤◌, List, [], ◌∷◌, ◌++◌, length, reverse, Bool, true, false, Option, Some, None, refl, sym, ap, ◌∙◌, subst, arith}
+use Rattle.std.proofs.Common.{◌≡◌, List, [], ◌∷◌, ◌++◌, length, reverse, Bool, true, false, Option, Some, None, sym, ap, ◌∙◌, subst, arith}
 use Rattle.std.specs.Prelude.{Result, Ok, Err}
 use Rattle.std.proofs.lemmas.List.{length-append, length-reverse}
 use Rattle.jn_base.specs.declared.tree.Name.{Name}
@@ -20,7 +20,7 @@ use Rattle.jn_base.specs.declared.refusal.Refusal.{Refusal}
 use Rattle.jn_base.specs.Paths.{Path}
 use Rattle.jn_base.specs.Atoms.{Atom, atom_of}
 use Rattle.jn_base.specs.Resolve.{Resolve, AtomGives, SuitGives, ClassGives, no_class, in_class, atom_with, suits, names_of, bound_at}
-use Rattle.jn_base.specs.ResolveTypes.{ResolveAll, none, refused, first, before_all, AtomsGive, DepthsGive, many, one, MasksGive, MaskedGives, UnfitGives, UnmaskedGives, Taken, ResolveView, bounds_at, may_mask, mask_names}
+use Rattle.jn_base.specs.ResolveTypes.{ResolveAll, refused, first, before_all, AtomsGive, DepthsGive, many, one, MasksGive, UnfitGives, UnmaskedGives, Taken, bounds_at, may_mask, mask_names}
 use Rattle.jn_sem.specs.Terms.{Site, TermIs, ViewIs, spot_at, vars_at}
 
 abbrev Answer : Type 0

@@ -1,25 +1,24 @@
 -- A form has at most four instructions for each of its tokens.
-use Rattle.std.proofs.Common.{◌≡◌, ℕ, zero, suc, ◌+◌, ◌*◌, ◌≤◌, List, [], ◌∷◌, ◌++◌, length, map, Option, Some, None, Bool, true, false, refl, sym, ap, ◌∙◌, subst, arith}
+use Rattle.std.proofs.Common.{◌≡◌, ℕ, suc, ◌+◌, ◌*◌, ◌≤◌, List, [], ◌∷◌, ◌++◌, length, map, Some, None, true, false, arith}
 use Rattle.std.proofs.lemmas.List.{length-append}
 use Rattle.jn_base.specs.declared.tree.Name.{Name}
 use Rattle.jn_base.specs.declared.tree.Place.{Place}
 use Rattle.jn_base.specs.declared.tree.Term.{Term}
 use Rattle.jn_base.specs.declared.tree.ViewTerm.{ViewTerm}
-use Rattle.jn_base.specs.declared.tree.TypeTerm.{TypeTerm}
 use Rattle.jn_base.specs.declared.tree.Level.{Level}
 use Rattle.jn_base.specs.declared.tree.Level.TheVariants as level
 use Rattle.jn_base.specs.declared.tree.Expr.{Expr}
 use Rattle.jn_base.specs.declared.tree.Link.{Link}
 use Rattle.jn_base.specs.declared.tree.Suffix.{Suffix}
 use Rattle.jn_base.specs.declared.tree.Stmt.{Stmt}
-use Rattle.jn_base.specs.declared.word.Mark.TheVariants.{Bang, CloseBrace, CloseBracket, CloseParen, Comma, Dot, Equals, OpenBrace, OpenBracket, OpenParen, Semicolon}
+use Rattle.jn_base.specs.declared.word.Mark.TheVariants.{Bang, CloseBrace, CloseBracket, CloseParen, Dot, Equals, OpenBrace, OpenBracket, OpenParen, Semicolon}
 use Rattle.jn_base.specs.declared.word.Keyword.TheVariants.{Class}
-use Rattle.jn_base.specs.Parts.{Part, Local, key, mark, name, opening, new_name, link, suffix, posted, chained}
+use Rattle.jn_base.specs.Parts.{Part, Local, key, mark, name, opening, new_name, link, posted, chained}
 use Rattle.jn_base.specs.Resolve.{names_of}
 use Rattle.jn_base.specs.GrammarTypes.{IsDotted, one_name, more_names, IsDots, no_dot, dot, IsNames, loose, exact, IsTail, no_tail, tail, IsTerm, plain, own, in_prefix, IsView, view}
 use Rattle.jn_base.specs.GrammarExpr as g
 use Rattle.jn_base.specs.GrammarStmt as s
-use Rattle.jn_size_laws.specs.Sizes.{total, class_size, expr_size, link_size, suffix_size, stmt_size, stmts_size}
+use Rattle.jn_size_laws.specs.Sizes.{total, expr_size, link_size, suffix_size, stmt_size, stmts_size}
 use Rattle.jn_size_laws.proofs.Equations as size
 
 -- ---- names of terms

@@ -1,5 +1,5 @@
 -- How many operands the codes of a program hold.
-use Rattle.std.specs.Prelude.{◌≡◌, ◌≤◌, ℕ, suc, ◌+◌, ◌*◌, List, [], ◌∷◌, length, Bool, Some, slice_get}
+use Rattle.std.specs.Prelude.{◌≡◌, ◌≤◌, ℕ, ◌+◌, ◌*◌, List, [], ◌∷◌, length, Bool, Some, slice_get}
 use Rattle.jn_base.specs.declared.tree.Expr.{Expr}
 use Rattle.jn_base.specs.declared.tree.Stmt.{Stmt}
 use Rattle.jn_base.specs.declared.tree.Place.{Place}

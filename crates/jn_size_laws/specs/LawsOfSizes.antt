@@ -1,5 +1,5 @@
 -- What the codes of a program take in a file, and how many operands they hold.
-use Rattle.std.specs.Prelude.{◌≡◌, ◌≤◌, ◌<◌, ℕ, suc, ◌+◌, ◌*◌, List, length, Bool}
+use Rattle.std.specs.Prelude.{◌≡◌, ◌≤◌, ℕ, suc, ◌+◌, ◌*◌, List, length, Bool}
 use Rattle.jn_base.specs.declared.tree.Expr.{Expr}
 use Rattle.jn_base.specs.declared.tree.Stmt.{Stmt}
 use Rattle.jn_base.specs.declared.tree.Member.TheVariants as member
@@ -14,6 +14,7 @@ use Rattle.jn_base.specs.GrammarDecl.{IsMember}
 use Rattle.jn_code.specs.declared.image.Code.{Code}
 use Rattle.jn_code.specs.SpellsFile as file
 use Rattle.jn_sem.specs.Terms.{Site}
+use Rattle.jn_sem.specs.Acts.{path_behind}
 use Rattle.jn_sem.specs.Does.{Body}
 use Rattle.jn_agree.specs.Naming.{Naming}
 use Rattle.jn_agree.specs.Places.{ExprAt, StmtsAt, BodyAt}
@@ -34,10 +35,22 @@ pub record TokensOf : Type 0 where
   pub expr : (d : ℕ) (q : Place) (w : List Part) (e : Expr) → IsExpr d q w e → expr_size e ≤ 4 * length w
   pub stmts : (d k m : ℕ) (w : List Part) (ss : List Stmt) → IsStmts d k w ss m → stmts_size ss ≤ 4 * length w
 
--- In every source the code of a method takes at most 64 bytes in a file for each token of it, where it has no more
--- further locals than the method has tokens, and three. (Each local of a body has a name there.)
+-- The code is no longer than its body allows: kinds of the receiver and the parameters, three instructions for the test
+-- of each parameter, those of the statements, and a return with its value. Its locals are those of the body, behind the
+-- parameters, and three more at most. (No more is asked of how it was made.)
+pub record Sized (b : Body) (code : Code) : Type 0 where
+  pub params : length code.params ≡ suc (length b.method.params)
+  pub instrs : length code.instrs ≤ 3 * length b.method.params + (stmts_size b.method.body + 2)
+  pub locals : length code.params + length code.locals ≤ path_behind b.method.body (length code.params) + 3
+
+-- So is a code that stands at the places of its body.
+abbrev pub BodiesSized : Type 0
+BodiesSized =
+    (p : Program) (n : Naming) (b : Body) (code : Code) → BodyAt p n b code
+    → length code.params + length code.locals ≤ path_behind b.method.body (length code.params) + 3 → Sized b code
+
+-- In every source the code of a method takes at most 64 bytes in a file for each token of it.
 abbrev pub CodesAreShort : Type 0
 CodesAreShort =
-    (p : Program) (n : Naming) (b : Body) (code : Code) (k : Kind) (d depth : ℕ) (w : List Part) (m : Member)
-    → BodyAt p n b code → m ≡ member.Body b.method → IsMember k d depth w m → length code.locals ≤ length w + 3
-    → length (file.code.spelled code) ≤ 64 * length w
+    (b : Body) (code : Code) (k : Kind) (d depth : ℕ) (w : List Part) (m : Member) → Sized b code
+    → m ≡ member.Body b.method → IsMember k d depth w m → length (file.code.spelled code) ≤ 64 * length w

@@ -2,7 +2,8 @@
 #![tactic(auto)]
 
 ghost use Rattle.jn_size_laws.specs.LawsOfOperands.{OperandsOf};
-ghost use Rattle.jn_size_laws.specs.LawsOfSizes.{PlacesFit, TokensOf, CodesAreShort};
+ghost use Rattle.jn_size_laws.specs.LawsOfFiles.{MethodsApart, FilesFit, FilesWithin};
+ghost use Rattle.jn_size_laws.specs.LawsOfSizes.{PlacesFit, TokensOf, BodiesSized, CodesAreShort};
 
 /// The places of a form have at most as many instructions as its size says.
 pub fn places_fit()
@@ -14,6 +15,11 @@ pub fn tokens_suffice()
     ensures { TokensOf }
 {}
 
+/// The code that stands at the places of a body is no longer than the body allows.
+pub fn bodies_sized()
+    ensures { BodiesSized }
+{}
+
 /// The code of a method takes at most 64 bytes in a file for each token of the method, in every source.
 pub fn codes_are_short()
     ensures { CodesAreShort }
@@ -22,4 +28,20 @@ pub fn codes_are_short()
 /// The code of a body holds fewer operands than an image may say, in every source that nests within the limit.
 pub fn operands_fit()
     ensures { OperandsOf }
+{}
+
+/// The methods of a source have words of their own, in the order of its bodies.
+pub fn methods_apart()
+    ensures { MethodsApart }
+{}
+
+/// A file of an image takes, beside its texts, at most 65 bytes for each token of its source, 8 for each entry and 512
+/// for each class.
+pub fn files_fit()
+    ensures { FilesFit }
+{}
+
+/// So it is within its limit, where its source is.
+pub fn files_within()
+    ensures { FilesWithin }
 {}

@@ -1,8 +1,8 @@
 -- The kinds of a whole body: the tests of its parameters, its statements, and its last return.
-use Rattle.std.proofs.Common.{◌≡◌, ℕ, zero, suc, ◌+◌, ◌<◌, ◌≤◌, List, [], ◌∷◌, ◌++◌, length, Option, Some, None, Bool, true, false, not, ◌&&◌, refl, sym, ap, ◌∙◌, subst, arith}
+use Rattle.std.proofs.Common.{◌≡◌, ℕ, zero, suc, ◌+◌, ◌≤◌, List, [], ◌∷◌, length, Option, Some, None, Bool, true, false, not, ◌&&◌, refl, sym, ap, ◌∙◌, subst, arith}
 use Rattle.std.specs.Prelude.{slice_get, pos, is_some}
 use Rattle.jn_base.specs.declared.names.Var.{Var}
-use Rattle.jn_base.specs.Atoms.{Among, first, later}
+use Rattle.jn_base.specs.Atoms.{first, later}
 use Rattle.jn_code.specs.declared.kind.OperandKind.{OperandKind}
 use Rattle.jn_code.specs.declared.kind.OperandKind.TheVariants as kind
 use Rattle.jn_code.specs.declared.instr.Instr.{Instr}
@@ -15,7 +15,7 @@ use Rattle.jn_code.specs.Valid.{all_suit}
 use Rattle.jn_agree.specs.Follows.{is_tested}
 use Rattle.jn_agree.specs.Spans.{Spans}
 use Rattle.jn_agree.specs.Places.{At, Run, testing, tests, last_return}
-use Rattle.jn_span_laws.specs.LawsOfSpans.{Passes, IsClosed}
+use Rattle.jn_span_laws.specs.LawsOfSpans.{Passes}
 use Rattle.jn_span_laws.specs.LawsOfForms.{TestedRefer, FormsOf}
 use Rattle.jn_span_laws.proofs.Spanned.{joined}
 use Rattle.jn_span_laws.proofs.Passed.{spanned_passes}

@@ -1,10 +1,8 @@
 -- The parts of single instructions, of classes, and of forms with jumps.
 use Rattle.std.proofs.Common.{◌≡◌, ℕ, zero, suc, ◌+◌, ◌<◌, ◌≤◌, List, [], ◌∷◌, ◌++◌, length, drop, Option, Some, None, Bool, true, false, ◌&&◌, refl, sym, ap, ◌∙◌, subst, arith, inl, inr, ◌⊎◌}
-use Rattle.std.specs.Prelude.{slice_get, nat_le, if◌then◌else◌}
+use Rattle.std.specs.Prelude.{slice_get, nat_le}
 use Rattle.std.proofs.lemmas.Bool.{cases_lt, le-leb, lt-ltb}
 use Rattle.std.proofs.lemmas.Option.{slice_get_within}
-use Rattle.jn_base.specs.declared.tree.Name.{Name}
-use Rattle.jn_base.specs.declared.types.Anchor.TheVariants.{Up}
 use Rattle.jn_base.specs.Paths.{Path}
 use Rattle.jn_base.specs.Atoms.{Atom}
 use Rattle.jn_code.specs.declared.kind.OperandKind.{OperandKind}

@@ -1,0 +1,2 @@
+pub mod ExprPlaces
+pub mod StmtPlaces
