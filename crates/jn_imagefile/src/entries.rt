@@ -3,6 +3,7 @@
 ghost use Rattle.std.specs.Prelude.{◌<◌, length};
 ghost use Rattle.jn_code.specs.Form.{ShapeInForm, GroupInForm, RowInForm, CodeInForm};
 ghost use Rattle.jn_code.specs.Spells.{MemberFits, MethodFits, FieldFits, OtherFits, RowFits, CodeFits};
+ghost use Rattle.jn_imagefile.specs.Gives.{Gives};
 ghost use Rattle.jn_code.specs.SpellsFile.{text, shape, group, member, method, field, other, row, code};
 
 use crate::bytes::{put_u8, put_u16, put_u32};
@@ -14,6 +15,7 @@ use crate::stop::Stop;
 use jn_code::{
     ClassRow, Code, FieldEntry, Group, MemberEntry, MethodEntry, OtherEntry, Shape, Text,
 };
+use sqlite_items::Items;
 use std::alloc::{AllocError, Global};
 
 impl Entry for MemberEntry {
@@ -175,6 +177,41 @@ impl Item for Group {
     }
 }
 
+/// A row of nothing, into which one is read.
+fn no_row(alloc: Global) -> ClassRow {
+    ClassRow {
+        up: 0,
+        family: 0,
+        group: 0,
+        members: Items::new(alloc),
+        methods: Items::new(alloc),
+        fields: Items::new(alloc),
+        others: Items::new(alloc),
+    }
+}
+
+/// Reads a row, and gives the bytes behind it.
+#[tactic(auto, unfolding(jn_code::specs::SpellsFile::row, jn_code::specs::SpellsFields::part, jn_code::specs::SpellsFields::last))]
+fn row_into<'a>(alloc: Global, out: &mut ClassRow, bytes: &'a [u8]) -> Result<&'a [u8], Stop>
+    ensures { Gives (λ rest. (out.new, rest.now)) result (row.read bytes.now) }
+{
+    let (up, rest) = u16_at(bytes)?;
+    let (family, rest) = u16_at(rest)?;
+    let (group, rest) = u16_at(rest)?;
+    out.up = up;
+    out.family = family;
+    out.group = group;
+    let (members, rest) = short_ordered_at(alloc, rest)?;
+    out.members = members;
+    let (methods, rest) = ordered_at(alloc, rest)?;
+    out.methods = methods;
+    let (fields, rest) = short_ordered_at(alloc, rest)?;
+    out.fields = fields;
+    let (others, rest) = short_ordered_at(alloc, rest)?;
+    out.others = others;
+    Ok(rest)
+}
+
 impl Item for ClassRow {
     ghost field = { row };
 
@@ -182,24 +219,9 @@ impl Item for ClassRow {
 
     ghost fits = { RowFits };
 
-    #[tactic(auto, unfolding(jn_code::specs::SpellsFile::row, jn_code::specs::SpellsFields::part, jn_code::specs::SpellsFields::last))]
     fn read(alloc: Global, bytes: &[u8]) -> Result<(ClassRow, &[u8]), Stop> {
-        let (up, rest) = u16_at(bytes)?;
-        let (family, rest) = u16_at(rest)?;
-        let (group, rest) = u16_at(rest)?;
-        let (members, rest) = short_ordered_at(alloc, rest)?;
-        let (methods, rest) = ordered_at(alloc, rest)?;
-        let (fields, rest) = short_ordered_at(alloc, rest)?;
-        let (others, rest) = short_ordered_at(alloc, rest)?;
-        let row = ClassRow {
-            up,
-            family,
-            group,
-            members,
-            methods,
-            fields,
-            others,
-        };
+        let mut row = no_row(alloc);
+        let rest = row_into(alloc, &mut row, bytes)?;
         Ok((row, rest))
     }
 
@@ -215,6 +237,36 @@ impl Item for ClassRow {
     }
 }
 
+/// A code of nothing, into which one is read.
+fn no_code(alloc: Global) -> Code {
+    Code {
+        params: Items::new(alloc),
+        result: 0,
+        locals: Items::new(alloc),
+        stack: 0,
+        instrs: Items::new(alloc),
+    }
+}
+
+/// Reads a code, and gives the bytes behind it.
+#[tactic(auto, unfolding(jn_code::specs::SpellsFile::code, jn_code::specs::SpellsFields::part, jn_code::specs::SpellsFields::last))]
+fn code_into<'a>(alloc: Global, out: &mut Code, bytes: &'a [u8]) -> Result<&'a [u8], Stop>
+    ensures { Gives (λ rest. (out.new, rest.now)) result (code.read bytes.now) }
+{
+    let (params, rest) = few_kinds_at(alloc, bytes, 16)?;
+    let further = 255 - params.len() as u8;
+    out.params = params;
+    let (result, rest) = kind_at(rest, 0, 3)?;
+    out.result = result;
+    let (locals, rest) = few_kinds_at(alloc, rest, further)?;
+    out.locals = locals;
+    let (stack, rest) = count_at(rest, 4096)?;
+    out.stack = stack;
+    let (instrs, rest) = list_at(alloc, rest)?;
+    out.instrs = instrs;
+    Ok(rest)
+}
+
 impl Item for Code {
     ghost field = { code };
 
@@ -222,21 +274,9 @@ impl Item for Code {
 
     ghost fits = { CodeFits };
 
-    #[tactic(auto, unfolding(jn_code::specs::SpellsFile::code, jn_code::specs::SpellsFields::part, jn_code::specs::SpellsFields::last))]
     fn read(alloc: Global, bytes: &[u8]) -> Result<(Code, &[u8]), Stop> {
-        let (params, rest) = few_kinds_at(alloc, bytes, 16)?;
-        let (result, rest) = kind_at(rest, 0, 3)?;
-        let further = 255 - params.len() as u8;
-        let (locals, rest) = few_kinds_at(alloc, rest, further)?;
-        let (stack, rest) = count_at(rest, 4096)?;
-        let (instrs, rest) = list_at(alloc, rest)?;
-        let code = Code {
-            params,
-            result,
-            locals,
-            stack,
-            instrs,
-        };
+        let mut code = no_code(alloc);
+        let rest = code_into(alloc, &mut code, bytes)?;
         Ok((code, rest))
     }
 

@@ -12,6 +12,7 @@ use crate::counted::{few_at, field_kinds_at, list_at, short_list_at};
 use crate::fields::u32_at;
 use crate::stop::Stop;
 use jn_code::{Image, ImageFault};
+use sqlite_items::Items;
 use std::alloc::Global;
 
 /// How many bytes a file has at most.
@@ -30,27 +31,47 @@ fn magic_at(bytes: &[u8]) -> Result<(u32, &[u8]), Stop>
     Ok((magic, rest))
 }
 
+/// An image of nothing, into which one is read.
+fn no_image(alloc: Global) -> Image {
+    Image {
+        texts: Items::new(alloc),
+        methods: Items::new(alloc),
+        fields: Items::new(alloc),
+        groups: Items::new(alloc),
+        classes: Items::new(alloc),
+        codes: Items::new(alloc),
+        start: 0,
+    }
+}
+
+/// Reads an image, and gives the bytes behind it.
 #[tactic(auto, unfolding(jn_code::specs::SpellsFile::file, jn_code::specs::SpellsFields::part, jn_code::specs::SpellsFields::last))]
-fn image_at(alloc: Global, bytes: &[u8]) -> Result<(Image, &[u8]), Stop>
-    ensures { Gives (λ x. (x.0, x.1.now)) result (file.read bytes.now) }
+fn image_into<'a>(alloc: Global, out: &mut Image, bytes: &'a [u8]) -> Result<&'a [u8], Stop>
+    ensures { Gives (λ rest. (out.new, rest.now)) result (file.read bytes.now) }
 {
     let (_, rest) = magic_at(bytes)?;
     let (texts, rest) = list_at(alloc, rest)?;
+    out.texts = texts;
     let (methods, rest) = list_at(alloc, rest)?;
+    out.methods = methods;
     let (fields, rest) = field_kinds_at(alloc, rest)?;
+    out.fields = fields;
     let (groups, rest) = short_list_at(alloc, rest)?;
+    out.groups = groups;
     let (classes, rest) = few_at(alloc, rest, 4096)?;
+    out.classes = classes;
     let (codes, rest) = list_at(alloc, rest)?;
+    out.codes = codes;
     let (start, rest) = u32_at(rest)?;
-    let image = Image {
-        texts,
-        methods,
-        fields,
-        groups,
-        classes,
-        codes,
-        start,
-    };
+    out.start = start;
+    Ok(rest)
+}
+
+fn image_at(alloc: Global, bytes: &[u8]) -> Result<(Image, &[u8]), Stop>
+    ensures { Gives (λ x. (x.0, x.1.now)) result (file.read bytes.now) }
+{
+    let mut image = no_image(alloc);
+    let rest = image_into(alloc, &mut image, bytes)?;
     Ok((image, rest))
 }
 

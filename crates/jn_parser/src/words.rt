@@ -101,18 +101,34 @@ fn mention(
     Ok(word)
 }
 
-/// The words of the tokens.
-fn mentioned(alloc: Global, bytes: &[u8], tokens: &[Token]) -> Result<Seen, AllocError>
-    requires within { length bytes.now ≤ 1_048_576 }
-    requires in_order { AreInOrder 0 tokens.now (length bytes.now) }
-    requires texts { HaveTexts bytes.now tokens.now }
-    ensures { IfOk result (λ m. AreSoFar bytes.now tokens.now m.words.items (map (λ k. k.items) m.names.keys) (map (λ k. k.items) m.texts.keys)) }
+/// No words yet.
+fn no_words(alloc: Global) -> Seen
+    ensures words { result.words.items ≡ [] }
+    ensures names { result.names.keys ≡ [] }
+    ensures texts { result.texts.keys ≡ [] }
 {
-    let mut seen = Seen {
+    Seen {
         words: Vec::new(alloc),
         names: IndexSet::new(alloc),
         texts: IndexSet::new(alloc),
-    };
+    }
+}
+
+/// Notes the words of the tokens, where none is noted yet.
+fn mentioned(
+    alloc: Global,
+    seen: &mut Seen,
+    bytes: &[u8],
+    tokens: &[Token],
+) -> Result<(), AllocError>
+    requires words { seen.old.words.items ≡ [] }
+    requires no_names { seen.old.names.keys ≡ [] }
+    requires no_texts { seen.old.texts.keys ≡ [] }
+    requires within { length bytes.now ≤ 1_048_576 }
+    requires in_order { AreInOrder 0 tokens.now (length bytes.now) }
+    requires texts { HaveTexts bytes.now tokens.now }
+    ensures { OnOk result (AreSoFar bytes.now tokens.now seen.new.words.items (map (λ k. k.items) seen.new.names.keys) (map (λ k. k.items) seen.new.texts.keys)) }
+{
     let mut place = Place { line: 1, column: 1 };
     let mut at = 0;
     let mut rest = tokens;
@@ -120,11 +136,11 @@ fn mentioned(alloc: Global, bytes: &[u8], tokens: &[Token]) -> Result<Seen, Allo
         let start = token.start as usize;
         place = moved(place, &bytes[at..start]);
         let text = &bytes[start..token.end as usize];
-        mention(alloc, &mut seen, token.kind, text, place)?;
+        mention(alloc, seen, token.kind, text, place)?;
         at = start;
         rest = after;
     }
-    Ok(seen)
+    Ok(())
 }
 
 /// What stands behind the tokens: the end of the file, or the first fault.
@@ -174,16 +190,24 @@ fn tables(
     Ok((names, texts))
 }
 
-/// The words of the tokens, and what stands behind them.
-fn all_words(alloc: Global, bytes: &[u8], scanned: &Scanned) -> Result<Seen, AllocError>
+/// Notes the words of the tokens, and what stands behind them, where none is noted yet.
+fn all_words(
+    alloc: Global,
+    seen: &mut Seen,
+    bytes: &[u8],
+    scanned: &Scanned,
+) -> Result<(), AllocError>
+    requires words { seen.old.words.items ≡ [] }
+    requires no_names { seen.old.names.keys ≡ [] }
+    requires no_texts { seen.old.texts.keys ≡ [] }
     requires within { length bytes.now ≤ 1_048_576 }
     requires lexed { TokensOf bytes.now scanned.now.tokens.items scanned.now.fault }
     requires in_order { AreInOrder 0 scanned.now.tokens.items (length bytes.now) }
-    ensures { IfOk result (λ m. AreWordsOf bytes.now (map (λ k. text k.items) m.names.keys) (map (λ k. text k.items) m.texts.keys) m.words.items) }
+    ensures { OnOk result (AreWordsOf bytes.now (map (λ k. text k.items) seen.new.names.keys) (map (λ k. text k.items) seen.new.texts.keys) seen.new.words.items) }
 {
-    let mut seen = mentioned(alloc, bytes, scanned.tokens.as_slice())?;
+    mentioned(alloc, seen, bytes, scanned.tokens.as_slice())?;
     seen.words.push(last_word(bytes, scanned.fault))?;
-    Ok(seen)
+    Ok(())
 }
 
 /// The words of a source, of which these are the tokens.
@@ -193,7 +217,8 @@ pub fn words(alloc: Global, bytes: &[u8], scanned: &Scanned) -> Result<Wording, 
     requires in_order { AreInOrder 0 scanned.now.tokens.items (length bytes.now) }
     ensures { IfOk result (λ w. AreWordsOf bytes.now w.names w.texts w.words.items) }
 {
-    let seen = all_words(alloc, bytes, scanned)?;
+    let mut seen = no_words(alloc);
+    all_words(alloc, &mut seen, bytes, scanned)?;
     let (names, texts) = tables(alloc, seen.names.as_slice(), seen.texts.as_slice())?;
     let Seen { words, .. } = seen;
     Ok(Wording {

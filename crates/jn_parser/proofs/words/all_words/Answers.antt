@@ -8,5 +8,5 @@ mentioned-requires-clause-texts c = rw c.as_slice.ensures.value (have_texts c.ar
 
 pub returns : goal.returns
 returns c =
-    words_are (λ (k : Vec ℕ Global). k.items) c.args.bytes.now c.args.scanned.now.tokens.items c.as_slice.result.now c.args.scanned.now.fault c.in_ok-seen.seen.words.items c.push.new.self.items c.last_word.result
-    c.in_ok-seen.seen.names.keys c.in_ok-seen.seen.texts.keys _ _ c.requires.lexed c.as_slice.ensures.value c.in_ok-seen.ensures c.last_word.ensures c.in_ok-push.ensures.items refl refl
+    words_are (λ (k : Vec ℕ Global). k.items) c.args.bytes.now c.args.scanned.now.tokens.items c.as_slice.result.now c.args.scanned.now.fault c.mentioned.new.seen.words.items c.push.new.self.items c.last_word.result
+    c.mentioned.new.seen.names.keys c.mentioned.new.seen.texts.keys _ _ c.requires.lexed c.as_slice.ensures.value c.in_ok-mentioned.ensures c.last_word.ensures c.in_ok-push.ensures.items refl refl

@@ -3,7 +3,7 @@ use Rattle.jn_parser.proofs.Mentioning.{mentioning_starts, order_here, names_few
 use Rattle.jn_parser.proofs.words.mentioned.Goals as goal
 
 pub token-init : goal.token-init
-token-init c = rw (c.new.ensures.items, c.new-2.ensures.empty, c.new-3.ensures.empty) (mentioning_starts c.args.bytes.now c.args.tokens.now c.requires.in_order c.requires.texts)
+token-init c = rw (c.requires.words, c.requires.no_names, c.requires.no_texts) (mentioning_starts c.args.bytes.now c.args.tokens.now c.requires.in_order c.requires.texts)
 
 pub slice_bounds-moved-end : goal.slice_bounds-moved-end
 slice_bounds-moved-end c =
