@@ -1,0 +1,5 @@
+pub mod Parts
+pub mod Jobs
+pub mod Command
+pub mod Views
+pub mod Examples
