@@ -84,3 +84,6 @@ BodiesTraced p i n m d b K =
     → EntryIs p i n e k → slice_get i.codes k ≡ Some c → Matches p i n x a → AreWords p n x.firsts (r ∷ args) words
     → MayEnter K e (r ∷ args) x.heap → (y : Then) → enters p e (r ∷ args) (idle e.method.result ∷ []) x.heap [] y
     → Traced p i n m d e.method.result y (running_code (machine.fresh k c words) a) b (paid e.vars)
+
+-- Example: of `void m() { print(1); }` two charges lead to its return, and so do INT 1, PRINTI, RET: three of the
+-- 2 * 32 + 8 instructions.

@@ -47,8 +47,7 @@ pub record AreLaid (p : Program) (n : Naming) (firsts : List First) (this : Valu
   pub are : LaidOut p n firsts this l vs ws
 
 -- Example: in `super[A].m(1, 2)`, once 2 is had, the words are those of 2, 1, and `this`; the layout is that of two
--- of the
--- frame's and of `this`, and the frame has 2 and 1.
+-- of the frame's and of `this`, and the frame has 2 and 1.
 
 -- the latest operand is the frame's, and l are those below it
 abbrev pub Takes : Layout → Layout → Type 0

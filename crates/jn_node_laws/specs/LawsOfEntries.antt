@@ -76,3 +76,6 @@ abbrev pub EntriesFollow : (K : Knows) (T : Type 0) → (T → Frame → Heap �
 EntriesFollow K T Stands =
     (p : Program) (i : Image) (n : Naming) (m code : ℕ) (it : Code) → slice_get i.codes code ≡ Some it
     → RowsAre p i n → EntriesOf p i n m K T Stands code it
+
+-- Example: `void m(final A a) { print(1); }` that is entered with null ends by LOAD 1, CHECK in Null, before anything
+-- is printed; entered with an object it goes on behind POP.

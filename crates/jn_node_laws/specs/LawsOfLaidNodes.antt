@@ -156,3 +156,6 @@ LaidNodesFollow K T Stands =
     (p : Program) (i : Image) (n : Naming) (m code : ℕ) (it : Code) (r : Frame) → slice_get i.codes code ≡ Some it →
     RowsAre p i n
     → LaidNodesOf p i n m K T Stands code it r
+
+-- Example: where 2 of `super.m(1, 2)` is made, the machine has two operands: 1, which is the frame's, and `this` below
+-- it, which is not. So the code of 2 is asked for the layout of_frame ∷ (of_this ∷ []).

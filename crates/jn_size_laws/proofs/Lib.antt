@@ -10,3 +10,4 @@ pub mod Files
 pub mod Apart
 pub mod Limits
 pub mod Locals
+pub mod Sources

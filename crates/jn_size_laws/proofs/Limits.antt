@@ -10,6 +10,8 @@ use Rattle.jn_base.specs.declared.tree.Member.TheVariants as member
 use Rattle.jn_base.specs.Parts.{Part}
 use Rattle.jn_base.specs.Paths.{Path}
 use Rattle.jn_code.specs.declared.instr.Instr.TheVariants as ins
+use Rattle.jn_base.specs.declared.tree.Text.{Text}
+use Rattle.jn_code.specs.declared.image.Text as image
 use Rattle.jn_code.specs.declared.image.ClassRow.{ClassRow}
 use Rattle.jn_code.specs.declared.image.Code.{Code}
 use Rattle.jn_code.specs.SpellsFile as file
@@ -18,12 +20,13 @@ use Rattle.jn_agree.specs.Naming.{Naming}
 use Rattle.jn_agree.specs.Rows.{RowIs}
 use Rattle.jn_agree.specs.Places.{StartAt, dropping}
 use Rattle.jn_size_laws.specs.Sizes.{total}
-use Rattle.jn_size_laws.specs.Files.{head_bytes}
+use Rattle.jn_size_laws.specs.Files.{text_bytes, head_bytes}
 use Rattle.jn_size_laws.specs.LawsOfFiles.{HasWords, FilesFit, FilesWithin}
 use Rattle.jn_size_laws.specs.LawsOfSizes.{Sized}
 use Rattle.jn_size_laws.proofs.Fits.{run_long, ctor_long, dropped_long}
 use Rattle.jn_size_laws.proofs.Bytes.{code_long, codes_short, head_short}
 use Rattle.jn_size_laws.proofs.Files.{file_long}
+use Rattle.jn_size_laws.proofs.Sources.{takes, counted}
 use Rattle.jn_size_laws.proofs.Apart.{methods_apart}
 
 abbrev lengths : List (List Part) → ℕ
@@ -107,8 +110,27 @@ files_fit p i n w t is tokens rows form sized =
         has_last (c ∷ cs) zero e = (c, refl)
         has_last (c ∷ cs) (suc k) e = has_last cs k (omega (arith, e))
 
+-- the image's texts are the program's
+abbrev of_bytes : List ℕ → ℕ
+of_bytes bytes = 4 + length bytes
+
+image_texts : (ts : List image.Text) →
+    total (map text_bytes ts) ≡ total (map of_bytes (map (λ (t : image.Text). t.bytes) ts))
+image_texts [] = refl
+image_texts (t ∷ ts) = let r = image_texts ts in omega (arith, r)
+
+tree_texts : (ts : List Text) → total (map takes ts) ≡ total (map of_bytes (map (λ (t : Text). t.bytes) ts))
+tree_texts [] = refl
+tree_texts (t ∷ ts) = let r = tree_texts ts in omega (arith, r)
+
 pub files_within : FilesWithin
-files_within p i n w t is tokens rows form sized many entries texts =
-    let fits = files_fit p i n w t is tokens rows form sized in
+files_within p bytes i n spells short rows form sized entries =
+    let count = counted p bytes spells in
+    let few = count.few in
+    let texts = count.texts in
+    let fits = files_fit p i n spells.parts count.tokens spells.is_program count.are rows form sized in
     let classes = form.classes_count in
-    omega (arith, fits, classes, many, entries, texts)
+    let a = image_texts i.texts in
+    let b = tree_texts p.texts in
+    let same = ap (λ (xs : List (List ℕ)). total (map of_bytes xs)) rows.texts in
+    omega (arith, fits, classes, short, few, texts, entries, a, b, same)

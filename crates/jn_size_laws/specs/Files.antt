@@ -52,3 +52,6 @@ fields_in = fold-Decl ℕ ℕ member_fields decl_fields
 
 abbrev pub fields_of : Program → ℕ
 fields_of p = total (map fields_in p.decls)
+
+-- Example: `class A { int x; void m(int y) { } }` declares one field; and its method's selector takes three bytes, with
+-- the kinds of y and of no result behind the count of one parameter.

@@ -5,6 +5,7 @@ use Rattle.jn_base.specs.declared.tree.Member.TheVariants as member
 use Rattle.jn_base.specs.declared.tree.Kind.{Kind}
 use Rattle.jn_base.specs.declared.tree.Program.{Program}
 use Rattle.jn_base.specs.Parts.{Part}
+use Rattle.jn_base.specs.Spelling.{SourceSpells, greatest_source}
 use Rattle.jn_base.specs.GrammarDecl.{IsMember, IsProgram}
 use Rattle.jn_code.specs.declared.image.Image.{Image}
 use Rattle.jn_code.specs.declared.image.Code.{Code}
@@ -46,10 +47,8 @@ FilesFit =
     → RowsAre p i n → InForm i → ImageSized p i n
     → length (file_of i) ≤ texts_take i + (65 * t + (8 * all_entries i + 512 * length i.classes))
 
--- So where the source has at most 1,048,576 tokens and entries, and texts that take no more than five bytes for each of
--- its 1,048,576, the file is within its limit.
+-- So for each source within its limit, with no more than 1,048,576 entries, the file is within its limit.
 abbrev pub FilesWithin : Type 0
 FilesWithin =
-    (p : Program) (i : Image) (n : Naming) (w : List Part) (t : ℕ) → IsProgram w p.decls → length w ≡ suc t
-    → RowsAre p i n → InForm i → ImageSized p i n
-    → t ≤ 1048576 → all_entries i ≤ 1048576 → texts_take i ≤ 5242880 → length (file_of i) ≤ limit
+    (p : Program) (bytes : List ℕ) (i : Image) (n : Naming) → SourceSpells p bytes → length bytes ≤ greatest_source
+    → RowsAre p i n → InForm i → ImageSized p i n → all_entries i ≤ 1048576 → length (file_of i) ≤ limit

@@ -54,3 +54,6 @@ abbrev pub CodesAreShort : Type 0
 CodesAreShort =
     (b : Body) (code : Code) (k : Kind) (d depth : ℕ) (w : List Part) (m : Member) → Sized b code
     → m ≡ member.Body b.method → IsMember k d depth w m → length (file.code.spelled code) ≤ 64 * length w
+
+-- Example: the code of `int m(final A a) { return 1; }` has LOAD 1, CHECK, POP, INT 1, RETV, and INT 0, RETV behind its
+-- end: seven instructions, and 3 * 1 + (2 + 2) are allowed. Its method has 12 tokens, so it takes at most 768 bytes.

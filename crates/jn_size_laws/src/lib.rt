@@ -41,7 +41,7 @@ pub fn files_fit()
     ensures { FilesFit }
 {}
 
-/// So it is within its limit, where its source is.
+/// So for each source within its limits it is within its limit.
 pub fn files_within()
     ensures { FilesWithin }
 {}

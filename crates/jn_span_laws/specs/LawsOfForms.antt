@@ -60,3 +60,6 @@ pub record FormsOf (i : Image) (c : Code) : Type 0 where
 
 abbrev pub FormsSpan : Type 0
 FormsSpan = (i : Image) (c : Code) → FormsOf i c
+
+-- Example: `if (b) { x = 1; }` is LOAD, JFALSE t, INT 1, STORE, JUMP t: from no operands to none, where its condition
+-- is a part from none to a truth value and its block one from none to none.
