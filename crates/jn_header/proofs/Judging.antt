@@ -1,15 +1,14 @@
 -- The steps of the verdict of headers, put together.
-use Rattle.std.proofs.Common.{◌≡◌, List, [], ◌∷◌, refl, sym, ap, ◌∙◌, subst}
+use Rattle.std.proofs.Common.{◌≡◌, List, [], sym, subst, ◌∙◌}
 use Rattle.std.specs.Prelude.{Result, Ok, Err, Option, Some, None}
 use Rattle.jn_base.specs.declared.tree.Program.{Program}
 use Rattle.jn_base.specs.declared.path.Path.{Path as ShownPath}
 use Rattle.jn_base.specs.declared.refusal.Refusal.{Refusal}
-use Rattle.jn_base.specs.Paths.{Path}
 use Rattle.jn_base.specs.declared.tree.Name.{Name}
 use Rattle.jn_base.specs.ResolveTypes.{mask_names}
 use Rattle.jn_base.specs.Duplicates.{duplicates}
 use Rattle.jn_base.specs.ProgramNames.{IsNamed}
-use Rattle.jn_base.specs.TableRules.{NoneIs, DeclarationsPass, TablePasses, TableRefuses}
+use Rattle.jn_base.specs.TableRules.{TablePasses}
 use Rattle.jn_base.specs.WithinLimits.{IsWithinLimits}
 use Rattle.jn_table.specs.declared.field_types.FieldTypes.{FieldTypes}
 use Rattle.jn_table.specs.declared.table.Table.{Table}
@@ -17,7 +16,7 @@ use Rattle.jn_table.specs.Tables.{IsFilled}
 use Rattle.jn_names.specs.FieldTypes.{AllFieldsGive, FieldsTold}
 use Rattle.jn_names.specs.declared.fault.NameFault.{NameFault}
 use Rattle.jn_names.specs.declared.fault.NameFault.TheVariants as names
-use Rattle.jn_sem.specs.LawsOfSlots.{OnePlaceEach, FieldsPass}
+use Rattle.jn_sem.specs.LawsOfSlots.{OnePlaceEach}
 use Rattle.jn_sem.proofs.FieldAnchors.{fields_pass}
 use Rattle.jn_laws.proofs.StoredValues.{same_path}
 use Rattle.jn_laws.proofs.PlacesAside.{programs_within_limits}
@@ -28,14 +27,13 @@ use Rattle.jn_heads.specs.Told.{Told, itself, of_names}
 use Rattle.jn_rules.specs.Plans.{Nothing}
 use Rattle.jn_rules.specs.Questions.{Gives}
 use Rattle.jn_rules.specs.Headers.{header_plan}
-use Rattle.jn_rules.specs.Members.{bad_field, BadClass}
+use Rattle.jn_rules.specs.Members.{bad_field}
 use Rattle.jn_rules.specs.Verdict.{TypesPass, MembersPass, LimitsPass, HeadersPass, HeadersRefuse, table, headers, members, constraints, HeadersVerdict}
 use Rattle.jn_rule_laws.proofs.Declared.{headers_that_pass}
 use Rattle.jn_rule_laws.proofs.Verdicts.{one_headers}
 use Rattle.jn_share.specs.declared.fault.ShareFault.{ShareFault}
 use Rattle.jn_share.specs.declared.fault.ShareFault.TheVariants as share
 use Rattle.jn_share.specs.declared.groups.Groups.{Groups}
-use Rattle.jn_share.specs.declared.slots.Slots.{Slots}
 use Rattle.jn_share.specs.Groups.{AreGroups, GroupsGive}
 use Rattle.jn_share.specs.Slots.{AreFieldTypes, SlotsAsked, SlotsGive}
 use Rattle.jn_header.specs.declared.judge.Headers.{Headers}
@@ -43,11 +41,12 @@ use Rattle.jn_header.specs.Bodies.{OrMemory, IsJudged}
 use Rattle.jn_header.specs.Check.{TableVerdict}
 use Rattle.jn_header.specs.Classes.{OrRefused, IsFirstRefused, FirstRefusedIs}
 use Rattle.jn_header.specs.Constraints.{IsFirstFailing, FirstFailingIs}
-use Rattle.jn_header.specs.Judged.{AreParts, PartsPass, nothing}
+use Rattle.jn_header.specs.Judged.{PartsPass, nothing}
 use Rattle.jn_header.specs.Shared.{of_share}
 use Rattle.jn_header.proofs.Listings.{no_refusal}
-use Rattle.jn_header.proofs.FieldTypes.{types_are, no_type_refused}
-use Rattle.jn_header.proofs.Limits.{limits_refuse}
+use Rattle.jn_header.proofs.FieldTypes.{no_type_refused}
+use Rattle.jn_share_laws.proofs.Fitting.{fit}
+use Rattle.jn_share_laws.proofs.Limited.{limits_agree}
 
 -- ---- faults handed on
 
@@ -90,12 +89,12 @@ types_memory p T t m f g e h = subst (λ (c : CheckFault). OrMemory T (Err c)) (
   of names.Memory k = tt
 
 pub types_there : (p : Program) (t : Table) (types : FieldTypes) → FieldsTold (AllFieldsGive p t) (Ok types) → AreFieldTypes p t.known.items types.list.items
-types_there p t types h = types_are p t.known.items types.list.items h
+types_there p t types h = fit p t types.list.items h
 
 pub slots_refused : {A : Type 0} (p : Program) (T : A → Type 0) (known : List ShownPath) → MembersPass p → (f : ShareFault) (g : CheckFault) → g ≡ of_share f → SlotsGive p known (Err f) → OrRefused p T (Err g)
 slots_refused p T known m f g e h = subst (λ (c : CheckFault). OrRefused p T (Err c)) (sym e) (of f h) where
   of : (f : ShareFault) → SlotsGive p known (Err f) → OrRefused p T (Err (of_share f))
-  of (share.Refused r) k = limits_refuse p m r k
+  of (share.Refused r) k = (limits_agree p m).refused r k
   of share.Memory k = tt
 
 one_place : (p : Program) → MembersPass p → OnePlaceEach p

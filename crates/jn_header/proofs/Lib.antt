@@ -13,7 +13,6 @@ pub mod Failing
 pub mod FieldTypes
 pub mod Finding
 pub mod Judging
-pub mod Limits
 pub mod Listings
 pub mod MethodNames
 pub mod Numbers

@@ -5,12 +5,10 @@ use Rattle.jn_base.specs.declared.tree.Named.{Named}
 use Rattle.jn_base.specs.declared.refusal.Refusal.{Refusal}
 use Rattle.jn_base.specs.declared.refusal.Rule.{Rule}
 use Rattle.jn_base.specs.Paths.{Path, shown}
-use Rattle.jn_sem.specs.NotFamily.{Listing, adapting, sharing, in_list}
+use Rattle.jn_sem.specs.NotFamily.{Listing, in_list}
 use Rattle.jn_rules.specs.Plans.{Plan, Nothing}
 use Rattle.jn_rules.specs.Headers.{listed_asked}
 use Rattle.jn_heads.specs.declared.fault.CheckFault.{CheckFault}
-use Rattle.jn_header.specs.declared.listed.InList.{InList}
-use Rattle.jn_header.specs.declared.listed.InList.TheVariants as list
 use Rattle.jn_heads.specs.declared.fault.CheckFault.TheVariants.{Refused, Memory}
 
 -- the path is one of a declaration
@@ -30,7 +28,3 @@ at_listed R name rule member = record { rule = rule; at = name.at; class = Some 
 abbrev pub IsListedFault : Path → Named → Rule → Option Name → CheckFault → Type 0
 IsListedFault R name rule member (Refused r) = r ≡ at_listed R name rule member
 IsListedFault R name rule member Memory = Unit {0}
-
-abbrev pub listing_of : InList → Listing
-listing_of list.Adapts = adapting
-listing_of list.Shares = sharing

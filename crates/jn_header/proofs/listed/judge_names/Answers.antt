@@ -1,5 +1,6 @@
 use Rattle.std.proofs.Common.{rules}
-use Rattle.jn_header.specs.Listed.{listing_of, of_list}
+use Rattle.jn_share.specs.Listing.{listing_of}
+use Rattle.jn_header.specs.Listed.{of_list}
 use Rattle.jn_heads.proofs.Turns.{turns_start, turns_more_at, turns_fail_at, turns_done}
 use Rattle.jn_header.proofs.listed.judge_names.Goals as goal
 

@@ -1,6 +1,7 @@
 use Rattle.jn_base.specs.declared.tree.Program.{Program}
 use Rattle.jn_table.specs.Tables.{IsFilled}
-use Rattle.jn_header.specs.Listed.{HasName, listing_of, of_list}
+use Rattle.jn_share.specs.Listing.{listing_of}
+use Rattle.jn_header.specs.Listed.{HasName, of_list}
 use Rattle.jn_heads.proofs.Turns.{TurnsFrom}
 use Rattle.jn_header.proofs.listed.judge_names.Given as goal
 

@@ -1,12 +1,12 @@
 use Rattle.jn_rules.specs.Plans.{Nothing}
 use Rattle.jn_header.proofs.Judging.{slots_refused}
-use Rattle.jn_header.proofs.Limits.{limits_pass}
+use Rattle.jn_share_laws.proofs.Limited.{limits_agree}
 use Rattle.jn_header.proofs.shared.slots_of.Goals as goal
 
 pub returns-in-Ok : goal.returns-in-Ok
 returns-in-Ok c =
     let h = c.in-Ok.ensures.gives c.args.p.now c.requires.asked in
-    (limits_pass c.args.p.now c.requires.members h.0, h.1)
+    ((limits_agree c.args.p.now c.requires.members).passes h.0, h.1)
 
 pub returns-in-Err : goal.returns-in-Err
 returns-in-Err c =
