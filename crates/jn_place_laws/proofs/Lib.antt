@@ -23,3 +23,7 @@ pub mod NewTerms
 pub mod Made
 pub mod News
 pub mod Others
+pub mod Declared
+pub mod Begins
+pub mod Start
+pub mod Images

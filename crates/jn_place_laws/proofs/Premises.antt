@@ -1,5 +1,5 @@
--- What the induction over places takes from elsewhere: what the rules' typing gives of each expression and statement of a
--- body, the forms whose acts have no rule or no node yet, and the tests of final parameters.
+-- What the induction over places takes for itself: what the rules' typing gives of each expression and statement of a
+-- body, and how `new`, `super` and views go, which the files of their own show.
 use Rattle.std.specs.Prelude.{◌≡◌, ◌≤◌, ◌<◌, ℕ, List, [], ◌∷◌, ◌++◌, length, Bool, true, Some, Ok, slice_get}
 use Rattle.jn_base.specs.declared.tree.Name.{Name}
 use Rattle.jn_base.specs.declared.tree.Named.{Named}
@@ -62,7 +62,7 @@ module _ (p : Program) (i : Image) (n : Naming) (m : ℕ) (code : ℕ) (it : Cod
       (typed_args (at_vars p i n m code it r hd vs) es) (q ∷ qs) sc) (Ok passed)
       → ArgsGo p i n m code it r hd vs d c xs es sc q qs passed s t
 
-  -- THE FORMS THAT ARE LEFT: each goes where its parts do.
+  -- The forms that are shown apart: each goes where its parts do.
   pub record OtherForms : Type 0 where
     pub new : (vs : List Var) (sc : Scope) (keeps : Bool) (pl : Place) (t : Term) (es : List Expr) (x : Atom)
         (cls ctor : List Instr) (s l e : ℕ) (y : Typed) → ExprIn body (expr pl (node.New t es))
