@@ -1,0 +1,15 @@
+pub mod Leading
+pub mod Scopes
+pub mod Fitting
+pub mod Naming
+pub mod Masking
+pub mod Finding
+pub mod Typing
+pub mod Closing
+pub mod Shared
+pub mod Granting
+pub mod Viewing
+pub mod FieldSteps
+pub mod CallSteps
+pub mod Making
+pub mod NewSteps

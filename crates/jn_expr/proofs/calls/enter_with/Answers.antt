@@ -1,0 +1,11 @@
+use Rattle.jn_expr.proofs.Scopes.{scope_stays}
+use Rattle.jn_expr.proofs.CallSteps.{begun}
+use Rattle.jn_expr.proofs.calls.enter_with.Goals as goal
+
+pub path_of-requires-clause-scope : goal.path_of-requires-clause-scope
+path_of-requires-clause-scope c = scope_stays c.requires.scope c.enter.ensures.stays.pool
+
+pub returns-in_ok-call-in-Ok-clause-call : goal.returns-in_ok-call-in-Ok-clause-call
+returns-in_ok-call-in-Ok-clause-call c =
+    begun c.args.env.now.pool c.enter.new.env.pool c.args.scope.now c.path_of.new.scope c.args.x.ty c.args.x.path c.in_ok-path-in-Ok.path c.in-Ok.header c.in_ok-call-in-Ok.call
+    c.requires.scope c.requires.number c.enter.ensures.stays.pool c.in-Ok.ensures.number c.in_ok-path-in-Ok.ensures c.in_ok-call-in-Ok.ensures

@@ -1,0 +1,55 @@
+use Rattle.std.proofs.Common.{◌∙◌, refl, false, true}
+use Rattle.jn_intern.specs.Pools.{scope_in, shown}
+use Rattle.jn_intern.proofs.Pools.{keeps_more, scope_kept}
+use Rattle.jn_rules.specs.Exprs.{put_in}
+use Rattle.jn_expr.specs.Envs.{here_at}
+use Rattle.jn_expr.specs.Values.{typed_in}
+use Rattle.jn_expr.proofs.Scopes.{scope_stays}
+use Rattle.jn_expr.proofs.CallSteps.{below_at, arg_refused, arg_told, arg_path}
+use Rattle.jn_expr.proofs.calls.pass_arg.Goals as goal
+
+pub below-requires-clause-scope : goal.below-requires-clause-scope
+below-requires-clause-scope c = scope_stays c.requires.scope c.in_ok-want.ensures.keeps
+
+pub path_of-requires-clause-scope : goal.path_of-requires-clause-scope
+path_of-requires-clause-scope c = scope_stays c.requires.scope (keeps_more c.in_ok-want.ensures.keeps c.below.ensures.keeps)
+
+pub returns-in_err-below-clause-stays : goal.returns-in_err-below-clause-stays
+returns-in_err-below-clause-stays c = record { same = refl; pool = keeps_more c.in_ok-want.ensures.keeps c.below.ensures.keeps }
+
+pub returns-then-not-branch-clause-stays : goal.returns-then-not-branch-clause-stays
+returns-then-not-branch-clause-stays c = record { same = refl; pool = keeps_more c.in_ok-want.ensures.keeps c.below.ensures.keeps }
+
+pub returns-in_err-path-clause-stays : goal.returns-in_err-path-clause-stays
+returns-in_err-path-clause-stays c = record { same = refl; pool = keeps_more c.in_ok-want.ensures.keeps c.below.ensures.keeps }
+
+pub returns-in_err-push-clause-stays : goal.returns-in_err-push-clause-stays
+returns-in_err-push-clause-stays c = record { same = refl; pool = keeps_more c.in_ok-want.ensures.keeps c.below.ensures.keeps }
+
+pub returns-clause-stays : goal.returns-clause-stays
+returns-clause-stays c = record { same = refl; pool = keeps_more c.in_ok-want.ensures.keeps c.below.ensures.keeps }
+
+pub returns-then-not-branch-clause-told : goal.returns-then-not-branch-clause-told
+returns-then-not-branch-clause-told c = λ p x go filled e.
+    arg_refused p (here_at c.args.class.now c.args.m.now c.args.env.now.vars.list) c.args.call.now.from.items x c.args.place (typed_in c.args.env.now.pool c.args.scope.now c.args.v)
+    c.args.call.now.paths.items go c.args.env.now.marks {B = Unit {0}}
+    (below_at p (scope_in c.wanted.new.pool c.args.scope.now) (scope_in c.args.env.now.pool c.args.scope.now) (shown c.wanted.new.pool c.args.v.ty) (shown c.args.env.now.pool c.args.v.ty)
+    (shown c.wanted.new.pool c.in_ok-want.want) (put_in (scope_in c.args.env.now.pool c.args.scope.now) c.args.call.now.from.items c.args.call.now.paths.items x.ty)
+    c.in_ok-below.field-0 false (scope_kept c.args.scope.now c.requires.scope.known c.in_ok-want.ensures.keeps) (c.in_ok-want.ensures.keeps.shows c.args.v.ty c.requires.number)
+    (c.in_ok-want.ensures.is x e).shows c.if-not-branch.true (c.in_ok-below.ensures.below p filled))
+    c.refused.result c.refused.ensures (λ u. go c.args.call.now.paths.items (scope_in c.below.new.pool c.args.scope.now)) c.args.env.now.marks
+
+pub returns-clause-told : goal.returns-clause-told
+returns-clause-told c = λ p x go filled e.
+    arg_told p (here_at c.args.class.now c.args.m.now c.args.env.now.vars.list) c.args.call.now.from.items x c.args.place (typed_in c.args.env.now.pool c.args.scope.now c.args.v)
+    c.args.call.now.paths.items go c.args.env.now.marks
+    (below_at p (scope_in c.wanted.new.pool c.args.scope.now) (scope_in c.args.env.now.pool c.args.scope.now) (shown c.wanted.new.pool c.args.v.ty) (shown c.args.env.now.pool c.args.v.ty)
+    (shown c.wanted.new.pool c.in_ok-want.want) (put_in (scope_in c.args.env.now.pool c.args.scope.now) c.args.call.now.from.items c.args.call.now.paths.items x.ty)
+    c.in_ok-below.field-0 true (scope_kept c.args.scope.now c.requires.scope.known c.in_ok-want.ensures.keeps) (c.in_ok-want.ensures.keeps.shows c.args.v.ty c.requires.number)
+    (c.in_ok-want.ensures.is x e).shows c.if-not-branch.false (c.in_ok-below.ensures.below p filled))
+    c.in_ok-path.path (scope_in c.below.new.pool c.path_of.new.scope) c.push.new.self.items
+    (arg_path c.args.env.now.pool c.below.new.pool c.args.scope.now c.path_of.new.scope c.args.v.ty c.type_passed-passed.result c.in_ok-want.want
+    (put_in (scope_in c.args.env.now.pool c.args.scope.now) c.args.call.now.from.items c.args.call.now.paths.items x.ty) c.args.v.path c.in_ok-path.path
+    c.requires.scope c.requires.number (keeps_more c.in_ok-want.ensures.keeps c.below.ensures.keeps) c.type_passed-passed.ensures.is
+    (c.below.ensures.keeps.shows c.in_ok-want.want c.in_ok-want.ensures.number ∙ (c.in_ok-want.ensures.is x e).shows) c.in_ok-path.ensures)
+    c.in_ok-push.ensures.items

@@ -1,0 +1,12 @@
+use Rattle.std.proofs.Common.{sym, ap, ◌∙◌}
+use Rattle.jn_rules.specs.Exprs.{is_int}
+use Rattle.jn_expr.specs.Envs.{here_at}
+use Rattle.jn_expr.specs.Values.{typed_in}
+use Rattle.jn_expr.proofs.Typing.{negated_told}
+use Rattle.jn_expr.proofs.operators.negate.Goals as goal
+
+pub returns-clause-told : goal.returns-clause-told
+returns-clause-told c = λ p.
+    negated_told p (typed_in c.plain.new.env.pool c.args.scope.now) c.args.env.now.marks c.plain.new.env.marks c.plain.result
+    (here_at c.args.class.now c.args.m.now c.args.env.now.vars.list) c.args.at (typed_in c.args.env.now.pool c.args.scope.now c.args.x)
+    (sym (ap is_int c.show.ensures) ∙ (sym c.is_int.ensures ∙ c.if-not-is_int.false)) (c.plain.ensures.told p)

@@ -1,0 +1,14 @@
+pub mod Envs
+pub mod Passing
+pub mod Told
+pub mod Values
+pub mod Variables
+pub mod Fitting
+pub mod Found
+pub mod Masking
+pub mod Steps
+pub mod Closed
+pub mod Granting
+pub mod Viewing
+pub mod Calling
+pub mod Making

@@ -1,0 +1,35 @@
+-- What an expression has, by numbers of a pool.
+use Rattle.std.specs.Prelude.{◌≡◌, List, [], ◌∷◌, Option, Some, None}
+use Rattle.jn_base.specs.declared.types.Ty.{Ty}
+use Rattle.jn_base.specs.declared.types.ValKind.{ValKind}
+use Rattle.jn_intern.specs.declared.pool.TyId.{TyId}
+use Rattle.jn_intern.specs.declared.scope.Scope.{Scope}
+use Rattle.jn_intern.specs.Pools.{InPool, shown, scope_in}
+use Rattle.jn_rules.specs.Plans.{Mark, KindMark}
+use Rattle.jn_rules.specs.Exprs.{Typed, kind_of}
+use Rattle.jn_expr.specs.declared.env.Env.{Env}
+use Rattle.jn_expr.specs.declared.env.Value.{Value}
+use Rattle.jn_expr.specs.Envs.{IsScope}
+use Rattle.jn_expr.specs.Passing.{Grows}
+use Rattle.jn_expr.specs.Told.{Adds}
+
+-- a type, a path and a scope, as the rules have them
+abbrev pub typed_in : List Ty → Scope → Value → Typed
+typed_in pool scope v = record { ty = shown pool v.ty; path = v.path; scope = scope_in pool scope }
+
+-- the number of the value is in the pool; the scope has grown, and still fits
+pub record IsValue (pool : List Ty) (old new : Scope) (v : Value) : Type 0 where
+  pub scope : IsScope pool new
+  pub number : InPool pool v.ty
+  pub grows : Grows old new
+
+-- the kind of a value of the type, where it has one
+abbrev pub kind_marks : Option ValKind → List Mark
+kind_marks None = []
+kind_marks (Some k) = KindMark k ∷ []
+
+-- the number shows the type, and its kind is noted
+pub record IsProduced (t : Ty) (old new : Env) (id : TyId) : Type 0 where
+  pub number : InPool new.pool id
+  pub shows : shown new.pool id ≡ t
+  pub added : Adds (kind_marks (kind_of t)) old.marks new.marks

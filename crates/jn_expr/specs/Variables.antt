@@ -1,0 +1,22 @@
+-- What a variable is known by.
+use Rattle.std.specs.Prelude.{◌≡◌, ◌&&◌, cond, Option, Some, None}
+use Rattle.jn_base.specs.declared.names.Var.{Var}
+use Rattle.jn_base.specs.Resolve.{is_class}
+use Rattle.jn_base.specs.Scopes.{Scope}
+use Rattle.jn_rules.specs.Exprs.{Typed, of_path, plain}
+use Rattle.jn_expr.specs.declared.values.Known.{Known}
+
+pub record IsKnown (v : Var) (k : Known) : Type 0 where
+  pub path : k.path ≡ v.path
+  pub is_path : k.is_path ≡ (v.fixed && is_class v.ty)
+  pub ty : k.ty ≡ v.ty
+
+abbrev pub KnownIs : Option Var → Option Known → Type 0
+KnownIs None None = Unit {0}
+KnownIs None (Some k) = ⊥
+KnownIs (Some v) None = ⊥
+KnownIs (Some v) (Some k) = IsKnown v k
+
+-- what an expression has that is the variable
+abbrev pub known_typed : Known → Scope → Typed
+known_typed k s = cond k.is_path (of_path k.path s) (plain k.ty s)

@@ -1,0 +1,13 @@
+pub mod Gathering
+pub mod Ordered
+pub mod KinProof
+pub mod PartProof
+pub mod Adding
+pub mod BodiesFound
+pub mod KindLaws
+pub mod LookupProof
+pub mod RowProof
+pub mod EntryLaws
+pub mod RowLaws
+pub mod RowEnds
+pub mod SlotLaw
