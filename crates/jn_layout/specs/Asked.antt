@@ -32,8 +32,8 @@ pub record PartsAre (p : Program) (t : Table) (m : Members) (g : Groups) (s : Sl
   pub groups : AreGroups p t.known.items g
   pub slots : AreSlots p t.known.items s
 
--- What the numbers stand for: classes as the table has them, groups by their first classes, the selectors, and the bodies
--- in source order.
+-- What the numbers stand for: classes as the table has them, groups by their first classes, the selectors, and the
+-- bodies in source order.
 pub record IsNaming (p : Program) (t : Table) (names : Selectors) (n : Naming) : Type 0 where
   pub classes : t.known.items ≡ map shown n.classes
   pub groups : FirstsAre p n.groups

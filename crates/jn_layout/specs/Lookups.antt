@@ -54,7 +54,8 @@ pub record SelectsField (name : Name) (kind : ℕ) (sel : FieldSel) : Type 0 whe
 -- ---- the pairs of a row
 
 -- what the codes of methods are found by
-pub record MethodsAsked (p : Program) (t : Table) (m : Members) (names : List MethodSel) (bodies : List BodyAt) (n : Naming) : Type 0 where
+pub record MethodsAsked (p : Program) (t : Table) (m : Members) (names : List MethodSel) (bodies : List BodyAt)
+    (n : Naming) : Type 0 where
   pub filled : IsFilled p t
   pub members : IsMembersOf p t m
   pub classes : AreClassesOf t n
@@ -71,7 +72,8 @@ pub record MethodPair (p : Program) (n : Naming) (R : Path) (name : Name) (x : P
   pub named : entry.sel.name ≡ name
 
 -- what the slots of fields are found by
-pub record FieldsAsked (p : Program) (t : Table) (m : Members) (s : Slots) (names : List FieldSel) (fields : List FieldAt) (n : Naming) : Type 0 where
+pub record FieldsAsked (p : Program) (t : Table) (m : Members) (s : Slots) (names : List FieldSel)
+    (fields : List FieldAt) (n : Naming) : Type 0 where
   pub filled : IsFilled p t
   pub members : IsMembersOf p t m
   pub slots : AreSlots p t.known.items s
@@ -87,7 +89,8 @@ pub record FieldPlace (p : Program) (n : Naming) (s : Slots) (id : ClassId) (R :
   pub entry : HasFieldEntry p n R key
   pub slot : HasSlot s id entry.sel.name value
 
-pub record FieldPair (p : Program) (n : Naming) (s : Slots) (id : ClassId) (R : Path) (name : Name) (x : Pair) : Type 0 where
+pub record FieldPair (p : Program) (n : Naming) (s : Slots) (id : ClassId) (R : Path) (name : Name)
+    (x : Pair) : Type 0 where
   pub place : FieldPlace p n s id R x.key x.value
   pub named : place.entry.sel.name ≡ name
 
@@ -97,7 +100,8 @@ pub record FieldPair (p : Program) (n : Naming) (s : Slots) (id : ClassId) (R : 
 abbrev pub SelectorPair : List MethodSel → BodyAt → ℕ → Option Pair → Type 0
 SelectorPair names x place None = NoneTo (SelectsBody x) names (length names)
 SelectorPair names x place (Some e) =
-    (sel : ℕ) × FoundAt (SelectsBody x) names sel × (sel < 4294967296 → e.key ≡ sel) × (place < 4294967296 → e.value ≡ place)
+    (sel : ℕ) × FoundAt (SelectsBody x) names sel × (sel < 4294967296 → e.key ≡ sel)
+    × (place < 4294967296 → e.value ≡ place)
 
 abbrev pub MethodPairOf : List BodyAt → List MethodSel → ℕ → Option Pair → Type 0
 MethodPairOf bodies names place told = (x : BodyAt) → slice_get bodies place ≡ Some x → SelectorPair names x place told
@@ -105,7 +109,8 @@ MethodPairOf bodies names place told = (x : BodyAt) → slice_get bodies place �
 -- the pair has a selector of the name and the kind, and the slot
 abbrev pub SlotPair : List FieldSel → Name → (kind slot : ℕ) → Option Pair → Type 0
 SlotPair names name kind slot None = NoneTo (SelectsField name kind) names (length names)
-SlotPair names name kind slot (Some e) = (sel : ℕ) × FoundAt (SelectsField name kind) names sel × (sel < 4294967296 → e.key ≡ sel) × (e.value ≡ slot)
+SlotPair names name kind slot (Some e) =
+    (sel : ℕ) × FoundAt (SelectsField name kind) names sel × (sel < 4294967296 → e.key ≡ sel) × (e.value ≡ slot)
 
 abbrev pub FieldPairOf : List FieldSel → Name → (kind : ℕ) → Option ℕ → Option Pair → Type 0
 FieldPairOf names name kind None told = told ≡ None

@@ -36,10 +36,12 @@ pub record OtherPair (p : Program) (n : Naming) (R : Path) (j : ℕ) (x : Pair) 
 -- of each table whose universe is filled and whose families these are
 abbrev pub OfFamilies : Table → List ℕ → (Program → Naming → Type 0) → Type 0
 OfFamilies t families T =
-    (p : Program) (n : Naming) → IsFilled p t → AreClassesOf t n → FamiliesTo t.known.items (length t.known.items) families → T p n
+    (p : Program) (n : Naming) → IsFilled p t → AreClassesOf t n
+    → FamiliesTo t.known.items (length t.known.items) families → T p n
 
 -- of each program of which table, groups and families are
 abbrev pub OfKin : Table → Kin → List ℕ → (Program → Naming → Type 0) → Type 0
 OfKin t kin families T =
-    (p : Program) (g : Groups) (n : Naming) → IsFilled p t → AreGroups p t.known.items g → AreKin g kin → AreClassesOf t n
+    (p : Program) (g : Groups) (n : Naming) → IsFilled p t → AreGroups p t.known.items g → AreKin g kin
+    → AreClassesOf t n
     → FamiliesTo t.known.items (length t.known.items) families → T p n

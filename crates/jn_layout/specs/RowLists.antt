@@ -42,16 +42,19 @@ abbrev pub FitIn : (keys values : ℕ) → List Pair → Type 0
 FitIn keys values pairs = (x : Pair) → Contains pairs x → (x.key < keys) × (x.value < values)
 
 abbrev pub AreMemberEntries : List Pair → List MemberEntry → Type 0
-AreMemberEntries pairs all = FitIn 65536 65536 pairs → Each (IsEntryOf (λ (e : MemberEntry). e.name) (λ (e : MemberEntry). e.class)) pairs all
+AreMemberEntries pairs all =
+    FitIn 65536 65536 pairs → Each (IsEntryOf (λ (e : MemberEntry). e.name) (λ (e : MemberEntry). e.class)) pairs all
 
 abbrev pub AreMethodEntries : List Pair → List MethodEntry → Type 0
 AreMethodEntries pairs all = Each (IsEntryOf (λ (e : MethodEntry). e.selector) (λ (e : MethodEntry). e.code)) pairs all
 
 abbrev pub AreFieldEntries : List Pair → List FieldEntry → Type 0
-AreFieldEntries pairs all = FitIn 4294967296 256 pairs → Each (IsEntryOf (λ (e : FieldEntry). e.selector) (λ (e : FieldEntry). e.slot)) pairs all
+AreFieldEntries pairs all =
+    FitIn 4294967296 256 pairs → Each (IsEntryOf (λ (e : FieldEntry). e.selector) (λ (e : FieldEntry). e.slot)) pairs all
 
 abbrev pub AreOtherEntries : List Pair → List OtherEntry → Type 0
-AreOtherEntries pairs all = FitIn 65536 65536 pairs → Each (IsEntryOf (λ (e : OtherEntry). e.family) (λ (e : OtherEntry). e.class)) pairs all
+AreOtherEntries pairs all =
+    FitIn 65536 65536 pairs → Each (IsEntryOf (λ (e : OtherEntry). e.family) (λ (e : OtherEntry). e.class)) pairs all
 
 -- what the rows of all classes are made of
 pub record IsMade (p : Program) (t : Table) (g : Groups) (made : Made) : Type 0 where
@@ -82,14 +85,16 @@ OfRows t m g s names T = (p : Program) (n : Naming) → RowsAsked p t m g s name
 pub record RowsRight (p : Program) (n : Naming) (s : Slots) (rows : List ClassRow) : Type 0 where
   pub rows_are : Each (RowIs p n) n.classes rows
   pub in_form : All RowInForm rows
-  pub slots : (k f m : ℕ) (R : Path) (row : ClassRow) → slice_get n.classes k ≡ Some R → slice_get rows k ≡ Some row → slot_in row f ≡ Some m
-      → FieldPlace p n s (record { 0 = k }) R f m
+  pub slots : (k f m : ℕ) (R : Path) (row : ClassRow) → slice_get n.classes k ≡ Some R → slice_get rows k ≡ Some row
+      → slot_in row f ≡ Some m → FieldPlace p n s (record { 0 = k }) R f m
 
 -- the first ones are
 pub record RowsTo (p : Program) (n : Naming) (s : Slots) (k : ℕ) (rows : List ClassRow) : Type 0 where
   pub long : length rows ≡ k
-  pub each : (j : ℕ) (R : Path) (row : ClassRow) → slice_get n.classes j ≡ Some R → slice_get rows j ≡ Some row → RowRight p n s (record { 0 = j }) R row
+  pub each : (j : ℕ) (R : Path) (row : ClassRow) → slice_get n.classes j ≡ Some R → slice_get rows j ≡ Some row
+      → RowRight p n s (record { 0 = j }) R row
 
 -- the numbers are those of the first classes of all groups, in class order
 abbrev pub FirstsListed : Program → Table → List ℕ → Type 0
-FirstsListed p t firsts = (gs : List Path) × FirstsAre p gs × Each (λ (G : Path) (k : ℕ). IsAt t.known.items k G) gs firsts
+FirstsListed p t firsts =
+    (gs : List Path) × FirstsAre p gs × Each (λ (G : Path) (k : ℕ). IsAt t.known.items k G) gs firsts
