@@ -1,0 +1,17 @@
+pub mod Values
+pub mod Work
+pub mod Newest
+pub mod Frames
+pub mod Made
+pub mod Kinds
+pub mod Heaps
+pub mod Seen
+pub mod World
+pub mod Tells
+pub mod Sites
+pub mod Typing
+pub mod Asked
+pub mod Doing
+pub mod Binding
+pub mod Params
+pub mod Calling

@@ -1,0 +1,32 @@
+//! The meaning of a program, run plainly.
+//!
+//! A run is a list of frames over a heap of objects, as the definition has it: each charge is one act of the frame at work. What
+//! a body has still to do is a stack of its parts, which are taken apart as they come to the top (`work`, `open`).
+#![tactic(auto)]
+
+mod act;
+mod binding;
+mod calling;
+mod classes;
+mod did;
+mod doing;
+mod fault;
+mod finding;
+mod frame;
+mod getting;
+mod heap;
+mod locals;
+mod normal;
+mod numbers;
+mod open;
+mod operators;
+mod parameters;
+mod path_behind;
+mod pile;
+mod plain;
+mod seen;
+mod terms;
+mod typing;
+mod value;
+mod work;
+mod world;
