@@ -5,3 +5,4 @@ pub mod Plainness
 pub mod Reading
 pub mod Running
 pub mod ShownAgain
+pub mod Wording

@@ -1,5 +1,5 @@
 -- The canonical text of a program is a source of it, and shows as itself.
-use Rattle.std.proofs.Common.{◌≡◌, ℕ, ◌≤◌, List, length, refl, subst}
+use Rattle.std.proofs.Common.{ℕ, ◌≤◌, List, length, refl, subst}
 use Rattle.jn_base.specs.declared.tree.Program.{Program}
 use Rattle.jn_base.specs.Spelling.{IsTextOf, greatest_source}
 use Rattle.jn_printer.specs.DeclText.{program_text}

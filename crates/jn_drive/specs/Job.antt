@@ -86,11 +86,14 @@ pub record Does (kind : JobKind) (file : List ℕ) (before after : Seen) (s : St
 
 -- Words that are no job: neither the store nor `out` is touched.
 pub record Misused (before after : Seen) (s : Status) : Type 0 where
-  -- Usage, exactly where the count of `err` doesn't rise; then `err` took the line.
+  -- Usage: `err` took the line.
   pub usage : s ≡ statuses.Usage → Gives usage_reply before after s
-  pub exactly : (Rose before.err.faults after.err.faults → ⊥) → s ≡ statuses.Usage
-  -- Else WriteFault: `err` failed.
-  pub write_fault : s ≢ statuses.Usage → Cuts usage_reply before after s
+  -- Memory: there was none to read the words, and `err` took the line that tells it.
+  pub memory : s ≡ statuses.Memory → Gives memory_reply before after s
+  -- Exactly where the count of `err` doesn't rise it is Usage, or Memory.
+  pub exactly : (Rose before.err.faults after.err.faults → ⊥) → GivesUnlessMemory usage_reply before after s
+  -- Else WriteFault: `err` failed, and took some of the line.
+  pub write_fault : s ≢ statuses.Usage → s ≢ statuses.Memory → Cuts usage_reply before after s ⊎ Cuts memory_reply before after s
   pub store : after.store ≡ before.store
   pub out : after.out ≡ before.out
   pub err_later : before.err.faults ≤ after.err.faults

@@ -17,16 +17,17 @@ ghost use Rattle.jn_drive.specs.Words.{job_of};
 ghost use Rattle.jn_drive.specs.Job.{DoesJob};
 
 use crate::job::do_job;
-use crate::put::misuse;
-use crate::words::{file_in, kind_in};
+use crate::put::{misuse, no_memory};
+use crate::words::job_in;
 use jn_io::{Sink, Store};
+use jn_jobs::WordsFault;
 pub use status::Status;
 use std::alloc::Global;
 
 /// Does the job that the words are: `show FILE` puts the canonical text of the program that the file
 /// spells on `out`, `run FILE` runs it and puts what it prints, and `check FILE` puts nothing. A source that
-/// spells none is refused by a line on `err`, and by `check` one that breaks a rule outside its bodies. All other
-/// words are answered by the usage line.
+/// spells none is refused by a line on `err`, and by `check` one that breaks a rule outside its bodies. The options
+/// `--arena`, `--depth` and `--steps` may come with each job. All other words are answered by the usage line.
 ///
 /// `DoesJob` in specs/Job.antt says for each status when it comes, and what the files and the outputs
 /// then are.
@@ -37,7 +38,7 @@ pub fn top<S: Store, O: Sink, E: Sink>(
     out: &mut O,
     err: &mut E,
 ) -> Status
-    // Usage comes only where the words are no job.
+    // Usage comes only where the words are no job that there is.
     ensures usage { result ≡ Status.Usage → job_of (map string_bytes words.now) ≡ None }
     // By the job: from what is seen of the store and the outputs before the call, to what is seen after.
     ensures job { DoesJob (job_of (map string_bytes words.now))
@@ -61,8 +62,9 @@ pub fn top<S: Store, O: Sink, E: Sink>(
         })
         result }
 {
-    match kind_in(words) {
-        None => misuse(err),
-        Some(kind) => do_job(alloc, kind, file_in(words), store, out, err),
+    match job_in(alloc, words) {
+        Ok(job) => do_job(alloc, job.kind, job.words.file.as_str(), store, out, err),
+        Err(WordsFault::Usage) => misuse(err),
+        Err(WordsFault::Memory) => no_memory(err),
     }
 }

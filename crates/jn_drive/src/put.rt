@@ -2,7 +2,7 @@ ghost use Rattle.std.specs.Prelude.{◌≡◌};
 ghost use Rattle.jn_io.specs.Causes.{HasCause};
 ghost use Rattle.jn_io.specs.Told.{Takes};
 ghost use Rattle.jn_drive.specs.Answer.{reply_of};
-ghost use Rattle.jn_drive.specs.Reply.{usage_reply};
+ghost use Rattle.jn_drive.specs.Reply.{memory_reply, usage_reply};
 ghost use Rattle.jn_drive.specs.Seen.{IsPut, IsDelivered};
 
 use crate::halt::{Halt, line_of, status_of};
@@ -71,4 +71,15 @@ pub fn misuse<E: Sink>(err: &mut E) -> Status
         b"usage: jandc JOB FILE [OUT] [--arena N] [--depth N] [--steps N]\n",
         Status::Usage,
     )
+}
+
+/// Puts on `err` that there was no memory.
+pub fn no_memory<E: Sink>(err: &mut E) -> Status
+    ensures { IsPut Status.Memory memory_reply.line
+        (record { taken = E.taken err.old; faults = E.faults err.old })
+        (record { taken = E.taken err.new; faults = E.faults err.new })
+        result }
+{
+    let halt = Halt::Memory;
+    put_all(err, line_of(&halt), status_of(&halt))
 }

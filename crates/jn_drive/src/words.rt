@@ -1,7 +1,10 @@
-ghost use Rattle.std.specs.Prelude.{◌≡◌, map, string_bytes};
-ghost use Rattle.jn_drive.specs.Words.{names_file, kind_of, kind_on, kind_in, file_in};
+ghost use Rattle.std.specs.Prelude.{◌≡◌, IfErr, IfOk, None, Some, map, string_bytes};
+ghost use Rattle.jn_drive.specs.Words.{job_of, kind_here};
 
-/// The jobs.
+use jn_jobs::{JobWords, WordsFault, job};
+use std::alloc::Global;
+
+/// The jobs that there are.
 #[derive(Clone, Copy, Debug, PartialEq, Eq)]
 pub enum JobKind {
     /// Puts the canonical text of a program.
@@ -12,55 +15,34 @@ pub enum JobKind {
     Check,
 }
 
-/// The job that the words are, if they are one.
-pub fn kind_in(words: &[String]) -> Option<JobKind>
-    ensures { result ≡ kind_in (map string_bytes words.now) }
+/// A job that there is, and its words.
+#[derive(Debug, Drop)]
+pub struct Named {
+    pub kind: JobKind,
+    pub words: JobWords,
+}
+
+/// The job that the words are. Usage comes exactly where they are none that there is; Memory may come at any words.
+#[tactic(auto, using(crate::proofs::Wording::job_named, crate::proofs::Wording::not_here))]
+pub fn job_in(alloc: Global, words: &[String]) -> Result<Named, WordsFault>
+    ensures ok { IfOk result (λ n. job_of (map string_bytes words.now) ≡ Some (n.kind, string_bytes n.words.file)) }
+    ensures usage { IfErr result (λ e. e ≡ WordsFault.Usage → job_of (map string_bytes words.now) ≡ None) }
 {
-    match words {
-        [word, file] => kind_on(word.as_str(), file.as_str()),
+    let words = job(alloc, words)?;
+    match kind_here(words.kind) {
+        Some(kind) => Ok(Named { kind, words }),
+        None => Err(WordsFault::Usage),
+    }
+}
+
+/// The job of this kind, where it is one that there is.
+fn kind_here(kind: jn_jobs::JobKind) -> Option<JobKind>
+    ensures { result ≡ kind_here kind }
+{
+    match kind {
+        jn_jobs::JobKind::Show => Some(JobKind::Show),
+        jn_jobs::JobKind::Run => Some(JobKind::Run),
+        jn_jobs::JobKind::Check => Some(JobKind::Check),
         _ => None,
     }
-}
-
-/// The file of a job: the second word.
-pub fn file_in(words: &[String]) -> &str
-    ensures { result.now ≡ file_in (map string_bytes words.now) }
-{
-    match words {
-        [_, file, ..] => file.as_str(),
-        _ => "",
-    }
-}
-
-/// The job that the first word is, where the second one names a file.
-fn kind_on(word: &str, file: &str) -> Option<JobKind>
-    ensures { result ≡ kind_on word.now file.now }
-{
-    if names_file(file) {
-        kind_of(word)
-    } else {
-        None
-    }
-}
-
-/// The job of a word.
-fn kind_of(word: &str) -> Option<JobKind>
-    ensures { result ≡ kind_of word.now }
-{
-    if word == "run" {
-        Some(JobKind::Run)
-    } else if word == "show" {
-        Some(JobKind::Show)
-    } else if word == "check" {
-        Some(JobKind::Check)
-    } else {
-        None
-    }
-}
-
-/// Whether a word names a file: it doesn't begin with `-`, or is `-` alone.
-fn names_file(word: &str) -> bool
-    ensures { result ≡ names_file word.now }
-{
-    !word.as_bytes().starts_with(b"-") || word == "-"
 }

@@ -1,0 +1,2 @@
+pub mod LawsOfNodes
+pub mod LawsOfExprs
