@@ -11,3 +11,4 @@ pub mod EntryLaws
 pub mod RowLaws
 pub mod RowEnds
 pub mod SlotLaw
+pub mod SelectorLaws

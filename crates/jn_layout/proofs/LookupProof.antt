@@ -55,7 +55,7 @@ none_next {A} T xs n x l e isnt before k y b at h = by_place (cases_lt k n) wher
       let there : slice_get xs k ≡ Some x = ap (slice_get xs) same ∙ slice_get_read xs (length xs) n x refl l e in
       isnt (subst T (same_some (slice_get xs k) y x at there) h)
 
-nowhere : {A : Type 0} (T : A → Type 0) (xs : List A) → NoneTo T xs (length xs) → (k : ℕ) (x : A) → slice_get xs k ≡ Some x → T x → ⊥
+pub nowhere : {A : Type 0} (T : A → Type 0) (xs : List A) → NoneTo T xs (length xs) → (k : ℕ) (x : A) → slice_get xs k ≡ Some x → T x → ⊥
 nowhere T xs none k x at h = none k x (slice_get_within xs k x at) at h
 
 -- ---- methods

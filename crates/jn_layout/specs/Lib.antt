@@ -5,3 +5,4 @@ pub mod Shapes
 pub mod Asked
 pub mod Lookups
 pub mod RowLists
+pub mod Selecting

@@ -1,5 +1,5 @@
 //! The rows of an image: for each class its members, the codes that it runs, the slots that it reads, and its
-//! counterparts.
+//! counterparts. [`selectors`] gives what the rows name methods and fields by.
 #![tactic(auto)]
 
 mod declared;
@@ -8,5 +8,7 @@ mod lookups;
 mod pairs;
 mod parts;
 mod rows;
+mod selecting;
 
 pub use rows::{class_rows, group_firsts};
+pub use selecting::selectors;

@@ -112,7 +112,7 @@ fn find_field(fields: &[FieldAt], class: ClassId, name: Name) -> Option<usize>
 }
 
 /// The number of the selector of the body.
-fn find_method_sel(names: &[MethodSel], x: &BodyAt) -> Option<usize>
+pub fn find_method_sel(names: &[MethodSel], x: &BodyAt) -> Option<usize>
     ensures some { IfSome result (FoundAt (SelectsBody x.now) names.now) }
     ensures none { IfNone result (NoneTo (SelectsBody x.now) names.now (length names.now)) }
 {
@@ -125,7 +125,7 @@ fn find_method_sel(names: &[MethodSel], x: &BodyAt) -> Option<usize>
 }
 
 /// The number of the selector with the name and the kind.
-fn find_field_sel(names: &[FieldSel], name: Name, kind: u8) -> Option<usize>
+pub fn find_field_sel(names: &[FieldSel], name: Name, kind: u8) -> Option<usize>
     ensures some { IfSome result (FoundAt (SelectsField name kind) names.now) }
     ensures none { IfNone result (NoneTo (SelectsField name kind) names.now (length names.now)) }
 {
@@ -176,7 +176,7 @@ pub fn method_at(
 }
 
 /// The kind of the field: 4 where its type hangs on `this`.
-fn kind_at(hangs: bool, kind: u8) -> u8
+pub fn kind_at(hangs: bool, kind: u8) -> u8
     ensures { result ≡ cond hangs 4 kind }
 {
     if hangs {

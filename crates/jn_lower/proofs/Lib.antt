@@ -1,0 +1,5 @@
+pub mod Seams
+pub mod Jumps
+pub mod OneInstr
+pub mod Composing
+pub mod Statements

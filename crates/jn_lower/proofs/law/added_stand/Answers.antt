@@ -1,0 +1,5 @@
+use Rattle.jn_lower.proofs.Seams.{added}
+use Rattle.jn_lower.proofs.law.added_stand.Goals as goal
+
+pub returns : goal.returns
+returns c = added

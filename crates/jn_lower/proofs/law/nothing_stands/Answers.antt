@@ -1,0 +1,5 @@
+use Rattle.jn_lower.proofs.Seams.{none}
+use Rattle.jn_lower.proofs.law.nothing_stands.Goals as goal
+
+pub returns : goal.returns
+returns c = none

@@ -1,0 +1,58 @@
+ghost use Rattle.std.specs.Prelude.{◌≡◌, IfOk, OnOk, ℕ};
+ghost use Rattle.jn_agree.specs.Places.{up_by, downs, binding};
+ghost use Rattle.jn_lower.specs.Straight.{Adds};
+ghost use Rattle.jn_base.specs.declared.tree.Program.{Program};
+ghost use Rattle.jn_agree.specs.Naming.{Naming};
+ghost use Rattle.jn_code.specs.declared.image.Code.{Code};
+
+use crate::emitter::Emitter;
+use crate::straight::is_class;
+use jn_base::tree::Name;
+use jn_base::types::Ty;
+use jn_code::Instr;
+use std::alloc::AllocError;
+
+/// The number of a member's name, in two bytes. One above 65535, which no program within the limits has, is refused for
+/// want of memory.
+pub fn member(x: Name) -> Result<u16, AllocError>
+    ensures { IfOk result (λ k. k ≡ x.0) }
+{
+    u16::try_from(x.0).map_err(|_| AllocError)
+}
+
+/// Adds the way up from a class, by that many levels: UP, and nothing for none.
+pub fn up_by(out: &mut Emitter, levels: u8) -> Result<(), AllocError>
+    ensures { OnOk result (Adds (up_by levels) out.old.instrs out.new.instrs) }
+{
+    if levels == 0 {
+        Ok(())
+    } else {
+        out.push(Instr::Up(levels))
+    }
+}
+
+/// Adds the way down from a class by these names, of which the last comes first: DOWN for each.
+pub fn downs(out: &mut Emitter, path: &[Name]) -> Result<(), AllocError>
+    ensures { OnOk result (Adds (downs path.now) out.old.instrs out.new.instrs) }
+{
+    let mut left = path.len();
+    while left > 0 {
+        left -= 1;
+        let k = member(path[left])?;
+        out.push(Instr::Down(k))?;
+    }
+    Ok(())
+}
+
+/// Adds what binds a local of the type: STORE, with CHECK before it where it is final and of class type.
+pub fn binding(out: &mut Emitter, fixed: bool, ty: &Ty, q: u8) -> Result<(), AllocError>
+    ensures { OnOk result ((p : Program) (n : Naming) (scratch : ℕ) (c : Code)
+        → Adds (binding p n scratch c fixed ty.now q) out.old.instrs out.new.instrs) }
+{
+    if fixed && is_class(ty) {
+        out.push(Instr::Check)?;
+        out.push(Instr::Store(q))
+    } else {
+        out.push(Instr::Store(q))
+    }
+}
