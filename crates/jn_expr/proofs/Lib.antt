@@ -13,3 +13,4 @@ pub mod FieldSteps
 pub mod CallSteps
 pub mod Making
 pub mod NewSteps
+pub mod SuperSteps

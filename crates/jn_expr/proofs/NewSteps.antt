@@ -1,5 +1,5 @@
 -- `new`, step by step.
-use Rattle.std.proofs.Common.{◌≡◌, ℕ, List, [], ◌∷◌, length, Bool, true, false, nat_eq, Option, Some, None, get_or, Result, Ok, Err, refl, sym, ap, ◌∙◌, subst, eq-eqb, ne_eqb}
+use Rattle.std.proofs.Common.{◌≡◌, ℕ, List, [], ◌∷◌, length, Bool, true, false, nat_eq, Option, Some, None, get_or, Result, Err, sym, ap, ◌∙◌, subst, eq-eqb, ne_eqb}
 use Rattle.jn_base.specs.declared.tree.Name.{Name}
 use Rattle.jn_base.specs.declared.tree.Place.{Place}
 use Rattle.jn_base.specs.declared.tree.Expr.{Expr}
@@ -20,24 +20,24 @@ use Rattle.jn_sem.specs.NormalFunction.{normal_type}
 use Rattle.jn_sem.specs.Does.{Body, IsConstructorBody}
 use Rattle.jn_intern.specs.declared.pool.TyId.{TyId}
 use Rattle.jn_intern.specs.declared.scope.Scope.{Scope}
-use Rattle.jn_intern.specs.Pools.{InPool, Keeps, shown, scope_in}
+use Rattle.jn_intern.specs.Pools.{shown, scope_in}
 use Rattle.jn_heads.specs.declared.fault.CheckFault.{CheckFault}
 use Rattle.jn_heads.specs.declared.fault.CheckFault.TheVariants.{Refused, Memory}
 use Rattle.jn_heads.specs.Params.{header_in}
 use Rattle.jn_rules.specs.Plans.{AtomMark, OfTerm, OfConstructor, Plan, note, ask, then_do, wants, taken}
 use Rattle.jn_rules.specs.Questions.{Finds}
 use Rattle.jn_rules.specs.Headers.{Header}
-use Rattle.jn_rules.specs.Exprs.{Here, Typed, Typing, Passing, Passed, in_method, path_or_fresh, call_typed, args_typed, replaced_paths, gives, of_new, fresh_with, made_with, made_without, made_exact, new_typed, site_here}
+use Rattle.jn_rules.specs.Exprs.{Here, Typed, Typing, Passing, Passed, in_method, call_typed, args_typed, replaced_paths, gives, of_new, fresh_with, made_with, made_without, made_exact, new_typed, site_here}
 use Rattle.jn_expr.specs.declared.env.Call.{Call}
 use Rattle.jn_expr.specs.declared.env.Value.{Value}
 use Rattle.jn_expr.specs.declared.news.Making.{Making}
-use Rattle.jn_expr.specs.Envs.{IsScope, here_at}
+use Rattle.jn_expr.specs.Envs.{here_at}
 use Rattle.jn_expr.specs.Passing.{passing_in, IsPassing}
 use Rattle.jn_expr.specs.Told.{FaultIs}
 use Rattle.jn_expr.specs.Found.{ConstructorFrom}
 use Rattle.jn_expr.specs.Steps.{Leads, LeadsTold, entered, IsCall}
 use Rattle.jn_expr.specs.Calling.{body_of, IsBegun}
-use Rattle.jn_expr.specs.Making.{IsLast, HasConstructor, IsMade, made_call, made_left}
+use Rattle.jn_expr.specs.Making.{IsLast, HasConstructor, made_call, made_left}
 use Rattle.jn_expr.proofs.Leading.{leads_here, leads_ask, leads_want, leads_is, leads_leads, leads_of_fault}
 
 -- ---- the constructor

@@ -12,3 +12,4 @@ pub mod Granting
 pub mod Viewing
 pub mod Calling
 pub mod Making
+pub mod Supering

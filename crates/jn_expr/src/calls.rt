@@ -50,7 +50,7 @@ fn replaced_paths(alloc: Global, vars: &[Var]) -> Result<Vec<u32>, AllocError>
 }
 
 /// A call with this header, whose receiver has the path.
-fn begin_call(alloc: Global, header: Header, first: u32) -> Result<Call, AllocError>
+pub fn begin_call(alloc: Global, header: Header, first: u32) -> Result<Call, AllocError>
     ensures { IfOk result (λ call. Begins header first call) }
 {
     let from = replaced_paths(alloc, header.at.vars.list.as_slice())?;
@@ -65,7 +65,7 @@ fn begin_call(alloc: Global, header: Header, first: u32) -> Result<Call, AllocEr
 
 /// The header of the body that is called, with so many arguments: E17 at the place where it has another number of
 /// parameters. The class that declares it is noted.
-fn enter(
+pub fn enter(
     alloc: Global,
     p: &Program,
     class: &Bound,

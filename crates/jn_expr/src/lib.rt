@@ -16,6 +16,7 @@ mod members;
 mod news;
 mod operators;
 mod sharing;
+mod supers;
 mod types;
 mod values;
 mod views;

@@ -18,3 +18,6 @@ pub mod Acting
 pub mod LocalsBound
 pub mod ParamLists
 pub mod Calls
+pub mod Results
+pub mod Targets
+pub mod Receivers

@@ -4,7 +4,7 @@ use Rattle.jn_base.specs.declared.tree.Name.{Name}
 use Rattle.jn_base.specs.declared.tree.Program.{Program}
 use Rattle.jn_base.specs.declared.path.Path.{Path as ShownPath}
 use Rattle.jn_sem.specs.State as state
-use Rattle.jn_sem.specs.Does.{calls}
+use Rattle.jn_sem.specs.Does.{calls, on_object}
 use Rattle.jn_table.specs.declared.class.ClassId.{ClassId}
 use Rattle.jn_meaning.specs.declared.did.Did.{Did}
 use Rattle.jn_meaning.specs.declared.value.Value.{Value}
@@ -15,3 +15,8 @@ use Rattle.jn_meaning.specs.Frames.{did_of}
 abbrev pub CallsTold : Program → List ShownPath → ClassId → Name → List Value → Did → Type 0
 CallsTold p known id m all d = (r : Value) (args : List Value) (F : state.Frame) (H : state.Heap) → all ≡ r ∷ args
     → calls p (path_at known id) m (value_of known r) (values_of known args) F H (did_of known d F H)
+
+-- The receiver stands first among these values, and m is called on it with the others.
+abbrev pub CallsOn : Program → List ShownPath → Name → List Value → Did → Type 0
+CallsOn p known m all d = (r : Value) (args : List Value) (F : state.Frame) (H : state.Heap) → all ≡ r ∷ args
+    → on_object (value_of known r) (λ o V. calls p V m (value_of known r) (values_of known args) F H) (did_of known d F H)

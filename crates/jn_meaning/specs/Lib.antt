@@ -15,3 +15,5 @@ pub mod Doing
 pub mod Binding
 pub mod Params
 pub mod Calling
+pub mod Leaving
+pub mod Viewing

@@ -1,25 +1,26 @@
 //! Calls.
 
-ghost use Rattle.std.specs.Prelude.{◌≡◌, IfOk};
+ghost use Rattle.std.specs.Prelude.{◌≡◌, IfOk, slice_get};
 ghost use Rattle.jn_sem.specs.Acts as acts;
 ghost use Rattle.jn_sem.specs.Sharing.{IsClass};
 ghost use Rattle.jn_meaning.specs.World.{Stands};
 ghost use Rattle.jn_meaning.specs.Values.{path_at};
 ghost use Rattle.jn_meaning.specs.Doing.{Done};
-ghost use Rattle.jn_meaning.specs.Calling.{CallsTold};
+ghost use Rattle.jn_meaning.specs.declared.heap.Heap.{Heap as AHeap};
+ghost use Rattle.jn_meaning.specs.Calling.{CallsTold, CallsOn};
 
 use crate::classes::is_class;
 use crate::did::{Called, Callee, Did, Ending};
 use crate::fault::MeanFault;
 use crate::finding::body_of;
 use crate::frame::Frame;
-use crate::heap::Heap;
 use crate::parameters::params_of;
 use crate::value::Value;
 use crate::world::World;
 use jn_base::tree::Name;
 use jn_sem::outcome::Why;
 use jn_table::{ClassId, Table};
+use sqlite_items::at;
 use std::alloc::Global;
 
 /// The body of a method at a class is called with these values, the receiver first.
@@ -58,5 +59,65 @@ fn call_at<'a>(
                 })),
             }
         }
+    }
+}
+
+/// The earliest of the values.
+fn first_of(all: &[Value]) -> Option<Value>
+    ensures { result ≡ slice_get all.now 0 }
+{
+    at(all, 0).copied()
+}
+
+/// The receiver, which stands first, is called.
+fn call_on<'a>(
+    alloc: Global,
+    w: &World<'a>,
+    t: &mut Table,
+    m: Name,
+    all: Vec<Value>,
+) -> Result<Did<'a>, MeanFault>
+    requires { Stands w.now t.old }
+    ensures did { IfOk result (λ d. CallsOn w.now.program.now t.old.known.items m all.items d) }
+    ensures kept { t.new ≡ t.old }
+{
+    match first_of(&all) {
+        None => Err(MeanFault::Memory),
+        Some(r) => match r {
+            Value::Reference(_, id) => {
+                if !is_class(t, id) {
+                    return Err(MeanFault::Memory);
+                }
+                call_at(alloc, w, t, id, m, all)
+            }
+            Value::Null => Ok(Did::Ended(Ending::AtNull)),
+            Value::Number(_) => Ok(Did::Ended(Ending::Stuck(Why::Kind))),
+            Value::Truth(_) => Ok(Did::Ended(Ending::Stuck(Why::Kind))),
+        },
+    }
+}
+
+/// A call with `n` arguments, whose value is kept or not.
+pub fn call<'a>(
+    alloc: Global,
+    w: &World<'a>,
+    t: &mut Table,
+    f: &mut Frame<'a>,
+    m: Name,
+    n: usize,
+    keeps: bool,
+) -> Result<Did<'a>, MeanFault>
+    requires { Stands w.now t.old }
+    ensures did { IfOk result (λ d. (h : AHeap) → Done w.now t.old h (acts.Call m n keeps) f.old d f.new) }
+    ensures kept { t.new ≡ t.old }
+{
+    if n == usize::MAX {
+        return Err(MeanFault::Memory);
+    }
+    f.keeps = keeps;
+    let taken = f.vals.take_args(n + 1)?;
+    match taken {
+        None => Ok(Did::Ended(Ending::Stuck(Why::Missing))),
+        Some(all) => call_on(alloc, w, t, m, all),
     }
 }

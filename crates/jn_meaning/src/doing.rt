@@ -33,7 +33,7 @@ use sqlite_items::at;
 use std::alloc::{AllocError, Global};
 
 /// The frame goes on with the value, or the run ends.
-fn go_on<'a>(f: &mut Frame<'a>, made: Made) -> Result<Did<'a>, AllocError>
+pub fn go_on<'a>(f: &mut Frame<'a>, made: Made) -> Result<Did<'a>, AllocError>
     ensures { IfOk result (λ d. MadeDid f.old made d f.new) }
 {
     match made {

@@ -54,7 +54,7 @@ fn front<'t>(t: &'t Table, seen: &Seen, anchor: Anchor) -> Option<&'t [Name]>
 }
 
 /// The names of both lists.
-fn joined(alloc: Global, one: &[Name], other: &[Name]) -> Result<Items<Name>, AllocError>
+pub fn joined(alloc: Global, one: &[Name], other: &[Name]) -> Result<Items<Name>, AllocError>
     ensures { IfOk result (λ names. names ≡ one.now ++ other.now) }
 {
     let mut names = Items::from_slice(alloc, one)?;

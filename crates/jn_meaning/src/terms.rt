@@ -24,7 +24,7 @@ use sqlite_items::Items;
 use std::alloc::{AllocError, Global};
 
 /// Where a term stands in the declaration of a class, in its method or field.
-fn spot_at(
+pub fn spot_at(
     alloc: Global,
     t: &Table,
     class: ClassId,

@@ -1,4 +1,4 @@
-use Rattle.std.proofs.Common.{◌≡◌, ◌∙◌, List, ap, reverse, subst, Option, Some, None}
+use Rattle.std.proofs.Common.{◌∙◌, List, ap, reverse, subst, Some, None}
 use Rattle.std.proofs.lemmas.List.{reverse-reverse}
 use Rattle.jn_base.specs.declared.path.Path.{Path as ShownPath}
 use Rattle.jn_base.specs.Atoms.{atom_of, atom_at}
