@@ -26,15 +26,15 @@ in_by f R (n ∷ ms) m x c h = by_place (in_cons n ms m c) (λ k. in_by f R ms m
   by_place (inl e) k = Contains-append_left (f n R) (all_bodies R (map f ms)) x (subst (λ (y : _). Contains (f y R) x) (sym e) h)
   by_place (inr i) k = Contains-append_right (f n R) (all_bodies R (map f ms)) x (k i)
 
-record FoundBy {A : Type 0} (f : A → InOrder) (R : Path) (ms : List A) (x : Body) : Type 0 where
-  member : A
-  among : Contains ms member
-  has : Contains (f member R) x
+pub record FoundBy {A : Type 0} (f : A → InOrder) (R : Path) (ms : List A) (x : Body) : Type 0 where
+  pub member : A
+  pub among : Contains ms member
+  pub has : Contains (f member R) x
 
 found_later : {A : Type 0} (f : A → InOrder) (R : Path) (n : A) (ms : List A) (x : Body) → FoundBy f R ms x → FoundBy f R (n ∷ ms) x
 found_later f R n ms x w = record { member = w.member; among = later n ms w.member w.among; has = w.has }
 
-by_in : {A : Type 0} (f : A → InOrder) (R : Path) (ms : List A) (x : Body) → Contains (all_bodies R (map f ms)) x → FoundBy f R ms x
+pub by_in : {A : Type 0} (f : A → InOrder) (R : Path) (ms : List A) (x : Body) → Contains (all_bodies R (map f ms)) x → FoundBy f R ms x
 by_in f R [] x c = absurd (in_none x c)
 by_in f R (n ∷ ms) x c = by_part (Contains-append_cases (f n R) (all_bodies R (map f ms)) x c) (λ k. by_in f R ms x k) where
   by_part : Contains (f n R) x ⊎ Contains (all_bodies R (map f ms)) x → (Contains (all_bodies R (map f ms)) x → FoundBy f R ms x) → FoundBy f R (n ∷ ms) x
@@ -43,7 +43,7 @@ by_in f R (n ∷ ms) x c = by_part (Contains-append_cases (f n R) (all_bodies R 
 
 -- ---- each field of a declaration is found
 
-abbrev body_at : Path → Method → Body
+abbrev pub body_at : Path → Method → Body
 body_at R g = record { class = R; method = g }
 
 in_members : (R : Path) (ms : List Member) (g : Method) → Contains (methods ms) g → Contains (all_bodies R (map bodies_in ms)) (body_at R g)
@@ -110,7 +110,7 @@ skip_nested (Member-F.Inner f) ds d c = later f ds d c
 skip_nested (Member-F.Body f) ds d c = c
 skip_nested (Member-F.Slot m) ds d c = c
 
-nested_from : (ms : List Member) (m : Member) (d : Decl) → Contains ms m → out-Member m ≡ Member-F.Inner d → Contains (nested ms) d
+pub nested_from : (ms : List Member) (m : Member) (d : Decl) → Contains ms m → out-Member m ≡ Member-F.Inner d → Contains (nested ms) d
 nested_from [] m d c e = absurd (in_none m c)
 nested_from (x ∷ ms) m d c e = by_place (in_cons x ms m c) (λ h. nested_from ms m d h e) where
   by_place : (x ≡ m) ⊎ Contains ms m → (Contains ms m → Contains (nested ms) d) → Contains (nested (x ∷ ms)) d
@@ -125,7 +125,7 @@ skip_method (Member-F.Inner d) gs g c = c
 skip_method (Member-F.Body f) gs g c = later f gs g c
 skip_method (Member-F.Slot m) gs g c = c
 
-method_from : (ms : List Member) (m : Member) (g : Method) → Contains ms m → out-Member m ≡ Member-F.Body g → Contains (methods ms) g
+pub method_from : (ms : List Member) (m : Member) (g : Method) → Contains ms m → out-Member m ≡ Member-F.Body g → Contains (methods ms) g
 method_from [] m g c e = absurd (in_none m c)
 method_from (x ∷ ms) m g c e = by_place (in_cons x ms m c) (λ h. method_from ms m g h e) where
   by_place : (x ≡ m) ⊎ Contains ms m → (Contains ms m → Contains (methods ms) g) → Contains (methods (x ∷ ms)) g

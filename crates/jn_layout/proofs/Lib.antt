@@ -12,3 +12,5 @@ pub mod RowLaws
 pub mod RowEnds
 pub mod SlotLaw
 pub mod SelectorLaws
+pub mod OnePlace
+pub mod PlacesProof

@@ -1,5 +1,5 @@
 -- What is found by name is right.
-use Rattle.std.proofs.Common.{◌≡◌, ◌<◌, ◌≤◌, ◌+◌, ◌⊎◌, inl, inr, ℕ, List, length, map, cond, Option, Some, None, slice_get, get_or, Bool, true, false, refl, sym, subst, ap, ◌∙◌, arith}
+use Rattle.std.proofs.Common.{◌≡◌, ◌<◌, ◌≤◌, ◌+◌, ◌⊎◌, inl, inr, ℕ, List, length, map, cond, Option, Some, None, IfNone, slice_get, get_or, Bool, true, false, refl, sym, subst, ap, ◌∙◌, arith}
 use Rattle.std.proofs.lemmas.Bool.{cases_lt}
 use Rattle.std.proofs.lemmas.Option.{slice_get_within, slice_get_read}
 use Rattle.jn_reach.proofs.Eachs.{Each-at, Each-back}
@@ -331,3 +331,7 @@ module _ (p : Program) (t : Table) (m : Members) (s : Slots) (names : List Field
         by_answer : (o : Option Pair) → SlotPair names name kind slot o → OnlyIs (FieldPair p n s id R name) o
         by_answer None none = absurd (field_selector kind of none)
         by_answer (Some e) (sel, w, key, value) = field_one kind of slot told sel w e key value
+
+pub none_given : {A B : Type 0} (o : Option ℕ) → IfNone o A → (A → B) → IfNone o B
+none_given None a f = f a
+none_given (Some k) a f = a

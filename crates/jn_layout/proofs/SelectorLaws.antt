@@ -2,7 +2,7 @@
 use Rattle.std.proofs.Common.{◌≡◌, ◌≤◌, ◌⊎◌, inl, inr, ℕ, List, [], ◌∷◌, ◌++◌, zero, suc, length, take, Contains, Option, Some, None, IfSome, IfNone, Bool, true, false, cond, slice_get, refl, sym, subst, ap, ◌∙◌}
 use Rattle.std.proofs.lemmas.List.{take_all}
 use Rattle.std.proofs.lemmas.List.Elements.{Contains-push, Contains-push_cases, Contains-append_left}
-use Rattle.jn_reach.proofs.Eachs.{Each-at}
+use Rattle.jn_reach.proofs.Eachs.{Each-at, Each-back}
 use Rattle.jn_reach.specs.Each.{Each}
 use Rattle.jn_base.specs.declared.tree.Name.{Name}
 use Rattle.jn_base.specs.declared.tree.Program.{Program}
@@ -18,6 +18,7 @@ use Rattle.jn_code.specs.declared.image.Shape.{Shape}
 use Rattle.jn_names.specs.FieldTypes.{AtField, declared_fields}
 use Rattle.jn_sem.specs.Sharing.{IsClass, HangsOnThis}
 use Rattle.jn_sem.specs.Slots.{FieldType, FieldHangs}
+use Rattle.jn_sem.specs.Terms.{FieldTypeIs}
 use Rattle.jn_sem.specs.Does.{Body, IsBody}
 use Rattle.jn_share.specs.declared.slots.Slots.{Slots}
 use Rattle.jn_share.specs.Slots.{SaysHangs}
@@ -28,9 +29,9 @@ use Rattle.jn_agree.specs.declared.selectors.FieldSel.{FieldSel}
 use Rattle.jn_agree.specs.Rows.{SelectorsAre, HasShape, FieldKind, plain, hanging, kind_of_type, bodies_of}
 use Rattle.jn_layout.specs.declared.declared.BodyAt.{BodyAt}
 use Rattle.jn_layout.specs.declared.declared.FieldAt.{FieldAt}
-use Rattle.jn_layout.specs.Shapes.{IsBodyAt, IsFieldAt, IsClassOf}
+use Rattle.jn_layout.specs.Shapes.{IsBodyAt, IsFieldAt, IsClassOf, shape_of}
 use Rattle.jn_layout.specs.Lookups.{FoundAt, NoneTo, SelectsBody}
-use Rattle.jn_layout.specs.Selecting.{Selects, OwnKind, AreMethodSels, AreFieldSels, SelectorsAsked}
+use Rattle.jn_layout.specs.Selecting.{Selects, OwnKind, AreMethodSels, AreFieldSels, SelectorsAsked, SelectorsOnly}
 use Rattle.jn_layout.proofs.BodiesFound.{body_found}
 use Rattle.jn_layout.proofs.KindLaws.{shape_is, field_kind}
 use Rattle.jn_layout.proofs.LookupProof.{nowhere}
@@ -179,4 +180,43 @@ module _ (p : Program) (t : Table) (s : Slots) (asked : SelectorsAsked p t s) wh
     has_field = λ R n type k is of. field_selected R n type is fields sels f fs k of;
     method_once = ms.once;
     field_once = fs.once;
+  }
+
+  pub bodies_only : (bodies : List BodyAt) (methods : List MethodSel) → Each (IsBodyAt t) (bodies_of p) bodies → AreMethodSels bodies methods
+      → (x : MethodSel) → Contains methods x → (b : Body) × Contains (bodies_of p) b × (x ≡ record { name = b.method.name.name; shape = shape_of b.method })
+  bodies_only bodies methods are sels x c =
+      let y = sels.sound x c in
+      let i = list_at bodies y.0 y.1 in
+      let w = Each-back (IsBodyAt t) are i.0 y.0 i.1 in
+      (w.0, in_list (bodies_of p) i.0 w.0 w.1, one_sel y.0 x w.0.method.name.name (shape_of w.0.method) y.2 w.2.name (sym w.2.params) (sym w.2.result))
+
+  kind_only : (g : AtField) (y : FieldAt) → IsFieldAt t g y → (f : Name) → y.name ≡ f → (kind : ℕ) → OwnKind s y kind → (type : Ty) → FieldTypeIs p g.class f g.field.ty type
+      → FieldType p g.class f type → FieldKind type kind
+  kind_only g y at f named kind own_kind type of is = by_class y.class refl at.class where
+    class : IsClass p g.class
+    class = asked.of_classes g.class f type is
+
+    by_hangs : (id : ClassId) → IsClassOf t g.class (Some id) → (told : Bool) → SaysHangs s id y.name told → kind ≡ cond told 4 y.kind → FieldKind type kind
+    by_hangs id number true says e =
+        let h = (says p t.known.items g.class asked.slots number class).0 refl in
+        hanging (subst HangsOnThis (asked.once.field g.class f h.ty type (subst (λ (N : Name). FieldType p g.class N h.ty) named h.type) is) h.hangs) e
+    by_hangs id number false says e =
+        plain (λ h.
+        let w : FieldHangs p g.class f = record { ty = type; type = is; hangs = h } in
+        cc ((says p t.known.items g.class asked.slots number class).1 (subst (λ (N : Name). FieldHangs p g.class N) (sym named) w)))
+        (e ∙ (at.kind ∙ sym (field_kind p g.class f g.field.ty type of)))
+
+    by_class : (o : Option ClassId) → y.class ≡ o → IsClassOf t g.class o → FieldKind type kind
+    by_class None e none = absurd (none_known p t g.class asked.filled none class.universe)
+    by_class (Some id) e number = let w = own_kind id e in by_hangs id number w.0 w.1 w.2
+
+  pub selectors_only : (bodies : List BodyAt) (fields : List FieldAt) (methods : List MethodSel) (sels : List FieldSel) → Each (IsBodyAt t) (bodies_of p) bodies
+      → Each (IsFieldAt t) (declared_fields p) fields → AreMethodSels bodies methods → AreFieldSels s fields sels → SelectorsOnly p methods sels
+  selectors_only bodies fields methods sels b f ms fs = record {
+    of_body = bodies_only bodies methods b ms;
+    of_field = λ x c.
+        let y = fs.sound x c in
+        let i = list_at fields y.0 y.1 in
+        let w = Each-back (IsFieldAt t) f i.0 y.0 i.1 in
+        (w.0, in_list (declared_fields p) i.0 w.0 w.1, y.2.name_is ∙ w.2.name, λ type of is. kind_only w.0 y.0 w.2 x.name (sym y.2.name_is) x.kind y.2.kind_is type of is);
   }

@@ -29,7 +29,7 @@ use Rattle.jn_layout.specs.Kin.{AreKin, OfGroups, FirstAt}
 use Rattle.jn_layout.specs.Pairs.{AreEntries}
 use Rattle.jn_layout.specs.Parts.{MemberAt}
 use Rattle.jn_layout.specs.Shapes.{AreDeclared}
-use Rattle.jn_layout.specs.Lookups.{FieldPlace}
+use Rattle.jn_layout.specs.Lookups.{FieldPlace, ArePlaces}
 use Rattle.jn_layout.specs.Asked.{RowsAsked}
 
 -- the entry has the two numbers of the pair
@@ -62,6 +62,7 @@ pub record IsMade (p : Program) (t : Table) (g : Groups) (made : Made) : Type 0 
   pub families : (q : Program) → IsFilled q t → FamiliesTo t.known.items (length t.known.items) made.families.items
   pub firsts : OfGroups t made.kin (λ q. Lists (FirstAt q t.known.items) made.firsts.items)
   pub declared : AreDeclared p t made.declared
+  pub own : ArePlaces made.declared.bodies.items made.own.items
 
 -- the pairs of the row of R
 pub record ArePairs (p : Program) (n : Naming) (s : Slots) (id : ClassId) (R : Path) (all : RowPairs) : Type 0 where

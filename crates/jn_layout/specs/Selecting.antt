@@ -7,15 +7,20 @@ use Rattle.jn_base.specs.Paths.{Path}
 use Rattle.jn_table.specs.declared.class.ClassId.{ClassId}
 use Rattle.jn_table.specs.declared.table.Table.{Table}
 use Rattle.jn_table.specs.Tables.{IsFilled}
+use Rattle.jn_names.specs.FieldTypes.{AtField, declared_fields}
 use Rattle.jn_sem.specs.Sharing.{IsClass}
 use Rattle.jn_sem.specs.Slots.{FieldType}
+use Rattle.jn_sem.specs.Terms.{FieldTypeIs}
+use Rattle.jn_sem.specs.Does.{Body}
 use Rattle.jn_sem.specs.LawsOfFinding.{FoundOnceIn}
 use Rattle.jn_share.specs.declared.slots.Slots.{Slots}
 use Rattle.jn_share.specs.Slots.{AreSlots, SaysHangs}
 use Rattle.jn_agree.specs.declared.selectors.MethodSel.{MethodSel}
 use Rattle.jn_agree.specs.declared.selectors.FieldSel.{FieldSel}
+use Rattle.jn_agree.specs.Rows.{FieldKind, bodies_of}
 use Rattle.jn_layout.specs.declared.declared.BodyAt.{BodyAt}
 use Rattle.jn_layout.specs.declared.declared.FieldAt.{FieldAt}
+use Rattle.jn_layout.specs.Shapes.{shape_of}
 use Rattle.jn_layout.specs.Lookups.{SelectsBody}
 
 -- Exactly the selectors of these things, each once.
@@ -50,3 +55,12 @@ pub record SelectorsAsked (p : Program) (t : Table) (s : Slots) : Type 0 where
 
 -- Example: of the methods `int size()` of two classes and `int size(int x)` of one there are two selectors, of the name
 -- size: with no kind and with the kind 1, both with the result 1.
+
+-- No selector is of anything else: each of the methods is the name and the shape of a body, and each of the fields the
+-- name of a declared field with the kind of its type.
+pub record SelectorsOnly (p : Program) (methods : List MethodSel) (fields : List FieldSel) : Type 0 where
+  pub of_body : (x : MethodSel) → Contains methods x
+      → (b : Body) × Contains (bodies_of p) b × (x ≡ record { name = b.method.name.name; shape = shape_of b.method })
+  pub of_field : (x : FieldSel) → Contains fields x
+      → (g : AtField) × Contains (declared_fields p) g × (x.name ≡ g.field.name.name)
+      × ((t : Ty) → FieldTypeIs p g.class x.name g.field.ty t → FieldType p g.class x.name t → FieldKind t x.kind)

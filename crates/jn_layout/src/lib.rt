@@ -7,6 +7,7 @@ mod kin;
 mod lookups;
 mod pairs;
 mod parts;
+mod places;
 mod rows;
 mod selecting;
 

@@ -1,11 +1,11 @@
-ghost use Rattle.std.specs.Prelude.{◌≡◌, ◌<◌, ◌↔◌, length, IsTrue, IfSome, IfNone, cond};
+ghost use Rattle.std.specs.Prelude.{◌≡◌, ◌<◌, ◌↔◌, ℕ, Contains, length, IsTrue, IfSome, IfNone, cond};
 ghost use Rattle.jn_base.specs.declared.tree.Program.{Program};
 ghost use Rattle.jn_base.specs.Paths.{Path as APath};
 ghost use Rattle.jn_table.specs.declared.table.Table.{Table as ATable};
 ghost use Rattle.jn_table.specs.Rows.{IsNumber};
 ghost use Rattle.jn_agree.specs.Naming.{Naming};
 ghost use Rattle.jn_layout.specs.Pairs.{OnlyIs};
-ghost use Rattle.jn_layout.specs.Lookups.{FoundAt, NoneTo, IsBodyOf, IsFieldOf, SelectsBody, SelectsField, MethodsAsked, MethodPair, FieldsAsked, FieldPair, MethodPairOf, FieldPairOf};
+ghost use Rattle.jn_layout.specs.Lookups.{FoundAt, NoneTo, ArePlaces, IsBodyOf, IsFieldOf, SelectsBody, SelectsField, MethodsAsked, MethodPair, FieldsAsked, FieldPair, MethodPairOf, FieldPairOf};
 
 use crate::declared::{BodyAt, FieldAt};
 use crate::pairs::Pair;
@@ -85,17 +85,39 @@ fn selects_field(sel: &FieldSel, name: Name, kind: u8) -> bool
     sel.kind == kind
 }
 
-/// The number of the body of the class with that name.
-fn find_body(bodies: &[BodyAt], class: ClassId, name: Name) -> Option<usize>
-    ensures some { IfSome result (FoundAt (IsBodyOf class name) bodies.now) }
-    ensures none { IfNone result (NoneTo (IsBodyOf class name) bodies.now (length bodies.now)) }
+/// Whether the body at the place is one of the class with that name.
+fn is_body_at(bodies: &[BodyAt], place: usize, class: ClassId, name: Name) -> bool
+    ensures { IsTrue result ↔ FoundAt (IsBodyOf class name) bodies.now place }
 {
-    for (k, x) in bodies.iter().enumerate() {
-        if is_body(x, class, name) {
-            return Some(k);
+    match at(bodies, place) {
+        None => false,
+        Some(x) => is_body(x, class, name),
+    }
+}
+
+/// The one of these places at which the body of the class with that name stands.
+fn body_among(bodies: &[BodyAt], places: &[usize], class: ClassId, name: Name) -> Option<usize>
+    ensures some { IfSome result (FoundAt (IsBodyOf class name) bodies.now) }
+    ensures none { IfNone result ((k : ℕ) → Contains places.now k → FoundAt (IsBodyOf class name) bodies.now k → ⊥) }
+{
+    for k in places {
+        if is_body_at(bodies, *k, class, name) {
+            return Some(*k);
         }
     }
     None
+}
+
+/// The number of the body of the class with that name, among the places of its own bodies.
+fn find_body(bodies: &[BodyAt], own: &[Vec<usize>], class: ClassId, name: Name) -> Option<usize>
+    ensures some { IfSome result (FoundAt (IsBodyOf class name) bodies.now) }
+    ensures none { IfNone result (ArePlaces bodies.now own.now
+        → NoneTo (IsBodyOf class name) bodies.now (length bodies.now)) }
+{
+    match at(own, class.0 as usize) {
+        None => None,
+        Some(places) => body_among(bodies, places, class, name),
+    }
 }
 
 /// The place of the field of the class with that name.
@@ -158,17 +180,18 @@ fn method_pair(bodies: &[BodyAt], names: &[MethodSel], place: usize) -> Option<P
 pub fn method_at(
     m: &Members,
     bodies: &[BodyAt],
+    own: &[Vec<usize>],
     names: &[MethodSel],
     id: ClassId,
     name: Name,
 ) -> Option<Pair>
     ensures { (p : Program) (t : ATable) (n : Naming) (R : APath) → MethodsAsked p t m.now names.now bodies.now n
-        → IsNumber t.known.items id R → OnlyIs (MethodPair p n R name) result }
+        → ArePlaces bodies.now own.now → IsNumber t.known.items id R → OnlyIs (MethodPair p n R name) result }
 {
     match m.least(id, name) {
         Least::None => None,
         Least::Many(_, _) => None,
-        Least::One(class) => match find_body(bodies, class, name) {
+        Least::One(class) => match find_body(bodies, own, class, name) {
             None => None,
             Some(place) => method_pair(bodies, names, place),
         },

@@ -16,7 +16,7 @@ ghost use Rattle.jn_code.specs.declared.image.Image.{Image};
 ghost use Rattle.jn_agree.specs.Rows.{HasEntry, SlotsAre};
 ghost use Rattle.jn_layout.specs.declared.pairs.Pair.{Pair as APair};
 ghost use Rattle.jn_layout.specs.Pairs.{AreEntries, Gathers};
-ghost use Rattle.jn_layout.specs.Lookups.{MethodsAsked, MethodPair, FieldsAsked, FieldPair, FieldPlace};
+ghost use Rattle.jn_layout.specs.Lookups.{ArePlaces, MethodsAsked, MethodPair, FieldsAsked, FieldPair, FieldPlace};
 ghost use Rattle.jn_layout.specs.RowLists.{IsMade, ArePairs, OfRows, RowRight, AreMemberEntries, AreMethodEntries, AreFieldEntries, AreOtherEntries, RowsRight, FirstsListed};
 
 use crate::declared::{BodyAt, Declared, FieldAt, declared_of};
@@ -24,6 +24,7 @@ use crate::kin::{Kin, families_of, firsts_of, kin_of};
 use crate::lookups::{field_at, method_at};
 use crate::pairs::{Pair, in_order};
 use crate::parts::{family_of, group_of, members_of, others_of, two_bytes, up_of};
+use crate::places::own_places;
 use jn_agree::selectors::{FieldSel, MethodSel, Selectors};
 use jn_base::tree::{Name, Program};
 use jn_code::{ClassRow, FieldEntry, MemberEntry, MethodEntry, OtherEntry};
@@ -42,6 +43,8 @@ pub struct Made {
     /// The numbers of the first classes of all groups.
     pub firsts: Vec<usize>,
     pub declared: Declared,
+    /// For each class the places of the bodies that it declares.
+    pub own: Vec<Vec<usize>>,
 }
 
 /// The lists of a row, as pairs of numbers.
@@ -61,11 +64,13 @@ fn make(alloc: Global, p: &Program, t: &Table, g: &Groups) -> Result<Made, Alloc
     let families = families_of(alloc, t)?;
     let firsts = firsts_of(alloc, t, &kin)?;
     let declared = declared_of(alloc, p, t)?;
+    let own = own_places(alloc, &declared.bodies)?;
     Ok(Made {
         kin,
         families,
         firsts,
         declared,
+        own,
     })
 }
 
@@ -74,17 +79,18 @@ fn method_pairs(
     alloc: Global,
     m: &Members,
     bodies: &[BodyAt],
+    own: &[Vec<usize>],
     names: &[MethodSel],
     id: ClassId,
     list: &[Name],
 ) -> Result<Vec<Pair>, AllocError>
     ensures { IfOk result (λ all. (p : AProgram) (t : ATable) (n : Naming) (R : APath)
-        → MethodsAsked p t m.now names.now bodies.now n → IsNumber t.known.items id R
+        → MethodsAsked p t m.now names.now bodies.now n → ArePlaces bodies.now own.now → IsNumber t.known.items id R
         → Gathers (MethodPair p n R) list.now all.items) }
 {
     let mut all = Vec::new(alloc);
     for name in list {
-        match method_at(m, bodies, names, id, *name) {
+        match method_at(m, bodies, own, names, id, *name) {
             None => {}
             Some(pair) => all.push(pair)?,
         }
@@ -97,15 +103,16 @@ fn methods_of(
     alloc: Global,
     m: &Members,
     bodies: &[BodyAt],
+    own: &[Vec<usize>],
     names: &[MethodSel],
     id: ClassId,
     row: &Row,
 ) -> Result<Vec<Pair>, AllocError>
     ensures { IfOk result (λ all. (p : AProgram) (t : ATable) (n : Naming) (R : APath)
-        → MethodsAsked p t m.now names.now bodies.now n → IsNumber t.known.items id R
+        → MethodsAsked p t m.now names.now bodies.now n → ArePlaces bodies.now own.now → IsNumber t.known.items id R
         → IsRow p t.known.items R row.now → AreEntries (HasEntry p n R) all.items) }
 {
-    let pairs = method_pairs(alloc, m, bodies, names, id, &row.methods)?;
+    let pairs = method_pairs(alloc, m, bodies, own, names, id, &row.methods)?;
     in_order(pairs)
 }
 
@@ -231,7 +238,15 @@ fn pairs_of(
     let bodies = &made.declared.bodies;
     let fields = &made.declared.fields;
     let members = members_of(alloc, row)?;
-    let methods = methods_of(alloc, m, bodies, names.methods.as_slice(), id, row)?;
+    let methods = methods_of(
+        alloc,
+        m,
+        bodies,
+        &made.own,
+        names.methods.as_slice(),
+        id,
+        row,
+    )?;
     let slots = fields_of(alloc, m, s, fields, names.fields.as_slice(), id, row)?;
     let others = others_of(alloc, t, &made.kin, &made.families, id.0 as usize)?;
     Ok(RowPairs {

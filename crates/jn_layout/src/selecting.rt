@@ -1,7 +1,7 @@
 ghost use Rattle.std.specs.Prelude.{IfOk};
 ghost use Rattle.jn_agree.specs.Rows.{SelectorsAre};
 ghost use Rattle.jn_layout.specs.Lookups.{SelectsBody};
-ghost use Rattle.jn_layout.specs.Selecting.{OwnKind, AreMethodSels, AreFieldSels, SelectorsAsked};
+ghost use Rattle.jn_layout.specs.Selecting.{OwnKind, AreMethodSels, AreFieldSels, SelectorsAsked, SelectorsOnly};
 
 use crate::declared::{BodyAt, FieldAt, declared_of};
 use crate::lookups::{find_field_sel, find_method_sel, kind_at};
@@ -72,7 +72,8 @@ fn field_sels(alloc: Global, s: &Slots, fields: &[FieldAt]) -> Result<Items<Fiel
 ///
 /// The universe is filled in the table, and the slots are those of the program.
 pub fn selectors(alloc: Global, p: &Program, t: &Table, s: &Slots) -> Result<Selectors, AllocError>
-    ensures { IfOk result (λ all. SelectorsAsked p.now t.now s.now → SelectorsAre p.now all.methods all.fields) }
+    ensures are { IfOk result (λ all. SelectorsAsked p.now t.now s.now → SelectorsAre p.now all.methods all.fields) }
+    ensures only { IfOk result (λ all. SelectorsAsked p.now t.now s.now → SelectorsOnly p.now all.methods all.fields) }
 {
     let declared = declared_of(alloc, p, t)?;
     let methods = method_sels(alloc, &declared.bodies)?;

@@ -1,13 +1,15 @@
-use Rattle.jn_reach.proofs.Searches.{not_when}
-use Rattle.jn_layout.specs.Lookups.{IsBodyOf}
-use Rattle.jn_layout.proofs.LookupProof.{found_at, none_next}
+use Rattle.std.proofs.Common.{ℕ, List, Contains, sym, subst, slice_get, ap, ◌∙◌}
+use Rattle.std.specs.declared.vec.Vec.{Vec}
+use Rattle.std.specs.declared.alloc.Global.{Global}
+use Rattle.jn_reach.proofs.Searches.{same_some}
+use Rattle.jn_layout.proofs.LookupProof.{none_given}
 use Rattle.jn_layout.proofs.lookups.find_body.Goals as goal
 
-pub returns-then-is_body-clause-some : goal.returns-then-is_body-clause-some
-returns-then-is_body-clause-some c =
-    found_at (IsBodyOf c.args.class c.args.name) c.args.bodies.now c.loop-k.k c.index-bodies-k.result c.loop-k-test.true c.index-bodies-k.is (c.is_body.ensures.0 c.if-is_body.true)
+pub returns-in-None-clause-none : goal.returns-in-None-clause-none
+returns-in-None-clause-none c = λ o k x l at h. let w = o k x c.args.class at h.class_is in cc (c.in-None.ensures ∙ w.at)
 
-pub loop-k-preserved : goal.loop-k-preserved
-loop-k-preserved c =
-    none_next (IsBodyOf c.args.class c.args.name) c.args.bodies.now c.loop-k.k c.index-bodies-k.result c.loop-k-test.true c.index-bodies-k.is
-    (not_when c.if-is_body.false c.is_body.ensures) c.loop-k.invariant
+pub returns-in-Some-clause-none : goal.returns-in-Some-clause-none
+returns-in-Some-clause-none c = none_given c.body_among.result c.body_among.ensures.none (λ f. λ o k x l at h.
+    let w = o k x c.args.class at h.class_is in
+    let row = same_some (slice_get c.args.own.now c.args.class.0) w.row c.in-Some.places.now w.at (sym c.in-Some.ensures) in
+    f k (subst (λ (xs : List ℕ). Contains xs k) (ap (λ (r : Vec ℕ Global). r.items) row ∙ sym c.deref.ensures.value) w.in_row) (record { thing = x; at = at; is = h }))

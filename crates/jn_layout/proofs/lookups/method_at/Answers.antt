@@ -4,21 +4,21 @@ use Rattle.jn_names.specs.Members.{LeastIs}
 use Rattle.jn_layout.proofs.lookups.method_at.Goals as goal
 
 pub returns-in-None : goal.returns-in-None
-returns-in-None c = λ p t n R a i.
+returns-in-None c = λ p t n R a o i.
     no_method p t c.args.m.now c.args.names.now c.args.bodies.now n a c.args.id R i c.args.name
     (subst (LeastIs p t.known.items R c.args.name) c.in-None.is (c.least.ensures p t R a.members i))
 
 pub returns-in-Many : goal.returns-in-Many
-returns-in-Many c = λ p t n R a i.
+returns-in-Many c = λ p t n R a o i.
     no_least p t c.args.m.now c.args.names.now c.args.bodies.now n a c.args.id R i c.args.name
     (subst (LeastIs p t.known.items R c.args.name) c.in-Many.is (c.least.ensures p t R a.members i)).1
 
 pub returns-in-None-find_body : goal.returns-in-None-find_body
-returns-in-None-find_body c = λ p t n R a i.
+returns-in-None-find_body c = λ p t n R a o i.
     method_none p t c.args.m.now c.args.names.now c.args.bodies.now n a c.args.id R i c.args.name c.in-One.class
-    (subst (LeastIs p t.known.items R c.args.name) c.in-One.is (c.least.ensures p t R a.members i)) c.in-None-find_body.ensures.none
+    (subst (LeastIs p t.known.items R c.args.name) c.in-One.is (c.least.ensures p t R a.members i)) (c.in-None-find_body.ensures.none o)
 
 pub returns-in-Some : goal.returns-in-Some
-returns-in-Some c = λ p t n R a i.
+returns-in-Some c = λ p t n R a o i.
     method_found p t c.args.m.now c.args.names.now c.args.bodies.now n a c.args.id R i c.args.name c.in-One.class
     (subst (LeastIs p t.known.items R c.args.name) c.in-One.is (c.least.ensures p t R a.members i)) c.in-Some.place c.in-Some.ensures.some c.method_pair.result c.method_pair.ensures
