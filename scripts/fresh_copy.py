@@ -9,30 +9,9 @@ import subprocess
 import sys
 import uuid
 
+from crate_lists import crates_of
+
 TOP = os.path.dirname(os.path.dirname(os.path.abspath(__file__)))
-
-
-def crates_of(top):
-    """The crates of a repository and those that each stands on, the lowest first."""
-    below = {}
-    with open(f"{top}/crates.txt", encoding="utf-8") as lines:
-        for line in lines:
-            line = line.split("#")[0].strip()
-            if line:
-                name, others = line.split(":")
-                below[name.split()[0]] = others.split()
-    order = []
-
-    def add(name):
-        if name not in order:
-            for other in below[name]:
-                if other in below:
-                    add(other)
-            order.append(name)
-
-    for name in below:
-        add(name)
-    return order, {name: [it for it in others if it in below] for name, others in below.items()}
 
 
 def root_file(top, crate):
