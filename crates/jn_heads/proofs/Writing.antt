@@ -1,6 +1,6 @@
 -- The types that are written in headers, resolved and in normal form.
-use Rattle.std.proofs.Common.{◌≡◌, ◌≤◌, List, [], ◌∷◌, ◌++◌, length, reverse, map, sym, ◌∙◌, subst, All, arith, Result, Ok, Err}
-use Rattle.std.proofs.lemmas.List.{reverse-append, length-reverse}
+use Rattle.std.proofs.Common.{◌≡◌, List, [], ◌∷◌, ◌++◌, length, reverse, map, sym, ◌∙◌, subst, All, arith, Result, Ok, Err}
+use Rattle.std.proofs.lemmas.List.{reverse-append}
 use Rattle.std.proofs.lemmas.List.Elements.{All-contains}
 use Rattle.jn_base.specs.declared.tree.Name.{Name}
 use Rattle.jn_base.specs.declared.tree.Named.{Named}
@@ -11,18 +11,13 @@ use Rattle.jn_base.specs.declared.tree.Program.{Program}
 use Rattle.jn_base.specs.declared.types.Ty.{Ty}
 use Rattle.jn_base.specs.declared.names.Role.TheVariants as role
 use Rattle.jn_base.specs.declared.names.Spot.{Spot}
-use Rattle.jn_base.specs.declared.path.Path.{Path as ShownPath}
 use Rattle.jn_base.specs.declared.refusal.Refusal.{Refusal}
-use Rattle.jn_base.specs.Paths.{shown as as_shown}
 use Rattle.jn_base.specs.Atoms.{Among, first, later}
 use Rattle.jn_base.specs.Scopes.{Bind, Scope, this_bind}
 use Rattle.jn_base.specs.Fits.{ScopeFits, TypeFits}
 use Rattle.jn_base.specs.Resolve.{class_of, var_bind}
 use Rattle.jn_base.specs.ResolveTypes.{mask_names, ResolveType}
-use Rattle.jn_table.specs.declared.table.Table.{Table}
-use Rattle.jn_table.specs.Tables.{IsFilled}
 use Rattle.jn_names.specs.Answers.{Told as NameTold}
-use Rattle.jn_names.proofs.MemberProof.{among_of}
 use Rattle.jn_names.specs.declared.fault.NameFault.{NameFault}
 use Rattle.jn_names.specs.declared.fault.NameFault.TheVariants as names
 use Rattle.jn_sem.specs.LawsOfSlots.{HeadNamed}
@@ -50,14 +45,6 @@ pub formed : (ts : List Term) (ms : List Named) (ty : TypeTerm) → ty ≡ type.
 formed ts ms ty e n named =
     subst TypeWellFormed (sym e)
     (omega (arith, n), λ t m. All-contains (λ (t : Term). HeadNamed t.head) ts t named (contains_of ts t m))
-
--- ---- paths
-
-pub shallow : (p : Program) (t : Table) → IsFilled p t → All (λ (q : ShownPath). length q.names ≤ 255) t.known.items → Shallow p
-shallow p t f all R u =
-    let n = f.whole.whole R u in
-    let l : length (as_shown R).names ≤ 255 = All-contains (λ (q : ShownPath). length q.names ≤ 255) t.known.items (as_shown R) all (among_of t.known.items n.0.0 (as_shown R) n.1) in
-    omega (arith, l, length-reverse R)
 
 -- ---- what is resolved
 

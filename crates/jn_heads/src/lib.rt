@@ -13,6 +13,6 @@ mod written;
 
 pub use fault::CheckFault;
 pub use params::{Header, header_of, start};
-pub use place::{Place, is_shallow, spot};
+pub use place::{Place, spot};
 pub use sides::{Pledge, pledge_of, side_of};
 pub use written::{is_formed, of_names, type_at};

@@ -10,6 +10,7 @@ mod pool;
 mod scope;
 mod terms;
 
+pub use compare::is_type;
 pub use pool::{Pool, TyId};
 pub use scope::{Bind, Scope};
 pub use terms::copied_type;

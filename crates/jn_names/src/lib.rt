@@ -26,3 +26,6 @@ pub use jn_base::names::{Resolved, Role, Spot, Var, Vars};
 pub use members::{Least, Members};
 pub use numbering::mask_names;
 pub use resolving::{resolve, resolve_type, resolve_view};
+pub use scope::atom_bound;
+pub use term::atom_of;
+pub use types::type_of;

@@ -18,7 +18,7 @@ use jn_table::{ClassId, FieldTy, FieldTypes, Table};
 use sqlite_items::at;
 
 /// Whether the anchor is one of `this`.
-fn is_this(anchor: Anchor) -> bool
+pub fn is_this(anchor: Anchor) -> bool
     ensures { IsTrue result ↔ IsThis anchor }
 {
     match anchor {

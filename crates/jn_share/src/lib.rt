@@ -47,6 +47,7 @@ mod rows;
 mod slots;
 mod trail;
 
+pub use alike::{hangs_on_this, is_this};
 pub use atoms::{in_atom, in_atoms, in_type};
 pub use families::{is_family, lacks};
 pub use fault::ShareFault;

@@ -10,3 +10,4 @@ mod passing;
 mod target;
 
 pub use held::{Held, holds};
+pub use passing::is_masked;

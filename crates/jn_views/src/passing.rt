@@ -21,7 +21,7 @@ fn is_mask(m: Masks, i: usize, name: Name, field: Name) -> bool
 }
 
 /// Whether the field is one of the masks.
-fn is_masked(m: Masks, names: &[Name], field: Name) -> bool
+pub fn is_masked(m: Masks, names: &[Name], field: Name) -> bool
     ensures { IsTrue result ↔ Masked names.now m field }
 {
     for (i, name) in names.iter().enumerate() {
