@@ -27,3 +27,4 @@ pub mod RowRight
 pub mod UniverseRight
 pub mod Fillings
 pub mod OwnParts
+pub mod Located

@@ -14,3 +14,4 @@ pub mod Answers
 pub mod Fills
 pub mod Tables
 pub mod OwnParts
+pub mod Places

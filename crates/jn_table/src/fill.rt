@@ -4,11 +4,13 @@ ghost use Rattle.jn_base.specs.Paths.{shown};
 ghost use Rattle.jn_table.specs.Fills.{FillsAll, NodesAll, UniverseAll, RefusesAll};
 ghost use Rattle.jn_table.specs.Universes.{FitUniverse, RowsOf};
 ghost use Rattle.jn_table.specs.Nodes.{FitNodes};
+ghost use Rattle.jn_table.specs.Places.{ArePlaces};
 
 use crate::class::Row;
 use crate::depths::{Found, depths};
 use crate::entry::Entry;
 use crate::fault::TableFault;
+use crate::finding::{Located, places_of};
 use crate::judge::judged;
 use crate::nodes::Nodes;
 use crate::route::Route;
@@ -18,11 +20,12 @@ use jn_base::path::Path;
 use jn_base::tree::{Name, Text};
 use std::alloc::{AllocError, Global};
 
-/// The paths of a universe, in class order, with their rows.
+/// The paths of a universe, in class order, with their rows and their places.
 #[derive(Drop)]
 pub struct Rows {
     pub known: Vec<Path>,
     pub rows: Vec<Row>,
+    pub places: Vec<Located>,
 }
 
 /// The paths with the outermost name first.
@@ -71,10 +74,16 @@ fn rows_in(alloc: Global, texts: &[Text], universe: &Universe) -> Result<Rows, A
     ensures known { IfOk result (λ all. all.known.items ≡ map shown universe.now.nodes.paths.items) }
     ensures rows { IfOk result (λ all.
         RowsOf texts.now universe.now (length universe.now.nodes.paths.items) all.rows.items) }
+    ensures places { IfOk result (λ all. ArePlaces all.known.items all.places.items) }
 {
     let known = known_of(alloc, &universe.nodes.paths)?;
+    let places = places_of(alloc, &known)?;
     let rows = rows_of(alloc, texts, universe)?;
-    Ok(Rows { known, rows })
+    Ok(Rows {
+        known,
+        rows,
+        places,
+    })
 }
 
 /// All paths of a universe with their rows, or why the universe is refused.
@@ -86,6 +95,7 @@ pub fn fill_all(
 ) -> Result<Rows, TableFault>
     ensures few { IfOk result (λ all. length all.known.items ≤ 4096) }
     ensures paired { IfOk result (λ all. length all.rows.items ≡ length all.known.items) }
+    ensures places { IfOk result (λ all. ArePlaces all.known.items all.places.items) }
     ensures ok { IfOk result (λ all. FillsAll texts.now entries.now order.now all.known.items all.rows.items) }
     ensures err { IfErr result (λ fault. RefusesAll entries.now order.now fault) }
 {

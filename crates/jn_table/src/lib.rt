@@ -13,7 +13,8 @@
 //! path, so it ends on every program, also where inheritance is cyclic, and never holds more paths. The
 //! depths together are one graph, whose nodes are the paths in class order (`nodes`). With the closure of its
 //! edges and with what the declarations at each path are and have (`own`) it is a `universe`, in which
-//! `judge` looks for cycles and for two kinds, and of which `row` makes the rows.
+//! `judge` looks for cycles and for two kinds, and of which `row` makes the rows. `finding` has the paths in an order in
+//! which one is found by halves.
 //!
 //! A [`ClassId`] is the place of its path in class order.
 #![tactic(auto)]
@@ -25,6 +26,7 @@ mod entry;
 mod fault;
 mod field_types;
 mod fill;
+mod finding;
 mod gather;
 mod judge;
 mod level;

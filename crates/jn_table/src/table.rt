@@ -1,11 +1,13 @@
 ghost use Rattle.std.specs.Prelude.{◌≡◌, ◌≤◌, [], length, IfOk, IfErr, IfSome, IfNone, OnOk, OnErr};
+ghost use Rattle.jn_table.specs.Places.{ArePlaces};
 
 use crate::class::{ClassId, Row};
 use crate::entry::{Entry, entries};
 use crate::fault::TableFault;
 use crate::fill::fill_all;
+use crate::finding::{Located, place_of};
 use crate::gather::Part;
-use crate::lookup::{has_class, place_of};
+use crate::lookup::has_class;
 use crate::order::{copied, name_order};
 use crate::own::names_at;
 use crate::route::Route;
@@ -25,8 +27,10 @@ pub struct Table {
     order: Vec<Name>,
     known: Vec<Path>,
     rows: Vec<Row>,
+    places: Vec<Located>,
     ghost few: { length known.items ≤ 4096 },
     ghost paired: { length rows.items ≡ length known.items },
+    ghost placed: { ArePlaces known.items places.items },
 }
 
 impl Table {
@@ -52,6 +56,7 @@ impl Table {
             order,
             known: Vec::new(alloc),
             rows: Vec::new(alloc),
+            places: Vec::new(alloc),
         })
     }
 
@@ -79,6 +84,7 @@ impl Table {
         )?;
         self.known = all.known;
         self.rows = all.rows;
+        self.places = all.places;
         Ok(())
     }
 
@@ -99,13 +105,13 @@ impl Table {
         has_class(&self.rows[a.0 as usize].sups, b)
     }
 
-    /// The number of a path, none exactly where its row isn't filled.
+    /// The number of a path, none exactly where its row isn't filled. It is found by halves.
     pub fn find(&self, q: &Path) -> Option<ClassId>
         ensures some { IfSome result (λ id. IsFilledAt self.now id) }
         ensures path { IfSome result (λ id. IsPathOf self.now id q.now) }
         ensures none { IfNone result (HasNoNumber self.now q.now) }
     {
-        place_of(&self.known, q)
+        place_of(&self.places, q)
     }
 
     /// Whether the path of the first of two filled numbers comes before that of the second in the class order.
