@@ -22,16 +22,16 @@ use Rattle.jn_laws.specs.LawsOfFits.{AsDeep}
 use Rattle.jn_laws.specs.LawsOfWritten.{HeaderPath}
 use Rattle.jn_rules.specs.Headers.{Header}
 use Rattle.jn_rules.specs.Exprs.{Here, Typed, Passed, put_in, arg_passed, replaced_paths}
-use Rattle.jn_member_laws.specs.LawsOfForms.{PathKnown, PutFor, header_scope, ParamKnown, CallsOf}
+use Rattle.jn_rule_laws.specs.LawsOfForms.{PathKnown, PutFor, header_scope, ParamKnown, CallsOf}
 use Rattle.jn_sound.specs.Takes.{Opd, opd, typing, none, one}
 use Rattle.jn_sound.specs.KnownScopes.{ScopeKnown}
-use Rattle.jn_sound_tree.specs.Tree.{ExprKnown, Fresher, none as none_more}
-use Rattle.jn_sound_tree.proofs.Scopes.{grown_of, grown_binds, fresher_joined, atom_grown, deep_grown, put_grown, put_behind, ops_grown, ops_with, some_bound}
-use Rattle.jn_sound_tree.proofs.Forms.{ArgMoved, arg_moved, not_void_below}
-use Rattle.jn_sound_tree.proofs.NewPaths.{PathNew}
-use Rattle.jn_sound_tree.proofs.Calls.{not_void}
+use Rattle.jn_sound.specs.Tree.{ExprKnown, Fresher, none as none_more}
+use Rattle.jn_sound.proofs.Scopes.{grown_of, grown_binds, fresher_joined, atom_grown, deep_grown, put_grown, put_behind, ops_grown, ops_with, some_bound}
+use Rattle.jn_sound.proofs.RuledForms.{ArgMoved, arg_moved, not_void_below}
+use Rattle.jn_sound.proofs.NewPaths.{PathNew}
+use Rattle.jn_sound.proofs.CallsFit.{not_void}
 use Rattle.jn_agree.specs.Naming.{Naming}
-use Rattle.jn_typed_nodes.specs.LawsOfContexts.{ActsLead}
+use Rattle.jn_place_laws.specs.LawsOfContexts.{ActsLead}
 use Rattle.jn_node_laws.specs.Cont.{of_frame}
 use Rattle.jn_place_laws.proofs.Going.{at_vars, framed, ExprGoes, ArgsGo}
 use Rattle.jn_place_laws.proofs.Steps.{more, at_place, moved}

@@ -31,8 +31,8 @@ use Rattle.jn_sound.proofs.Safe.{Sure, sure_it, sure_only, sure_test, sure_if, s
 use Rattle.jn_sound.proofs.Frames.{real_later}
 use Rattle.jn_sound.proofs.NewObjects.{MadeAt, made_at}
 use Rattle.jn_agree.specs.Follows.{MayEnter, entered}
-use Rattle.jn_typed_nodes.specs.Contexts.{known}
-use Rattle.jn_typed_nodes.proofs.Stable.{sure_nat}
+use Rattle.jn_place_laws.specs.Contexts.{known}
+use Rattle.jn_place_laws.proofs.Stable.{sure_nat}
 
 -- before `new Main()`, before the call of `main`, and behind it
 pub record Before (p : Program) (f : Frame) (h : Heap) : Type 0 where

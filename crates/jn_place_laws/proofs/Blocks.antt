@@ -26,23 +26,24 @@ use Rattle.jn_rules.specs.Exprs.{Typed, bind}
 use Rattle.jn_rules.specs.Plans.{done}
 use Rattle.jn_rules.specs.Stmts.{In, Before, run_through, block_typed, out_of, stmt_types, stmts_type}
 use Rattle.jn_rules.proofs.PlanLaws.{then_came}
-use Rattle.jn_member_laws.specs.LawsOfForms.{Grown, none as none_grown, more as more_grown}
+use Rattle.jn_rule_laws.specs.LawsOfForms.{Grown, none as none_grown, more as more_grown}
 use Rattle.jn_sound.specs.Takes.{opd, Typing, typing}
 use Rattle.jn_sound.specs.Fit.{Narrowed, none as narrow_none, dropped, kept}
 use Rattle.jn_sound.specs.KnownScopes.{StmtKnown}
-use Rattle.jn_sound_tree.specs.Tree.{Fresher}
-use Rattle.jn_sound_tree.specs.Behind.{MasksApart, none as apart_none, one as apart_one, Over, Moved}
-use Rattle.jn_sound_tree.proofs.Scopes.{grown_binds, grown_among}
-use Rattle.jn_sound_tree.proofs.Stmts.{narrowed_itself, narrowed_fresh, take_all, same_before}
-use Rattle.jn_sound_tree.proofs.Blocks.{with_scope, known_at, apart_alike}
-use Rattle.jn_sound_tree.proofs.Behind.{left_over, all_move}
-use Rattle.jn_sound_tree.proofs.Choices.{ScopesJoined}
+use Rattle.jn_sound.specs.Tree.{Fresher}
+use Rattle.jn_rule_laws.specs.Behind.{MasksApart, none as apart_none, one as apart_one, Over, Moved}
+use Rattle.jn_sound.proofs.Scopes.{grown_binds, grown_among}
+use Rattle.jn_rule_laws.proofs.Behind.{same_before}
+use Rattle.jn_sound.proofs.Stmts.{narrowed_itself, narrowed_fresh, take_all}
+use Rattle.jn_sound.proofs.Blocks.{with_scope, known_at, apart_alike}
+use Rattle.jn_rule_laws.proofs.Behind.{left_over, all_move}
+use Rattle.jn_sound.proofs.Choices.{ScopesJoined}
 use Rattle.jn_agree.specs.Naming.{Naming}
 use Rattle.jn_agree.specs.Places.{At}
 use Rattle.jn_node_laws.specs.LawsOfNodes.{NodesOf}
 use Rattle.jn_node_laws.specs.LawsOfLaidNodes.{LaidNodesOf}
-use Rattle.jn_typed_nodes.specs.Contexts.{Context, context, Stood, known, in_body, site_at}
-use Rattle.jn_typed_nodes.specs.LawsOfContexts.{ActsLead, FactsHold}
+use Rattle.jn_place_laws.specs.Contexts.{Context, context, Stood, known, in_body, site_at}
+use Rattle.jn_place_laws.specs.LawsOfContexts.{ActsLead, FactsHold}
 use Rattle.jn_place_laws.proofs.Going.{Go, ExprGoes, StmtsGo, StmtGoes}
 use Rattle.jn_place_laws.proofs.Steps.{more, as_todo, as_typed, jumped, narrows, less}
 use Rattle.jn_place_laws.proofs.Operands.{bool_kept}

@@ -33,8 +33,8 @@ use Rattle.jn_sound.proofs.BodiesPass.{body_passes}
 use Rattle.jn_sound.proofs.StartKnown.{start_known, start_few}
 use Rattle.jn_sound.proofs.Steps.{standing_begun}
 use Rattle.jn_sound.proofs.Ways.{surely, and_so}
-use Rattle.jn_sound_tree.proofs.Behind.{all_move}
-use Rattle.jn_sound_tree.proofs.Theorem.{needs_are_met}
+use Rattle.jn_rule_laws.proofs.Behind.{all_move}
+use Rattle.jn_sound.proofs.NeverStuck.{needs_are_met}
 use Rattle.jn_agree.specs.Naming.{Naming}
 use Rattle.jn_agree.specs.Rows.{RowsAre, result_kind, kind_of_type}
 use Rattle.jn_agree.specs.Places.{Run, tests, last_return}
@@ -45,14 +45,14 @@ use Rattle.jn_node_laws.proofs.Entries.{entries_follow}
 use Rattle.jn_node_laws.proofs.Laws.{follow}
 use Rattle.jn_node_laws.proofs.LaidLaws.{laid_follow}
 use Rattle.jn_places.specs.StmtPlaces.{StmtsAt, TypedBodyAt}
-use Rattle.jn_typed_nodes.specs.Contexts.{Context, context, Stood, known, in_body, site_at}
-use Rattle.jn_typed_nodes.specs.LawsOfContexts.{ActsLead}
-use Rattle.jn_typed_nodes.proofs.Laws.{acts_lead_so, facts_hold}
+use Rattle.jn_place_laws.specs.Contexts.{Context, context, Stood, known, in_body, site_at}
+use Rattle.jn_place_laws.specs.LawsOfContexts.{ActsLead}
+use Rattle.jn_place_laws.proofs.Laws.{acts_lead_so, facts_hold}
 use Rattle.jn_place_laws.proofs.Going.{Go}
 use Rattle.jn_place_laws.proofs.Formed.{body_known, typing_known}
 use Rattle.jn_place_laws.proofs.Others.{other_forms}
 use Rattle.jn_body_laws.proofs.Formed.{bodies_formed}
-use Rattle.jn_sound_tree.specs.Tree.{ProgramKnown}
+use Rattle.jn_sound.specs.Tree.{ProgramKnown}
 use Rattle.jn_node_laws.specs.Facts.{FewNumbers}
 use Rattle.jn_place_laws.proofs.Stmts.{stmts_go}
 

@@ -41,24 +41,24 @@ use Rattle.jn_rules.proofs.FormLaws.{forms_are}
 use Rattle.jn_rules.proofs.PlanLaws.{then_came, wanted}
 use Rattle.jn_rule_laws.specs.LawsOfHeaders.{IsHeader}
 use Rattle.jn_rule_laws.proofs.HeaderLaws.{headers_are_the_meanings}
-use Rattle.jn_member_laws.specs.LawsOfForms.{PutFor, CallsOf, header_scope}
-use Rattle.jn_member_laws.specs.LawsOfForms.{none as put_none}
-use Rattle.jn_member_laws.proofs.CallTypes.{call_types_fit}
-use Rattle.jn_member_laws.proofs.OneHeaders.{headers_fit}
+use Rattle.jn_rule_laws.specs.LawsOfForms.{PutFor, CallsOf, header_scope}
+use Rattle.jn_rule_laws.specs.LawsOfForms.{none as put_none}
+use Rattle.jn_rule_laws.proofs.CallTypes.{call_types_fit}
+use Rattle.jn_rule_laws.proofs.OneHeaders.{headers_fit}
 use Rattle.jn_sound.proofs.Makes.{constructor_named}
 use Rattle.jn_sound.specs.Takes.{opd, typing, number, truth, null}
 use Rattle.jn_sound.specs.KnownScopes.{ScopeKnown}
-use Rattle.jn_sound_tree.specs.Tree.{ExprKnown}
-use Rattle.jn_sound_tree.proofs.Scopes.{grown_of, ops_grown}
-use Rattle.jn_sound_tree.proofs.NewPaths.{path_new}
-use Rattle.jn_sound_tree.proofs.Forms.{ok_same, gave, call_is_typed}
-use Rattle.jn_sound_tree.proofs.Parts.{plain_type, plain_known, receiver_not_void, left_kept}
+use Rattle.jn_sound.specs.Tree.{ExprKnown}
+use Rattle.jn_sound.proofs.Scopes.{grown_of, ops_grown}
+use Rattle.jn_sound.proofs.NewPaths.{path_new}
+use Rattle.jn_sound.proofs.RuledForms.{ok_same, gave, call_is_typed}
+use Rattle.jn_sound.proofs.Parts.{plain_type, plain_known, receiver_not_void, left_kept}
 use Rattle.jn_agree.specs.Naming.{Naming}
 use Rattle.jn_node_laws.specs.Cont.{of_frame}
 use Rattle.jn_node_laws.specs.LawsOfLaidNodes.{LaidNodesOf}
 use Rattle.jn_places.specs.ExprPlaces.{ExprAt, ArgsAt, PartsAt, PartAt, LinksAt, at_number, at_truth, at_null, at_this, at_var, at_new, at_super, at_bare_super, at_post, at_not, at_neg, at_view, at_chain, no_args, one_arg, no_parts, last_part, one_part, at_field, at_call, no_links, one_link, one_deciding}
-use Rattle.jn_typed_nodes.specs.Contexts.{Context, Stood, known, in_body, site_at}
-use Rattle.jn_typed_nodes.specs.LawsOfContexts.{ActsLead, FactsHold}
+use Rattle.jn_place_laws.specs.Contexts.{Context, Stood, known, in_body, site_at}
+use Rattle.jn_place_laws.specs.LawsOfContexts.{ActsLead, FactsHold}
 use Rattle.jn_place_laws.proofs.Parts.{ExprIn, in_not, in_neg, in_view, in_post, in_part, in_chain, in_link, in_new, in_super}
 use Rattle.jn_place_laws.proofs.Going.{Kept, ExprGoes, Behind, ArgsGo, at_vars}
 use Rattle.jn_place_laws.proofs.Premises.{TypingKnown, OtherForms}

@@ -22,11 +22,11 @@ use Rattle.jn_body_laws.specs.BodyForms.{TermsNamed, ExprFormed, StmtFormed}
 use Rattle.jn_body_laws.proofs.ListedForms.{in_all}
 use Rattle.jn_rules.specs.Stmts.{In}
 use Rattle.jn_sound.specs.KnownScopes.{StandsIn}
-use Rattle.jn_sound_tree.specs.Tree.{ProgramKnown}
-use Rattle.jn_sound_tree.proofs.EachStmt.{all_fit}
-use Rattle.jn_sound_tree.proofs.FormedParts.{stands_formed}
-use Rattle.jn_sound_tree.specs.Stmts.{BodyKnown}
-use Rattle.jn_sound_tree.proofs.OtherExprs.{expressions_fit, calls_fit}
+use Rattle.jn_sound.specs.Tree.{ProgramKnown}
+use Rattle.jn_sound.proofs.EachStmt.{all_fit}
+use Rattle.jn_sound.proofs.FormedParts.{stands_formed}
+use Rattle.jn_sound.specs.Stmts.{BodyKnown}
+use Rattle.jn_sound.proofs.OtherExprs.{expressions_fit, calls_fit}
 use Rattle.jn_place_laws.proofs.Parts.{ExprIn, of_local, of_assign, of_receiver, of_stored, of_do, of_if, of_while, of_return, of_print, in_not, in_neg, in_view, in_post, in_part, in_chain, in_link, in_new, in_super}
 use Rattle.jn_place_laws.proofs.Premises.{TypingKnown}
 

@@ -30,8 +30,8 @@ use Rattle.jn_agree.specs.Places.{At, Run}
 use Rattle.jn_agree.specs.Places as places
 use Rattle.jn_node_laws.specs.Cont.{Layout, of_frame}
 use Rattle.jn_node_laws.specs.LawsOfLaidNodes.{LaidNodesOf}
-use Rattle.jn_typed_nodes.specs.Contexts.{Context, context, Stood, known, site_at}
-use Rattle.jn_typed_nodes.specs.LawsOfContexts.{ActLeads, ActsLead}
+use Rattle.jn_place_laws.specs.Contexts.{Context, context, Stood, known, site_at}
+use Rattle.jn_place_laws.specs.LawsOfContexts.{ActLeads, ActsLead}
 use Rattle.jn_place_laws.proofs.Going.{GoOn, left, ExprGoes}
 use Rattle.jn_place_laws.proofs.Steps.{as_typed, as_todo, step}
 use Rattle.jn_place_laws.proofs.Operands.{bool_is, int_is, bool_kept}

@@ -17,13 +17,13 @@ use Rattle.jn_laws.specs.LawsOfWritten.{HeaderPath}
 use Rattle.jn_rules.specs.Headers.{Header}
 use Rattle.jn_rules.specs.Exprs.{Here, Typed, Passed, replaced_paths}
 use Rattle.jn_rules.specs.Stmts.{Before, is_void}
-use Rattle.jn_member_laws.specs.LawsOfForms.{PutFor, header_scope}
+use Rattle.jn_rule_laws.specs.LawsOfForms.{PutFor, header_scope}
 use Rattle.jn_sound.specs.Takes.{Opd, opd, Typing, typing, ArgsFit}
 use Rattle.jn_sound.specs.KnownScopes.{ScopeKnown, here_in}
-use Rattle.jn_sound_tree.specs.Tree.{Fresher, OpsBound}
+use Rattle.jn_sound.specs.Tree.{Fresher, OpsBound}
 use Rattle.jn_agree.specs.Naming.{Naming}
 use Rattle.jn_node_laws.specs.Cont.{Layout, of_frame, with_value, ContOn}
-use Rattle.jn_typed_nodes.specs.Contexts.{Context, context, Stood, known, in_body, site_at}
+use Rattle.jn_place_laws.specs.Contexts.{Context, context, Stood, known, in_body, site_at}
 
 -- the value that is left
 abbrev pub left : Bool → Typed → List Opd → List Opd

@@ -8,11 +8,11 @@ use Rattle.jn_sem.specs.declared.outcome.Outcome.TheVariants as outcome
 use Rattle.jn_laws.proofs.PlacesAside.{programs_within_limits}
 use Rattle.jn_rules.specs.Verdict.{TreePasses}
 use Rattle.jn_sound.proofs.Accepted.{laws}
-use Rattle.jn_sound_tree.proofs.Theorem.{needs_are_met, never_stuck}
+use Rattle.jn_sound.proofs.NeverStuck.{needs_are_met, never_stuck}
 use Rattle.jn_agree.specs.Agrees.{InRange, NeverStuck}
 use Rattle.jn_link_laws.proofs.Agreed.{image_agrees}
 use Rattle.jn_node_laws.proofs.Entries.{entries_follow}
-use Rattle.jn_typed_nodes.specs.Contexts.{known}
+use Rattle.jn_place_laws.specs.Contexts.{known}
 use Rattle.jn_place_laws.specs.LawsOfPlaces.{ImageAgrees}
 use Rattle.jn_place_laws.proofs.Agree.{bodies_agree_so}
 use Rattle.jn_place_laws.proofs.Begins.{Stage, StandsAt}

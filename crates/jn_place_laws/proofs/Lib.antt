@@ -27,3 +27,9 @@ pub mod Declared
 pub mod Begins
 pub mod Start
 pub mod Images
+pub mod Stable
+pub mod Entries
+pub mod Leads
+pub mod Facts
+pub mod Calls
+pub mod Laws

@@ -19,16 +19,16 @@ use Rattle.jn_rules.specs.Headers.{Header}
 use Rattle.jn_rules.specs.Exprs.{Here, Typed, plain, takes, takes_both, operator_type}
 use Rattle.jn_rules.specs.Stmts.{is_void}
 use Rattle.jn_sound.specs.Takes.{opd, Typing, typing, operate}
-use Rattle.jn_sound_tree.specs.Tree.{ExprKnown, Fresher}
-use Rattle.jn_sound_tree.proofs.Scopes.{ops_with}
+use Rattle.jn_sound.specs.Tree.{ExprKnown, Fresher}
+use Rattle.jn_sound.proofs.Scopes.{ops_with}
 use Rattle.jn_agree.specs.Naming.{Naming}
 use Rattle.jn_agree.specs.Rows.{kind_of_type}
 use Rattle.jn_agree.specs.Places.{At, Run, operator, equal, Strict, IsDecide, deciding, decided_by}
 use Rattle.jn_node_laws.specs.Cont.{of_frame}
 use Rattle.jn_node_laws.specs.LawsOfLaidNodes.{LaidNodesOf}
 use Rattle.jn_node_laws.specs.Facts.{ComparesWell}
-use Rattle.jn_typed_nodes.specs.Contexts.{Context, context, Stood, known, site_at}
-use Rattle.jn_typed_nodes.specs.LawsOfContexts.{ActsLead, FactsHold}
+use Rattle.jn_place_laws.specs.Contexts.{Context, context, Stood, known, site_at}
+use Rattle.jn_place_laws.specs.LawsOfContexts.{ActsLead, FactsHold}
 use Rattle.jn_place_laws.proofs.Going.{ExprGoes, Behind, at_vars}
 use Rattle.jn_place_laws.proofs.Steps.{less, more, at_place, as_typed, as_todo, without, jumped, step}
 use Rattle.jn_place_laws.proofs.Operands.{strict_acts, strict_decides, decide_acts, bool_kept, false_void}

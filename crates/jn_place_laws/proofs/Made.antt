@@ -23,8 +23,8 @@ use Rattle.jn_laws.specs.LawsOfWritten.{HeaderPath, HeaderPaths}
 use Rattle.jn_rules.specs.Headers.{Header}
 use Rattle.jn_rules.specs.Exprs.{made_exact}
 use Rattle.jn_rule_laws.specs.LawsOfHeaders.{IsHeader}
-use Rattle.jn_member_laws.specs.LawsOfMembers.{SignaturesOf}
-use Rattle.jn_member_laws.proofs.SameSignatures.{signatures}
+use Rattle.jn_rule_laws.specs.LawsOfMembers.{SignaturesOf}
+use Rattle.jn_rule_laws.proofs.SameSignatures.{signatures}
 use Rattle.jn_sound.specs.Takes.{Opd, typing}
 use Rattle.jn_sound.specs.Steps.{Standing}
 use Rattle.jn_sound.proofs.Laws.{Laws}
@@ -38,9 +38,9 @@ use Rattle.jn_agree.specs.Places.{MethodOf}
 use Rattle.jn_node_laws.specs.Cont.{trimmed}
 use Rattle.jn_node_laws.specs.Facts.{MakesWell, MakesBare}
 use Rattle.jn_node_laws.proofs.Starts.{has_selector}
-use Rattle.jn_typed_nodes.specs.Contexts.{context, Stood, site_at}
-use Rattle.jn_typed_nodes.proofs.Stable.{sure_nat, sure_nats}
-use Rattle.jn_typed_nodes.proofs.Calls.{kinds_of, has_shape, shape_at}
+use Rattle.jn_place_laws.specs.Contexts.{context, Stood, site_at}
+use Rattle.jn_place_laws.proofs.Stable.{sure_nat, sure_nats}
+use Rattle.jn_place_laws.proofs.Calls.{kinds_of, has_shape, shape_at}
 use Rattle.jn_place_laws.proofs.Seen.{keeps_there}
 
 -- a path behind others keeps the first one's head

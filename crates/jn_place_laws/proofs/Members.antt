@@ -34,24 +34,24 @@ use Rattle.jn_rules.specs.Exprs.{Here, Typed, gives, plain, path_of, put_in, rep
 use Rattle.jn_rules.specs.Forms.{typed_args}
 use Rattle.jn_rules.specs.Stmts.{is_void}
 use Rattle.jn_rules.proofs.PlanLaws.{wanted, found_was}
-use Rattle.jn_member_laws.specs.LawsOfForms.{TypeKnown, CallsOf, header_scope}
-use Rattle.jn_member_laws.proofs.KnownTypes.{path_types_fit}
-use Rattle.jn_member_laws.proofs.CallTypes.{call_types_fit}
+use Rattle.jn_rule_laws.specs.LawsOfForms.{TypeKnown, CallsOf, header_scope}
+use Rattle.jn_rule_laws.proofs.KnownTypes.{path_types_fit}
+use Rattle.jn_rule_laws.proofs.CallTypes.{call_types_fit}
 use Rattle.jn_sound.specs.Callees.{Callee, IsCalled}
 use Rattle.jn_sound.specs.Takes.{Opd, opd, opds_of, typing, ArgsFit, with_result, get, call}
 use Rattle.jn_sound.proofs.Calls.{void_subst}
-use Rattle.jn_sound_tree.specs.Tree.{ExprKnown, Fresher}
-use Rattle.jn_sound_tree.proofs.Scopes.{grown_of, fresher_joined, found_grown, deep_grown, ops_grown, ops_with, some_bound}
-use Rattle.jn_sound_tree.proofs.Forms.{Reached, path_reached, gave, CallTyped}
-use Rattle.jn_sound_tree.proofs.Parts.{plain_type, plain_known}
+use Rattle.jn_sound.specs.Tree.{ExprKnown, Fresher}
+use Rattle.jn_sound.proofs.Scopes.{grown_of, fresher_joined, found_grown, deep_grown, ops_grown, ops_with, some_bound}
+use Rattle.jn_sound.proofs.RuledForms.{Reached, path_reached, gave, CallTyped}
+use Rattle.jn_sound.proofs.Parts.{plain_type, plain_known}
 use Rattle.jn_agree.specs.Naming.{Naming}
 use Rattle.jn_agree.specs.Rows.{FieldKind, IsShape}
 use Rattle.jn_agree.specs.Places.{Run, FieldOf, MethodOf, dropping}
 use Rattle.jn_node_laws.specs.Cont.{of_frame, with_value}
 use Rattle.jn_node_laws.specs.Cont.{with_result as laid_with}
 use Rattle.jn_node_laws.specs.LawsOfLaidNodes.{LaidNodesOf}
-use Rattle.jn_typed_nodes.specs.Contexts.{Context, context, Stood, known, site_at}
-use Rattle.jn_typed_nodes.specs.LawsOfContexts.{ActsLead, FactsHold}
+use Rattle.jn_place_laws.specs.Contexts.{Context, context, Stood, known, site_at}
+use Rattle.jn_place_laws.specs.LawsOfContexts.{ActsLead, FactsHold}
 use Rattle.jn_place_laws.proofs.Going.{left, onto, framed, Behind, ArgsGo, at_vars}
 use Rattle.jn_place_laws.proofs.Steps.{less, more, moved, as_typed, as_laid, step}
 use Rattle.jn_place_laws.proofs.Operands.{taken_all, takes_framed, laid_result, result_same, left_of_call, not_kept_void, class_kept}

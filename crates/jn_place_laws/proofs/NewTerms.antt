@@ -46,21 +46,21 @@ use Rattle.jn_rules.proofs.FormLaws.{forms_are}
 use Rattle.jn_rules.proofs.PlanLaws.{then_came, wanted, took}
 use Rattle.jn_rule_laws.specs.LawsOfHeaders.{IsHeader}
 use Rattle.jn_rule_laws.proofs.HeaderLaws.{headers_are_the_meanings}
-use Rattle.jn_member_laws.specs.LawsOfForms.{Grown, none as none_grown, more as more_grown, TypeKnown, header_scope, CallsOf}
-use Rattle.jn_member_laws.specs.LawsOfHeaders.{HeaderFits}
-use Rattle.jn_member_laws.proofs.CallTypes.{call_types_fit}
-use Rattle.jn_member_laws.proofs.KnownTypes.{path_types_fit, fresh_known, later_known}
-use Rattle.jn_member_laws.proofs.OneHeaders.{headers_fit}
-use Rattle.jn_member_laws.proofs.SameSignatures.{signatures}
+use Rattle.jn_rule_laws.specs.LawsOfForms.{Grown, none as none_grown, more as more_grown, TypeKnown, header_scope, CallsOf}
+use Rattle.jn_rule_laws.specs.LawsOfOneHeader.{HeaderFits}
+use Rattle.jn_rule_laws.proofs.CallTypes.{call_types_fit}
+use Rattle.jn_rule_laws.proofs.KnownTypes.{path_types_fit, fresh_known, later_known}
+use Rattle.jn_rule_laws.proofs.OneHeaders.{headers_fit}
+use Rattle.jn_rule_laws.proofs.SameSignatures.{signatures}
 use Rattle.jn_sound.specs.KnownScopes.{here_in, ScopeKnown}
 use Rattle.jn_sound.specs.Callees.{Callee}
 use Rattle.jn_sound.specs.Takes.{Opd, opd, typing, Takes, ArgsFit, NewBy, Unused, make, make_with}
 use Rattle.jn_sound.proofs.Makes.{constructor_named}
-use Rattle.jn_sound_tree.specs.Tree.{Fresher, OpsBound, ProgramKnown}
-use Rattle.jn_sound_tree.proofs.Scopes.{grown_of, grown_joined, grown_among, atom_grown, scope_bind}
-use Rattle.jn_sound_tree.proofs.Settled.{subst_settled}
-use Rattle.jn_sound_tree.proofs.Forms.{gave}
-use Rattle.jn_sound_tree.proofs.News.{bound_for, header_bound}
+use Rattle.jn_sound.specs.Tree.{Fresher, OpsBound, ProgramKnown}
+use Rattle.jn_sound.proofs.Scopes.{grown_of, grown_joined, grown_among, atom_grown, scope_bind}
+use Rattle.jn_sound.proofs.Settled.{subst_settled}
+use Rattle.jn_sound.proofs.RuledForms.{gave}
+use Rattle.jn_sound.proofs.News.{bound_for, header_bound}
 use Rattle.jn_place_laws.proofs.Going.{onto}
 use Rattle.jn_place_laws.proofs.Operands.{taken_all}
 

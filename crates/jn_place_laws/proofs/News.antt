@@ -35,20 +35,20 @@ use Rattle.jn_rules.specs.Exprs.{Here, Typed, Passed, bind, next_path, fresh_wit
 use Rattle.jn_rules.specs.Forms.{typed_args}
 use Rattle.jn_rules.specs.Stmts.{In}
 use Rattle.jn_rule_laws.specs.LawsOfHeaders.{IsHeader}
-use Rattle.jn_member_laws.specs.LawsOfForms.{PutFor, header_scope, none as put_none, none as none_grown, more as more_grown}
+use Rattle.jn_rule_laws.specs.LawsOfForms.{PutFor, header_scope, none as put_none, none as none_grown, more as more_grown}
 use Rattle.jn_sound.specs.KnownScopes.{ScopeKnown}
 use Rattle.jn_sound.specs.Takes.{Opd, opd, Typing, typing, Takes, ArgsFit, same, named, unseen}
 use Rattle.jn_sound.proofs.Laws.{Laws}
-use Rattle.jn_sound_tree.specs.Tree.{OpsBound, ProgramKnown}
-use Rattle.jn_sound_tree.proofs.Scopes.{ops_grown}
+use Rattle.jn_sound.specs.Tree.{OpsBound, ProgramKnown}
+use Rattle.jn_sound.proofs.Scopes.{ops_grown}
 use Rattle.jn_agree.specs.Naming.{Naming}
 use Rattle.jn_agree.specs.Rows.{RowsAre, IsShape}
 use Rattle.jn_agree.specs.Places.{Run, dropping, ClassCode, CtorCode, MethodOf, ctor as ctor_code, bare as bare_code}
 use Rattle.jn_node_laws.specs.Cont.{Layout, with_value, trimmed}
 use Rattle.jn_node_laws.specs.Facts.{FewNumbers, BodiesOnce, MakesWell, MakesBare}
 use Rattle.jn_node_laws.specs.LawsOfLaidNodes.{LaidNodesOf}
-use Rattle.jn_typed_nodes.specs.Contexts.{Context, context, Stood, known, in_body, site_at}
-use Rattle.jn_typed_nodes.specs.LawsOfContexts.{ActLeads, ActsLead}
+use Rattle.jn_place_laws.specs.Contexts.{Context, context, Stood, known, in_body, site_at}
+use Rattle.jn_place_laws.specs.LawsOfContexts.{ActLeads, ActsLead}
 use Rattle.jn_sound.proofs.MadeClass.{made_named}
 use Rattle.jn_place_laws.proofs.Going.{GoOn, left, onto, framed, ExprGoes, ArgsGo, at_vars}
 use Rattle.jn_place_laws.proofs.Steps.{less, more, moved, as_todo, as_typed, at_place}

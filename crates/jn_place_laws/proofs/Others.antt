@@ -20,14 +20,14 @@ use Rattle.jn_rules.specs.Questions.{Gives}
 use Rattle.jn_rules.specs.Exprs.{Typed, expr_types}
 use Rattle.jn_sound.specs.KnownScopes.{ScopeKnown, StandsIn}
 use Rattle.jn_sound.proofs.Laws.{Laws}
-use Rattle.jn_sound_tree.specs.Tree.{ExprKnown, Fresher, ProgramKnown}
+use Rattle.jn_sound.specs.Tree.{ExprKnown, Fresher, ProgramKnown}
 use Rattle.jn_agree.specs.Naming.{Naming}
 use Rattle.jn_agree.specs.Rows.{RowsAre}
 use Rattle.jn_agree.specs.Places.{HasKind}
 use Rattle.jn_node_laws.specs.Facts.{FewNumbers, ScratchLocal}
 use Rattle.jn_node_laws.specs.LawsOfLaidNodes.{LaidNodesOf}
-use Rattle.jn_typed_nodes.specs.Contexts.{Context, Stood, known, in_body, site_at}
-use Rattle.jn_typed_nodes.specs.LawsOfContexts.{ActsLead, FactsHold}
+use Rattle.jn_place_laws.specs.Contexts.{Context, Stood, known, in_body, site_at}
+use Rattle.jn_place_laws.specs.LawsOfContexts.{ActsLead, FactsHold}
 use Rattle.jn_place_laws.proofs.Parts.{ExprIn, in_super, in_view}
 use Rattle.jn_place_laws.proofs.Going.{ExprGoes, at_vars}
 use Rattle.jn_place_laws.proofs.Premises.{TypingKnown, OtherForms}

@@ -32,9 +32,9 @@ use Rattle.jn_rules.specs.Exprs.{site_here, Typed, Passed, arg_passed, replaced_
 use Rattle.jn_rules.specs.Forms.{typed_args}
 use Rattle.jn_rules.specs.Stmts.{In, Before, stmt_types}
 use Rattle.jn_rule_laws.specs.LawsOfHeaders.{IsHeader}
-use Rattle.jn_member_laws.specs.LawsOfForms.{PutFor, header_scope}
+use Rattle.jn_rule_laws.specs.LawsOfForms.{PutFor, header_scope}
 use Rattle.jn_sound.specs.KnownScopes.{ScopeKnown, here_in, StmtKnown, StandsIn}
-use Rattle.jn_sound_tree.specs.Tree.{ExprKnown, Fresher}
+use Rattle.jn_sound.specs.Tree.{ExprKnown, Fresher}
 use Rattle.jn_agree.specs.Naming.{Naming}
 use Rattle.jn_agree.specs.Rows.{IsShape}
 use Rattle.jn_agree.specs.Places.{Run, dropping, tuck, ClassCode, CtorCode, MethodOf, HasKind}

@@ -34,7 +34,7 @@ use Rattle.jn_agree.specs.Rows.{RowsAre}
 use Rattle.jn_agree.specs.Places.{ClassCode, fixed, seen, up_by, downs}
 use Rattle.jn_node_laws.specs.Cont.{trimmed}
 use Rattle.jn_node_laws.specs.Facts.{AnchorKeeps, TargetSeen}
-use Rattle.jn_typed_nodes.specs.Contexts.{context, Stood, site_at}
+use Rattle.jn_place_laws.specs.Contexts.{context, Stood, site_at}
 
 -- ---- what can be told by looking
 

@@ -19,7 +19,7 @@ use Rattle.jn_sem.specs.Does.{Body, IsBody, Did, args_of}
 use Rattle.jn_sem.specs.Run.{acting, start_frame}
 use Rattle.jn_laws.specs.Surely.{Surely}
 use Rattle.jn_rule_laws.specs.LawsOfHeaders.{ResultIs}
-use Rattle.jn_member_laws.proofs.SameSignatures.{signatures}
+use Rattle.jn_rule_laws.proofs.SameSignatures.{signatures}
 use Rattle.jn_sound.proofs.Laws.{Laws}
 use Rattle.jn_sound.proofs.Start.{header_there}
 use Rattle.jn_sound.proofs.Frames.{start_sound}
@@ -30,9 +30,9 @@ use Rattle.jn_agree.specs.Places.{StartAt}
 use Rattle.jn_node_laws.specs.Cont.{Led}
 use Rattle.jn_node_laws.specs.Facts.{CallsBody}
 use Rattle.jn_node_laws.specs.LawsOfEntries.{StartTyped}
-use Rattle.jn_typed_nodes.specs.Contexts.{known}
-use Rattle.jn_typed_nodes.proofs.Stable.{sure_nat, sure_nats}
-use Rattle.jn_typed_nodes.proofs.Calls.{kinds_of, has_shape}
+use Rattle.jn_place_laws.specs.Contexts.{known}
+use Rattle.jn_place_laws.proofs.Stable.{sure_nat, sure_nats}
+use Rattle.jn_place_laws.proofs.Calls.{kinds_of, has_shape}
 use Rattle.jn_place_laws.proofs.Begins.{MadeMain, Stage, before, made, over, StandsAt, Leads, leads_stable, begin_sure, open_sure}
 
 no_vars : (xs : List Var) → length xs ≡ 0 → xs ≡ []

@@ -36,12 +36,12 @@ use Rattle.jn_rules.specs.Exprs.{Typed, bind, site_here, is_int, is_bool}
 use Rattle.jn_rules.specs.Stmts.{In, Before, with_local, is_void}
 use Rattle.jn_sound.specs.Takes.{Opd, opd, Typing, typing, same, wider, Takes, local, print_number, print_truth, print_text}
 use Rattle.jn_sound.specs.Fit.{Narrowed, kept}
-use Rattle.jn_sound_tree.specs.Tree.{ExprKnown, Fresher, none as fresh_none, more as fresh_more}
+use Rattle.jn_sound.specs.Tree.{ExprKnown, Fresher, none as fresh_none, more as fresh_more}
 use Rattle.jn_sound.specs.KnownScopes.{StmtKnown}
-use Rattle.jn_sound_tree.proofs.Scopes.{fits_grown, grown_of, no_ops}
-use Rattle.jn_sound_tree.proofs.Forms.{not_void_below}
-use Rattle.jn_sound_tree.proofs.Calls.{not_void}
-use Rattle.jn_sound_tree.proofs.Stmts.{narrowed_fresh, take_all}
+use Rattle.jn_sound.proofs.Scopes.{fits_grown, grown_of, no_ops}
+use Rattle.jn_sound.proofs.RuledForms.{not_void_below}
+use Rattle.jn_sound.proofs.CallsFit.{not_void}
+use Rattle.jn_sound.proofs.Stmts.{narrowed_fresh, take_all}
 use Rattle.jn_agree.specs.Naming.{Naming}
 use Rattle.jn_agree.specs.Places.{Run, binding, HasKind}
 use Rattle.jn_agree.specs.Rows.{kind_of_type}
@@ -50,8 +50,8 @@ use Rattle.jn_node_laws.specs.Facts.{HasText, PrintsWell, FreshLocal}
 use Rattle.jn_node_laws.specs.LawsOfNodes.{NodesOf}
 use Rattle.jn_node_laws.specs.LawsOfLaidNodes.{LaidNodesOf}
 use Rattle.jn_places.specs.StmtPlaces.{printing}
-use Rattle.jn_typed_nodes.specs.Contexts.{Context, context, Stood, known, in_body, site_at}
-use Rattle.jn_typed_nodes.specs.LawsOfContexts.{ActLeads, ActsLead, FactsHold}
+use Rattle.jn_place_laws.specs.Contexts.{Context, context, Stood, known, in_body, site_at}
+use Rattle.jn_place_laws.specs.LawsOfContexts.{ActLeads, ActsLead, FactsHold}
 use Rattle.jn_place_laws.proofs.Going.{Go, ExprGoes, StmtGoes, at_vars}
 use Rattle.jn_place_laws.proofs.Steps.{more, as_todo, moved, narrows, step, less}
 use Rattle.jn_place_laws.proofs.Operands.{false_void}

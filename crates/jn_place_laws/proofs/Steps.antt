@@ -21,7 +21,7 @@ use Rattle.jn_sound.specs.Fit.{Narrowed}
 use Rattle.jn_sound.specs.KnownScopes.{Covers}
 use Rattle.jn_sound.proofs.Ways.{surely, and_so}
 use Rattle.jn_sound.proofs.Steps.{standing_narrows}
-use Rattle.jn_sound_tree.specs.Tree.{Fresher, none as fresh_none, more as fresh_more}
+use Rattle.jn_sound.specs.Tree.{Fresher, none as fresh_none, more as fresh_more}
 use Rattle.jn_agree.specs.Naming.{Naming}
 use Rattle.jn_agree.specs.Matches.{World}
 use Rattle.jn_agree.specs.Places.{At}
@@ -31,8 +31,8 @@ use Rattle.jn_node_laws.specs.Cont.{Layout, Placed, active, trimmed}
 use Rattle.jn_node_laws.proofs.Quiet.{spare}
 use Rattle.jn_node_laws.proofs.Quiet.{later as behind}
 use Rattle.jn_node_laws.proofs.Nodes as nodes
-use Rattle.jn_typed_nodes.specs.Contexts.{Context, context, Stood, known, site_at}
-use Rattle.jn_typed_nodes.specs.LawsOfContexts.{ActLeads, ActsLead}
+use Rattle.jn_place_laws.specs.Contexts.{Context, context, Stood, known, site_at}
+use Rattle.jn_place_laws.specs.LawsOfContexts.{ActLeads, ActsLead}
 use Rattle.jn_place_laws.proofs.Going.{GoOn}
 
 declared_take : (n : ℕ) (xs : List Variable) → declared_vars (take n xs) ≡ take n (declared_vars xs)

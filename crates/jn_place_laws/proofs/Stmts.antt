@@ -32,14 +32,14 @@ use Rattle.jn_rules.specs.Stmts.{In, Before, typed, here, block_typed, choice_ty
 use Rattle.jn_rules.proofs.FormLaws.{forms_are}
 use Rattle.jn_rules.proofs.PlanLaws.{then_came, wanted, took}
 use Rattle.jn_sound.specs.Takes.{typing}
-use Rattle.jn_sound_tree.specs.Tree.{ExprKnown, Fresher}
+use Rattle.jn_sound.specs.Tree.{ExprKnown, Fresher}
 use Rattle.jn_sound.specs.KnownScopes.{StmtKnown, StandsIn, in_block, in_first, in_second, in_loop}
-use Rattle.jn_sound_tree.proofs.Scopes.{fits_grown, grown_of}
-use Rattle.jn_sound_tree.proofs.Stmts.{same_before}
-use Rattle.jn_sound_tree.proofs.Locals.{noted}
-use Rattle.jn_sound_tree.proofs.Blocks.{with_scope, known_at}
-use Rattle.jn_sound_tree.proofs.Behind.{apart_itself, all_move, blocks_move}
-use Rattle.jn_sound_tree.proofs.Choices.{scopes_joined}
+use Rattle.jn_sound.proofs.Scopes.{fits_grown, grown_of}
+use Rattle.jn_rule_laws.proofs.Behind.{same_before}
+use Rattle.jn_sound.proofs.LocalsFit.{noted}
+use Rattle.jn_sound.proofs.Blocks.{with_scope, known_at}
+use Rattle.jn_rule_laws.proofs.Behind.{apart_itself, all_move, blocks_move}
+use Rattle.jn_sound.proofs.Choices.{scopes_joined}
 use Rattle.jn_agree.specs.Naming.{Naming}
 use Rattle.jn_agree.specs.Places.{Run, HasKind, binding}
 use Rattle.jn_agree.specs.Rows.{kind_of_type}
@@ -48,8 +48,8 @@ use Rattle.jn_node_laws.specs.LawsOfNodes.{NodesOf}
 use Rattle.jn_node_laws.specs.LawsOfLaidNodes.{LaidNodesOf}
 use Rattle.jn_places.specs.ExprPlaces.{ExprAt}
 use Rattle.jn_places.specs.StmtPlaces.{StmtsAt, no_stmts, block_at, local_at, assign_at, set_at, do_at, if_at, while_at, return_at, end_at, print_at, text_at}
-use Rattle.jn_typed_nodes.specs.Contexts.{Context, Stood, known, in_body}
-use Rattle.jn_typed_nodes.specs.LawsOfContexts.{ActsLead, FactsHold}
+use Rattle.jn_place_laws.specs.Contexts.{Context, Stood, known, in_body}
+use Rattle.jn_place_laws.specs.LawsOfContexts.{ActsLead, FactsHold}
 use Rattle.jn_place_laws.proofs.Parts.{ExprIn, of_local, of_assign, of_receiver, of_stored, of_do, of_if, of_while, of_return, of_print}
 use Rattle.jn_place_laws.proofs.Going.{ExprGoes, StmtsGo, StmtGoes, at_vars}
 use Rattle.jn_place_laws.proofs.Premises.{TypingKnown, OtherForms}

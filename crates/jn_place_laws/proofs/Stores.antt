@@ -29,7 +29,7 @@ use Rattle.jn_sem.specs.Terms.{Site}
 use Rattle.jn_sem.proofs.ActLaws.{acts_are}
 use Rattle.jn_laws.specs.LawsOfWritten.{Shallow}
 use Rattle.jn_laws.specs.LawsOfSources.{WellFormed}
-use Rattle.jn_member_laws.proofs.KnownTypes.{path_types_fit}
+use Rattle.jn_rule_laws.proofs.KnownTypes.{path_types_fit}
 use Rattle.jn_rules.specs.Headers.{Header}
 use Rattle.jn_rules.specs.Plans.{FoundField, OfField, Plan, done, wants}
 use Rattle.jn_rules.specs.Questions.{Answers, Gives, Means, IsFoundField, KeptMask, masks_of}
@@ -40,15 +40,16 @@ use Rattle.jn_rules.proofs.PlanLaws.{then_came, wanted, found_was}
 use Rattle.jn_sound.specs.KnownScopes.{ScopeKnown, MasksFormed, StmtKnown}
 use Rattle.jn_sound.specs.Takes.{opd, Typing, typing, Takes, OwnPaths, same, wider, assign, put, unmask}
 use Rattle.jn_sound.proofs.MaskSets.{none_formed}
-use Rattle.jn_sound_tree.specs.Tree.{Fresher, none as fresh_none, more as fresh_more, ExprKnown}
-use Rattle.jn_sound_tree.proofs.Scopes.{grown_of, fresher_joined, fits_grown, found_grown, no_ops, ops_with, some_bound, declared_known}
-use Rattle.jn_sound_tree.proofs.Settled.{field_settled}
-use Rattle.jn_sound_tree.proofs.Forms.{Reached, path_reached, not_void_below}
-use Rattle.jn_sound_tree.proofs.Calls.{not_void}
-use Rattle.jn_sound_tree.proofs.Stores.{masks_fresh}
-use Rattle.jn_sound_tree.proofs.Stmts.{narrowed_fresh, take_all, same_before}
-use Rattle.jn_sound_tree.proofs.Variables.{own_paths, not_this, unmentioned}
-use Rattle.jn_sound_tree.proofs.Blocks.{with_scope}
+use Rattle.jn_sound.specs.Tree.{Fresher, none as fresh_none, more as fresh_more, ExprKnown}
+use Rattle.jn_sound.proofs.Scopes.{grown_of, fresher_joined, fits_grown, found_grown, no_ops, ops_with, some_bound, declared_known}
+use Rattle.jn_sound.proofs.Settled.{field_settled}
+use Rattle.jn_sound.proofs.RuledForms.{Reached, path_reached, not_void_below}
+use Rattle.jn_sound.proofs.CallsFit.{not_void}
+use Rattle.jn_sound.proofs.Stores.{masks_fresh}
+use Rattle.jn_rule_laws.proofs.Behind.{same_before}
+use Rattle.jn_sound.proofs.Stmts.{narrowed_fresh, take_all}
+use Rattle.jn_sound.proofs.Variables.{own_paths, not_this, unmentioned}
+use Rattle.jn_sound.proofs.Blocks.{with_scope}
 use Rattle.jn_agree.specs.Naming.{Naming}
 use Rattle.jn_agree.specs.Places.{At, Run, FieldOf, HasKind}
 use Rattle.jn_agree.specs.Places as places
@@ -56,8 +57,8 @@ use Rattle.jn_agree.specs.Rows.{FieldKind, kind_of_type}
 use Rattle.jn_node_laws.specs.Facts.{OwnLocal}
 use Rattle.jn_node_laws.specs.LawsOfNodes.{NodesOf}
 use Rattle.jn_node_laws.specs.LawsOfLaidNodes.{LaidNodesOf}
-use Rattle.jn_typed_nodes.specs.Contexts.{Context, context, Stood, known, in_body, site_at}
-use Rattle.jn_typed_nodes.specs.LawsOfContexts.{ActsLead, FactsHold}
+use Rattle.jn_place_laws.specs.Contexts.{Context, context, Stood, known, in_body, site_at}
+use Rattle.jn_place_laws.specs.LawsOfContexts.{ActsLead, FactsHold}
 use Rattle.jn_place_laws.proofs.Going.{Go, ExprGoes, StmtGoes, at_vars}
 use Rattle.jn_place_laws.proofs.Steps.{as_todo, as_typed, moved, narrows, settles, step}
 use Rattle.jn_place_laws.proofs.Operands.{named_same, named_among, class_kept}

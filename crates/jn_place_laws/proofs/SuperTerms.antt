@@ -53,21 +53,21 @@ use Rattle.jn_rules.proofs.FormLaws.{forms_are}
 use Rattle.jn_rules.proofs.PlanLaws.{then_came, wanted, took, found_was}
 use Rattle.jn_rule_laws.specs.LawsOfHeaders.{IsHeader}
 use Rattle.jn_rule_laws.proofs.HeaderLaws.{headers_are_the_meanings, grants_of}
-use Rattle.jn_member_laws.specs.LawsOfForms.{Grown, none as none_grown, more as more_grown, TypeKnown, PutFor, header_scope, CallsOf}
-use Rattle.jn_member_laws.specs.LawsOfHeaders.{HeaderFits}
-use Rattle.jn_member_laws.proofs.CallTypes.{call_types_fit}
-use Rattle.jn_member_laws.proofs.KnownTypes.{of_path_known, path_known, normal_known, normal_depth_is}
-use Rattle.jn_member_laws.proofs.OneHeaders.{headers_fit}
+use Rattle.jn_rule_laws.specs.LawsOfForms.{Grown, none as none_grown, more as more_grown, TypeKnown, PutFor, header_scope, CallsOf}
+use Rattle.jn_rule_laws.specs.LawsOfOneHeader.{HeaderFits}
+use Rattle.jn_rule_laws.proofs.CallTypes.{call_types_fit}
+use Rattle.jn_rule_laws.proofs.KnownTypes.{of_path_known, path_known, normal_known, normal_depth_is}
+use Rattle.jn_rule_laws.proofs.OneHeaders.{headers_fit}
 use Rattle.jn_sound.specs.KnownScopes.{here_in, ScopeKnown}
 use Rattle.jn_sound.specs.Callees.{Callee, IsCallee}
 use Rattle.jn_sound.specs.Takes.{Opd, typing, Takes, ArgsFit, SuperTerm, SuperGranted, with_result, super}
-use Rattle.jn_sound_tree.specs.Tree.{Fresher, ProgramKnown}
-use Rattle.jn_sound_tree.proofs.Scopes.{grown_of, atom_grown, deep_grown, mentioned_there, fits_grown}
-use Rattle.jn_sound_tree.proofs.Settled.{normal_settled}
-use Rattle.jn_sound_tree.proofs.Forms.{gave, not_ok}
-use Rattle.jn_sound_tree.proofs.Parts.{plain_type}
-use Rattle.jn_sound_tree.proofs.News.{bound_for}
-use Rattle.jn_sound_tree.proofs.Stores.{masks_fresh}
+use Rattle.jn_sound.specs.Tree.{Fresher, ProgramKnown}
+use Rattle.jn_sound.proofs.Scopes.{grown_of, atom_grown, deep_grown, mentioned_there, fits_grown}
+use Rattle.jn_sound.proofs.Settled.{normal_settled}
+use Rattle.jn_sound.proofs.RuledForms.{gave, not_ok}
+use Rattle.jn_sound.proofs.Parts.{plain_type}
+use Rattle.jn_sound.proofs.News.{bound_for}
+use Rattle.jn_sound.proofs.Stores.{masks_fresh}
 use Rattle.jn_place_laws.proofs.Going.{onto}
 use Rattle.jn_place_laws.proofs.Operands.{taken_all}
 

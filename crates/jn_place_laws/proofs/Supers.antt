@@ -39,15 +39,15 @@ use Rattle.jn_rules.specs.Forms.{typed_args}
 use Rattle.jn_rules.specs.Stmts.{In}
 use Rattle.jn_rules.proofs.PlanLaws.{then_came}
 use Rattle.jn_rule_laws.specs.LawsOfHeaders.{IsHeader}
-use Rattle.jn_member_laws.specs.LawsOfForms.{PutFor, header_scope, ParamKnown, none as put_none}
+use Rattle.jn_rule_laws.specs.LawsOfForms.{PutFor, header_scope, ParamKnown, none as put_none}
 use Rattle.jn_sound.specs.KnownScopes.{ScopeKnown}
 use Rattle.jn_sound.specs.Takes.{Opd, opd, Typing, typing, ArgsFit, one, with_result}
 use Rattle.jn_sound.proofs.Calls.{void_subst}
 use Rattle.jn_sound.proofs.Laws.{Laws}
-use Rattle.jn_sound_tree.specs.Tree.{ExprKnown, Fresher, OpsBound, ProgramKnown}
-use Rattle.jn_sound_tree.proofs.Scopes.{grown_of, fresher_joined, deep_grown, put_grown, put_behind, ops_grown, ops_with, some_bound}
-use Rattle.jn_sound_tree.proofs.Forms.{ArgMoved, arg_moved, not_void_below}
-use Rattle.jn_sound_tree.proofs.Calls.{not_void}
+use Rattle.jn_sound.specs.Tree.{ExprKnown, Fresher, OpsBound, ProgramKnown}
+use Rattle.jn_sound.proofs.Scopes.{grown_of, fresher_joined, deep_grown, put_grown, put_behind, ops_grown, ops_with, some_bound}
+use Rattle.jn_sound.proofs.RuledForms.{ArgMoved, arg_moved, not_void_below}
+use Rattle.jn_sound.proofs.CallsFit.{not_void}
 use Rattle.jn_agree.specs.Naming.{Naming}
 use Rattle.jn_agree.specs.Rows.{IsShape, result_kind}
 use Rattle.jn_agree.specs.Places.{Run, dropping, tuck, MethodOf}
@@ -55,9 +55,9 @@ use Rattle.jn_node_laws.specs.Cont.{Layout, of_frame, of_this, with_value}
 use Rattle.jn_node_laws.specs.Cont.{with_result as laid_with}
 use Rattle.jn_node_laws.specs.Facts.{ScratchLocal, CallsBody}
 use Rattle.jn_node_laws.specs.LawsOfLaidNodes.{LaidNodesOf}
-use Rattle.jn_typed_nodes.specs.Contexts.{Context, context, Stood, known, in_body, site_at}
-use Rattle.jn_typed_nodes.specs.LawsOfContexts.{ActLeads, ActsLead, FactsHold}
-use Rattle.jn_typed_nodes.proofs.Calls.{callee_shape}
+use Rattle.jn_place_laws.specs.Contexts.{Context, context, Stood, known, in_body, site_at}
+use Rattle.jn_place_laws.specs.LawsOfContexts.{ActLeads, ActsLead, FactsHold}
+use Rattle.jn_place_laws.proofs.Calls.{callee_shape}
 use Rattle.jn_place_laws.proofs.Going.{GoOn, left, Kept, onto, framed, ExprGoes, ArgsGo, at_vars}
 use Rattle.jn_place_laws.proofs.Steps.{less, more, moved, as_todo, as_typed, as_laid}
 use Rattle.jn_place_laws.proofs.Operands.{takes_framed, laid_result, result_same, left_of_call, not_kept_void}

@@ -45,21 +45,21 @@ use Rattle.jn_rules.proofs.FormLaws.{forms_are}
 use Rattle.jn_rules.proofs.PlanLaws.{then_came, wanted, took}
 use Rattle.jn_rule_laws.specs.LawsOfHeaders.{GrantedBy}
 use Rattle.jn_rule_laws.proofs.HeaderLaws.{grants_of}
-use Rattle.jn_member_laws.specs.LawsOfForms.{TypeKnown}
-use Rattle.jn_member_laws.proofs.KnownTypes.{path_types_fit, normal_known}
+use Rattle.jn_rule_laws.specs.LawsOfForms.{TypeKnown}
+use Rattle.jn_rule_laws.proofs.KnownTypes.{path_types_fit, normal_known}
 use Rattle.jn_sound.specs.KnownScopes.{here_in, ScopeKnown}
 use Rattle.jn_sound.specs.Takes.{Opd, opd, Takes, typing, shared, null_view, null_on_path, granted}
-use Rattle.jn_sound_tree.specs.Tree.{ExprKnown, Fresher, ProgramKnown}
-use Rattle.jn_sound_tree.proofs.Forms.{gave, not_ok}
-use Rattle.jn_sound_tree.proofs.News.{bound_for}
+use Rattle.jn_sound.specs.Tree.{ExprKnown, Fresher, ProgramKnown}
+use Rattle.jn_sound.proofs.RuledForms.{gave, not_ok}
+use Rattle.jn_sound.proofs.News.{bound_for}
 use Rattle.jn_agree.specs.Naming.{Naming}
 use Rattle.jn_agree.specs.Places.{Run, ClassCode}
 use Rattle.jn_agree.specs.Rows.{RowsAre}
 use Rattle.jn_node_laws.specs.Cont.{of_frame}
 use Rattle.jn_node_laws.specs.Facts.{FewNumbers}
 use Rattle.jn_node_laws.specs.LawsOfLaidNodes.{LaidNodesOf}
-use Rattle.jn_typed_nodes.specs.Contexts.{Context, context, Stood, known, in_body, site_at}
-use Rattle.jn_typed_nodes.specs.LawsOfContexts.{ActsLead}
+use Rattle.jn_place_laws.specs.Contexts.{Context, context, Stood, known, in_body, site_at}
+use Rattle.jn_place_laws.specs.LawsOfContexts.{ActsLead}
 use Rattle.jn_place_laws.proofs.Going.{ExprGoes, at_vars}
 use Rattle.jn_place_laws.proofs.Steps.{as_todo, step}
 use Rattle.jn_place_laws.proofs.Seen.{target_seen, class_short}

@@ -15,7 +15,7 @@ use Rattle.jn_agree.specs.Follows.{BodyAgrees}
 use Rattle.jn_agree.specs.Agrees.{Agrees}
 use Rattle.jn_node_laws.specs.Facts.{FewNumbers}
 use Rattle.jn_places.specs.StmtPlaces.{TypedBodyAt}
-use Rattle.jn_typed_nodes.specs.Contexts.{known}
+use Rattle.jn_place_laws.specs.Contexts.{known}
 
 -- The code of each body stands at its places, by the body's header.
 abbrev pub BodiesStand : Program → Image → Naming → Type 0

@@ -1,1 +1,3 @@
 pub mod LawsOfPlaces
+pub mod Contexts
+pub mod LawsOfContexts

@@ -7,3 +7,13 @@ pub mod Replies
 pub mod Verdicts
 pub mod HeaderLaws
 pub mod Declared
+pub mod OneHeaders
+pub mod Sorting
+pub mod FoundMembers
+pub mod OneFields
+pub mod SameSignatures
+pub mod KnownTypes
+pub mod CallTypes
+pub mod FirstMasks
+pub mod MaskNumbers
+pub mod Behind

@@ -1,2 +1,6 @@
 pub mod LawsOfRules
 pub mod LawsOfHeaders
+pub mod LawsOfOneHeader
+pub mod LawsOfMembers
+pub mod LawsOfForms
+pub mod Behind

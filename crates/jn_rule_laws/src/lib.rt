@@ -1,8 +1,15 @@
-//! The laws of the rules: each question has one reply, each plan one outcome, each program one verdict.
+//! The laws of the rules: each question has one reply, each plan one outcome, each program one verdict; where the
+//! verdict refuses nothing of members, the laws of headers, members and the types of forms; and what stands behind
+//! statements.
 #![tactic(auto)]
 
+ghost use Rattle.jn_rule_laws.specs.Behind.{StatementsMove};
 ghost use Rattle.jn_rule_laws.specs.LawsOfHeaders.{HeadersAreTheMeanings, HeadersGrant, HeadersThatPass};
 ghost use Rattle.jn_rule_laws.specs.LawsOfRules.{QuestionsHaveReplies, QuestionsHaveOneReply, PlansGive, PlansHaveOneOutcome, HeadersHaveOneVerdict, TreesHaveOneVerdict};
+
+pub mod forms;
+pub mod headers;
+pub mod members;
 
 /// Each question surely has a reply.
 pub fn questions_have_replies()
@@ -47,4 +54,9 @@ pub fn headers_grant()
 /// Where the headers of a program pass, each method has a header, each constraint resolves, and each field has a type.
 pub fn headers_that_pass()
     ensures { HeadersThatPass }
+{}
+
+/// Behind statements that the rules accept are variables and binds more, and locals numbered as their acts have them.
+pub fn statements_move()
+    ensures { StatementsMove }
 {}

@@ -37,15 +37,15 @@ use Rattle.jn_sem.proofs.FieldAnchors.{fields_pass}
 use Rattle.jn_laws.specs.LawsOfViews.{OfThis}
 use Rattle.jn_base.specs.declared.types.Anchor.{Anchor}
 use Rattle.jn_base.specs.Atoms.{atom_of}
-use Rattle.jn_member_laws.specs.LawsOfMembers.{FieldsOf}
+use Rattle.jn_rule_laws.specs.LawsOfMembers.{FieldsOf}
 use Rattle.jn_laws.specs.LawsOfWritten.{IsWritten}
 use Rattle.jn_laws.specs.LawsOfPlaces.{WithinOf}
 use Rattle.jn_laws.proofs.WrittenTypes.{written_kinds, this_is_alone, targets_have_families}
 use Rattle.jn_laws.proofs.Universes.{slots_there}
-use Rattle.jn_member_laws.proofs.OneHeaders.{headers_are_one}
-use Rattle.jn_member_laws.proofs.OneFields.{fields_are_one}
-use Rattle.jn_member_laws.proofs.SameSignatures.{signatures}
-use Rattle.jn_member_laws.proofs.FoundMembers.{members_under_bounds}
+use Rattle.jn_rule_laws.proofs.OneHeaders.{headers_are_one}
+use Rattle.jn_rule_laws.proofs.OneFields.{fields_are_one}
+use Rattle.jn_rule_laws.proofs.SameSignatures.{signatures}
+use Rattle.jn_rule_laws.proofs.FoundMembers.{members_under_bounds}
 use Rattle.jn_rule_laws.specs.LawsOfHeaders.{ResultIs}
 use Rattle.jn_sound.specs.Callees.{header_of}
 use Rattle.jn_sound.specs.Needs.{Needs}
@@ -64,8 +64,8 @@ use Rattle.jn_sem.specs.Holds.{HoldsAt}
 use Rattle.jn_laws.specs.Surely.{Surely}
 use Rattle.std.specs.Prelude.{Contains, Ok}
 use Rattle.jn_sem.specs.State.{Variable, declared_vars}
-use Rattle.jn_member_laws.specs.LawsOfHeaders.{HeaderFits}
-use Rattle.jn_member_laws.proofs.OneHeaders.{headers_fit}
+use Rattle.jn_rule_laws.specs.LawsOfOneHeader.{HeaderFits}
+use Rattle.jn_rule_laws.proofs.OneHeaders.{headers_fit}
 use Rattle.std.specs.Prelude.{drop}
 use Rattle.std.proofs.lemmas.List.{drop_all}
 use Rattle.jn_laws.specs.LawsOfWritten.{scope_of}

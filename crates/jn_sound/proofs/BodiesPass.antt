@@ -24,7 +24,7 @@ use Rattle.jn_laws.proofs.Lists.{among_map}
 use Rattle.jn_rule_laws.specs.LawsOfHeaders.{IsHeader}
 use Rattle.jn_rule_laws.proofs.Declared.{turn_each}
 use Rattle.jn_rule_laws.proofs.HeaderLaws.{header_back}
-use Rattle.jn_member_laws.proofs.OneHeaders.{headers_are_one}
+use Rattle.jn_rule_laws.proofs.OneHeaders.{headers_are_one}
 
 abbrev body_at : Path → Method → Body
 body_at R x = record { class = R; method = x }

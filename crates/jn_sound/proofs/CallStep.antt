@@ -35,7 +35,7 @@ use Rattle.jn_sem.specs.LawsOfHeaps.{Later}
 use Rattle.jn_sem.specs.Does.{kept}
 use Rattle.std.specs.Prelude.{not}
 use Rattle.jn_sound.specs.Sound.{LeavesFit, result_views}
-use Rattle.jn_member_laws.specs.LawsOfMembers.{BodyAlike}
+use Rattle.jn_rule_laws.specs.LawsOfMembers.{BodyAlike}
 use Rattle.jn_sound.specs.Callees.{header_of}
 use Rattle.jn_sound.specs.Takes.{Typing, typing}
 use Rattle.jn_sound.specs.Sound.{Stands}
@@ -52,7 +52,7 @@ use Rattle.jn_rules.specs.Headers.{Header}
 use Rattle.jn_sound.specs.Callees.{Callee, IsCalled}
 use Rattle.jn_rule_laws.specs.LawsOfHeaders.{IsHeader}
 use Rattle.jn_laws.specs.Reading.{RefersTo, IsReal}
-use Rattle.jn_member_laws.specs.LawsOfMembers.{Alike}
+use Rattle.jn_rule_laws.specs.LawsOfMembers.{Alike}
 use Rattle.jn_laws.specs.Surely.{Surely}
 
 -- ---- with a result

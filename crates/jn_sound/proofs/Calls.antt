@@ -24,13 +24,13 @@ use Rattle.jn_rules.specs.Exprs.{replaced_paths, var_path}
 use Rattle.jn_rules.specs.Stmts.{is_void}
 use Rattle.jn_sound.specs.Takes.{Opd, opds_of, ArgsFit, none as no_args, one as one_arg}
 use Rattle.jn_sound.specs.Sound.{OperandFits, OperandsFit, one}
-use Rattle.jn_member_laws.specs.LawsOfMembers.{none as no_vars, one as one_var}
+use Rattle.jn_rule_laws.specs.LawsOfMembers.{none as no_vars, one as one_var}
 use Rattle.jn_sound.proofs.Views.{agree_in}
 use Rattle.jn_laws.specs.LawsOfViews.{Agree}
 use Rattle.jn_laws.proofs.ByViews.{value_same}
 use Rattle.jn_sound.proofs.Acts.{ObjectIs, null_is, object_is, object_value}
 use Rattle.jn_laws.specs.Reading.{IsReal}
-use Rattle.jn_member_laws.specs.LawsOfMembers.{Alike}
+use Rattle.jn_rule_laws.specs.LawsOfMembers.{Alike}
 use Rattle.jn_laws.specs.LawsOfWritten.{HeaderPath, HeaderPaths, of_this as is_this, of_param as is_param}
 
 -- ---- the arguments among the operands

@@ -30,9 +30,9 @@ use Rattle.jn_rules.specs.Headers.{Header, header_typed}
 use Rattle.jn_rules.specs.Exprs.{as_many, method_gives, method_with, call_typed, result_gives, unmasked, Here, Typed, Typing as ExprTyping, plain, gives, note_kind, kind_of, bind, fresh_paths, next_path, path_of, path_or_fresh, type_passed, suffix_typed, field_gives, field_type, of_class, first_bound}
 use Rattle.jn_rules.proofs.PlanLaws.{then_came, wanted, found_was}
 use Rattle.jn_rule_laws.proofs.HeaderLaws.{header_back}
-use Rattle.jn_member_laws.specs.LawsOfForms.{Grown, none as none_more, more}
-use Rattle.jn_member_laws.proofs.KnownTypes.{later_known, fresh_known, path_types_fit}
-use Rattle.jn_member_laws.proofs.FirstMasks.{no_first_mask}
+use Rattle.jn_rule_laws.specs.LawsOfForms.{Grown, none as none_more, more}
+use Rattle.jn_rule_laws.proofs.KnownTypes.{later_known, fresh_known, path_types_fit}
+use Rattle.jn_rule_laws.proofs.FirstMasks.{no_first_mask}
 use Rattle.jn_sound.specs.Callees.{Callee, IsCalled}
 use Rattle.jn_sound.specs.Takes.{opd, typing, Moves, same, named, wider}
 use Rattle.jn_sound.specs.Forms.{Good, Known, Reached, ArgMoved, FieldTyped, CallTyped}

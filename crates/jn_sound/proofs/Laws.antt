@@ -53,12 +53,12 @@ use Rattle.jn_base.specs.Atoms.{first, later}
 use Rattle.jn_rules.specs.Verdict.{TreePasses}
 use Rattle.jn_sem.specs.LawsOfFinding.{FoundOnceIn}
 use Rattle.jn_sem.specs.Does.{AreParamsAfter, var}
-use Rattle.jn_member_laws.specs.LawsOfMembers.{FieldsOf}
+use Rattle.jn_rule_laws.specs.LawsOfMembers.{FieldsOf}
 use Rattle.jn_laws.specs.LawsOfStores.{StoresOf}
 use Rattle.jn_laws.specs.LawsOfWritten.{HeaderPath, of_this, of_param}
 use Rattle.jn_laws.specs.LawsOfPlaces.{WithinOf}
 use Rattle.jn_laws.proofs.WrittenTypes.{written_kinds}
-use Rattle.jn_member_laws.specs.LawsOfMembers.{BodyAlike}
+use Rattle.jn_rule_laws.specs.LawsOfMembers.{BodyAlike}
 use Rattle.jn_sound.specs.Callees.{header_of}
 
 pub record Laws (p : Program) : Type 0 where

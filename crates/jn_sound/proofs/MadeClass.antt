@@ -35,8 +35,8 @@ use Rattle.jn_laws.proofs.Terms.{term_case}
 use Rattle.jn_rules.specs.Exprs.{made_exact}
 use Rattle.jn_rules.specs.Headers.{Header}
 use Rattle.jn_rule_laws.specs.LawsOfHeaders.{IsHeader}
-use Rattle.jn_member_laws.specs.LawsOfMembers.{SignaturesOf, BodyAlike, Alike, none as no_vars, one as one_var}
-use Rattle.jn_member_laws.proofs.SameSignatures.{signatures}
+use Rattle.jn_rule_laws.specs.LawsOfMembers.{SignaturesOf, BodyAlike, Alike, none as no_vars, one as one_var}
+use Rattle.jn_rule_laws.proofs.SameSignatures.{signatures}
 use Rattle.jn_sound.specs.Sound.{InScope, all_views}
 use Rattle.jn_sound.proofs.Laws.{Laws}
 use Rattle.jn_sound.proofs.Start.{header_there}

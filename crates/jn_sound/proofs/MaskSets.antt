@@ -27,10 +27,8 @@ use Rattle.jn_sem.specs.Normal.{NormalType}
 use Rattle.jn_sem.specs.NormalFunction.{normal_type}
 use Rattle.jn_sem.specs.Terms.{Site, TypeIs, spot_at, vars_at}
 use Rattle.jn_laws.proofs.Terms.{same_ok}
+use Rattle.jn_rule_laws.proofs.MaskNumbers.{formed_of}
 use Rattle.jn_sound.specs.KnownScopes.{MasksFormed}
-
-pub formed_of : (T : ℕ → Type 0) (m : Masks) → MasksOf T m → MasksOf (HasMask m) m
-formed_of T m f = record { words = f.words; wide = f.wide; each = λ i l. ((λ h. h), (λ h. h)) }
 
 zeros_wide : (k d : ℕ) → k < 4 → get_or (0 ∷ 0 ∷ 0 ∷ 0 ∷ []) k d < 2 ^ 64
 zeros_wide ℕ.zero d l = omega arith
@@ -41,19 +39,6 @@ zeros_wide (suc (suc (suc (suc k)))) d l = absurd (omega (arith, l))
 
 pub none_formed : MasksOf (HasMask no_masks) no_masks
 none_formed = record { words = refl; wide = λ k d l. zeros_wide k d l; each = λ i l. ((λ h. h), (λ h. h)) }
-
--- a mask's number is below 256
-pub mask_small : (m : Masks) → MasksOf (HasMask m) m → (i : ℕ) → HasMask m i → i < 256
-mask_small m f i h = at (nat_lt i 256) refl where
-  at : (c : Bool) → nat_lt i 256 ≡ c → i < 256
-  at true e = ltb-true i 256 e
-  at false e =
-      let k : 256 ≤ i = ltb-false i 256 e in
-      let l : length m.0 ≤ i / 64 = omega (arith, k, f.words) in
-      absurd (no (sym (bit_at-zero (i % 64))
-      ∙ ap (λ (w : ℕ). bit_at w (i % 64)) (sym (get_or-eq_default m.0 0 l)) ∙ h)) where
-        no : (let k : ℕ = 0 in k ≡ 1) → ⊥
-        no e = cc
 
 -- ---- written types
 

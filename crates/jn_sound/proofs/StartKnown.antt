@@ -22,9 +22,9 @@ use Rattle.jn_rules.specs.Exprs.{next_path}
 use Rattle.jn_rules.specs.Headers.{Header, site_in}
 use Rattle.jn_rules.specs.Stmts.{body_in, at_start}
 use Rattle.jn_rule_laws.specs.LawsOfHeaders.{IsHeader}
-use Rattle.jn_member_laws.specs.LawsOfForms.{TypeKnown, none as none_more}
-use Rattle.jn_member_laws.specs.LawsOfHeaders.{HeaderFits}
-use Rattle.jn_member_laws.proofs.OneHeaders.{headers_fit}
+use Rattle.jn_rule_laws.specs.LawsOfForms.{TypeKnown, none as none_more}
+use Rattle.jn_rule_laws.specs.LawsOfOneHeader.{HeaderFits}
+use Rattle.jn_rule_laws.proofs.OneHeaders.{headers_fit}
 use Rattle.jn_sound.specs.KnownScopes.{here_in, ScopeKnown, MasksFormed, StmtKnown}
 use Rattle.jn_sound.proofs.Laws.{ParamsSo, among_right, header_params}
 use Rattle.jn_sound.proofs.Entered.{bind_of}

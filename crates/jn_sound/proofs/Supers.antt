@@ -33,7 +33,7 @@ use Rattle.jn_sound.proofs.Calls.{no_pairs, Taken, args_taken, take_whole, take_
 use Rattle.jn_rules.specs.Headers.{Header}
 use Rattle.jn_sound.specs.Callees.{Callee}
 use Rattle.jn_rule_laws.specs.LawsOfHeaders.{IsHeader}
-use Rattle.jn_member_laws.specs.LawsOfMembers.{Alike}
+use Rattle.jn_rule_laws.specs.LawsOfMembers.{Alike}
 use Rattle.std.specs.Prelude.{Option, Ok, Contains, IsSome}
 use Rattle.jn_base.specs.declared.tree.Term.{Term}
 use Rattle.jn_base.specs.declared.tree.Constraint.{Constraint}

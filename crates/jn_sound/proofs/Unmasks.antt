@@ -31,7 +31,7 @@ use Rattle.jn_rules.specs.Stmts.{with_masks, remasked}
 use Rattle.jn_sound.specs.Takes.{Opd, opd, typing}
 use Rattle.jn_sound.specs.Sound.{HeapFits, InScope, none as no_opds, all_views, Stands}
 use Rattle.jn_sound.specs.Steps.{GoesAt, DidAt}
-use Rattle.jn_sound.proofs.MaskSets.{mask_small}
+use Rattle.jn_rule_laws.proofs.MaskNumbers.{mask_small}
 use Rattle.jn_sound.proofs.Laws.{Laws}
 use Rattle.jn_sound.proofs.Ways.{surely}
 use Rattle.jn_sound.proofs.Safe.{Sure, sure_to}

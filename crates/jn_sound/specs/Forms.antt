@@ -13,7 +13,7 @@ use Rattle.jn_sem.specs.Values.{Masked}
 use Rattle.jn_rules.specs.Plans.{FoundField}
 use Rattle.jn_rules.specs.Questions.{IsFoundField, Gives, masks_of}
 use Rattle.jn_rules.specs.Exprs.{Here, Passed, Typed, Typing as ExprTyping, plain, next_path, path_of, args_typed, field_type, put_in, replaced_paths}
-use Rattle.jn_member_laws.specs.LawsOfForms.{Grown, TypeKnown, PathKnown}
+use Rattle.jn_rule_laws.specs.LawsOfForms.{Grown, TypeKnown, PathKnown}
 use Rattle.jn_sound.specs.Callees.{Callee, IsCalled}
 use Rattle.jn_sound.specs.Takes.{Opd, opd, typing, Moves}
 

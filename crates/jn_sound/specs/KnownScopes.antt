@@ -15,7 +15,7 @@ use Rattle.jn_laws.specs.LawsOfScopes.{ScopesAlike}
 use Rattle.jn_rules.specs.Questions.{masks_of}
 use Rattle.jn_rules.specs.Exprs.{Here, site_here, bind, next_path}
 use Rattle.jn_rules.specs.Stmts.{In, Before}
-use Rattle.jn_member_laws.specs.LawsOfForms.{ScopeFor, TypeKnown}
+use Rattle.jn_rule_laws.specs.LawsOfForms.{ScopeFor, TypeKnown}
 
 -- ---- where an expression stands
 

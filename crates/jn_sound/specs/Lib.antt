@@ -6,3 +6,6 @@ pub mod Sound
 pub mod Steps
 pub mod Needs
 pub mod Forms
+pub mod Tree
+pub mod Stmts
+pub mod Bodies

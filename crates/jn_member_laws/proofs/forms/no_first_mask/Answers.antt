@@ -1,5 +1,0 @@
-use Rattle.jn_member_laws.proofs.FirstMasks.{no_first_mask}
-use Rattle.jn_member_laws.proofs.forms.no_first_mask.Goals as goal
-
-pub returns : goal.returns
-returns c = no_first_mask

@@ -1,5 +1,0 @@
-use Rattle.jn_member_laws.proofs.OneHeaders.{headers_fit}
-use Rattle.jn_member_laws.proofs.headers.headers_fit.Goals as goal
-
-pub returns : goal.returns
-returns c = headers_fit

@@ -1,5 +1,0 @@
-use Rattle.jn_member_laws.proofs.OneFields.{fields_are_one}
-use Rattle.jn_member_laws.proofs.members.fields_are_one.Goals as goal
-
-pub returns : goal.returns
-returns c = fields_are_one

@@ -1,5 +1,0 @@
-use Rattle.jn_member_laws.proofs.FoundMembers.{members_under_bounds}
-use Rattle.jn_member_laws.proofs.members.members_under_bounds.Goals as goal
-
-pub returns : goal.returns
-returns c = members_under_bounds

@@ -1,3 +1,0 @@
-pub mod LawsOfHeaders
-pub mod LawsOfMembers
-pub mod LawsOfForms

@@ -1,5 +1,0 @@
-use Rattle.jn_sound_tree.proofs.OtherExprs.{expressions_fit}
-use Rattle.jn_sound_tree.proofs.expressions_fit.Goals as goal
-
-pub returns : goal.returns
-returns c = expressions_fit

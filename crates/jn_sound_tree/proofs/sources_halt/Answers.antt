@@ -1,5 +1,0 @@
-use Rattle.jn_sound_tree.proofs.Sources.{sources_halt}
-use Rattle.jn_sound_tree.proofs.sources_halt.Goals as goal
-
-pub returns : goal.returns
-returns c = sources_halt

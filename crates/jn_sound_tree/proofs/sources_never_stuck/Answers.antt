@@ -1,5 +1,0 @@
-use Rattle.jn_sound_tree.proofs.Sources.{sources_never_stuck}
-use Rattle.jn_sound_tree.proofs.sources_never_stuck.Goals as goal
-
-pub returns : goal.returns
-returns c = sources_never_stuck
