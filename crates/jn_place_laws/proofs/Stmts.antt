@@ -35,8 +35,7 @@ use Rattle.jn_sound.specs.Takes.{typing}
 use Rattle.jn_sound.specs.Tree.{ExprKnown, Fresher}
 use Rattle.jn_sound.specs.KnownScopes.{StmtKnown, StandsIn, in_block, in_first, in_second, in_loop}
 use Rattle.jn_sound.proofs.Scopes.{fits_grown, grown_of}
-use Rattle.jn_rule_laws.proofs.Behind.{same_before}
-use Rattle.jn_sound.proofs.LocalsFit.{noted}
+use Rattle.jn_rule_laws.proofs.Behind.{same_before, noted}
 use Rattle.jn_sound.proofs.Blocks.{with_scope, known_at}
 use Rattle.jn_rule_laws.proofs.Behind.{apart_itself, all_move, blocks_move}
 use Rattle.jn_sound.proofs.Choices.{scopes_joined}
