@@ -1,2 +1,5 @@
 pub mod LawsOfNodes
 pub mod LawsOfExprs
+pub mod LawsOfStmts
+pub mod LawsOfBodies
+pub mod LawsOfUntyped
