@@ -9,3 +9,4 @@ pub mod Bodies
 pub mod Untyped
 pub mod UntypedStmts
 pub mod FewOperands
+pub mod Images

@@ -3,3 +3,4 @@ pub mod LawsOfExprs
 pub mod LawsOfStmts
 pub mod LawsOfBodies
 pub mod LawsOfUntyped
+pub mod LawsOfImages

@@ -3,6 +3,7 @@
 
 ghost use Rattle.jn_place_spans.specs.LawsOfBodies.{BodiesPass};
 ghost use Rattle.jn_place_spans.specs.LawsOfExprs.{ExprsSpan};
+ghost use Rattle.jn_place_spans.specs.LawsOfImages.{CodesValid, OperandsFew};
 ghost use Rattle.jn_place_spans.specs.LawsOfNodes.{NodesSpan};
 ghost use Rattle.jn_place_spans.specs.LawsOfStmts.{StmtsSpan};
 ghost use Rattle.jn_place_spans.specs.LawsOfUntyped.{ExprsStand, StmtsStand, BodiesStand, SourcesHoldFew};
@@ -49,4 +50,15 @@ pub fn bodies_stand()
 /// arguments.
 pub fn sources_hold_few()
     ensures { SourcesHoldFew }
+{}
+
+/// An image with the rows of a program, whose codes stand at the typed places of its bodies and of its start, has no fault
+/// in its codes.
+pub fn codes_valid()
+    ensures { CodesValid }
+{}
+
+/// The code of such a body holds no more than 3,806 operands, in each source within the limits.
+pub fn operands_few()
+    ensures { OperandsFew }
 {}
