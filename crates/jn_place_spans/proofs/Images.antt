@@ -34,8 +34,9 @@ use Rattle.jn_span_laws.proofs.Spanned.{joined}
 use Rattle.jn_span_laws.proofs.Forms as forms
 use Rattle.jn_span_laws.proofs.Bodies.{body}
 use Rattle.jn_size_laws.specs.LawsOfOperands.{FewParams}
+use Rattle.jn_size_laws.proofs.Limits.{files_within}
 use Rattle.jn_place_spans.specs.LawsOfNodes.{NodesOf, arguments}
-use Rattle.jn_place_spans.specs.LawsOfImages.{CodesStand, CodesValid, OperandsFew}
+use Rattle.jn_place_spans.specs.LawsOfImages.{CodesStand, CodesValid, OperandsFew, FilesStand}
 use Rattle.jn_place_spans.proofs.Nodes.{nodes, no_arguments}
 use Rattle.jn_place_spans.proofs.Bodies.{bodies_pass}
 use Rattle.jn_place_spans.proofs.UntypedStmts.{bodies_stand}
@@ -159,3 +160,17 @@ operands_few p bytes text deep i n rows shapes j b c e stands few =
     sources_hold_few p bytes text j b (ap (λ (bs : List Body). slice_get bs j) (sym rows.codes.bodies) ∙ e)
     ((bodies_stand p deep n b stands.header c stands.head stands.accepted stands.at few).arguments
     (few_params p i n rows shapes))
+
+-- ---- the file
+
+pub files_stand : FilesStand
+files_stand p bytes spelled short deep i n rows form stand rest =
+    files_within p bytes i n spelled short rows form (record {
+      codes = λ j b c e f.
+          let s = stand.bodies j b c e f in
+          (bodies_stand p deep n b s.0.header c s.0.head s.0.accepted s.0.at s.1.few).sized (rest.locals j b c e f);
+      start = λ c e. (stand.start c e).0;
+      methods = rest.methods;
+      fields = rest.fields;
+      groups = rest.groups;
+    }) rest.entries

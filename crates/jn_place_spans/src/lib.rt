@@ -3,7 +3,7 @@
 
 ghost use Rattle.jn_place_spans.specs.LawsOfBodies.{BodiesPass};
 ghost use Rattle.jn_place_spans.specs.LawsOfExprs.{ExprsSpan};
-ghost use Rattle.jn_place_spans.specs.LawsOfImages.{CodesValid, OperandsFew};
+ghost use Rattle.jn_place_spans.specs.LawsOfImages.{CodesValid, FilesStand, OperandsFew};
 ghost use Rattle.jn_place_spans.specs.LawsOfNodes.{NodesSpan};
 ghost use Rattle.jn_place_spans.specs.LawsOfStmts.{StmtsSpan};
 ghost use Rattle.jn_place_spans.specs.LawsOfUntyped.{ExprsStand, StmtsStand, BodiesStand, SourcesHoldFew};
@@ -61,4 +61,9 @@ pub fn codes_valid()
 /// The code of such a body holds no more than 3,806 operands, in each source within the limits.
 pub fn operands_few()
     ensures { OperandsFew }
+{}
+
+/// The file of such an image is within its limit, for each source within its own.
+pub fn files_stand()
+    ensures { FilesStand }
 {}
