@@ -1,3 +1,12 @@
 pub mod Nodes
+pub mod KindsOfTypes
 pub mod Typed
+pub mod Seen
 pub mod Exprs
+pub mod TypedStmts
+pub mod Stmts
+pub mod Bodies
+pub mod Untyped
+pub mod UntypedStmts
+pub mod FewOperands
+pub mod Images

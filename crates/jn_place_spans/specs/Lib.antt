@@ -1,2 +1,6 @@
 pub mod LawsOfNodes
 pub mod LawsOfExprs
+pub mod LawsOfStmts
+pub mod LawsOfBodies
+pub mod LawsOfUntyped
+pub mod LawsOfImages
