@@ -90,7 +90,8 @@ counted_none = tt
 
 -- ---- texts
 
-text_used : (p : Program) (ss : List Stmt) → StmtsFormed p ss → (u : Use) → Contains (all_of (map uses ss)) u → UseFormed p u
+text_used : (p : Program) (ss : List Stmt) → StmtsFormed p ss → (u : Use) → Contains (all_of (map uses ss)) u
+    → UseFormed p u
 text_used p [] formed u c = absurd (in_none u c)
 text_used p (s ∷ ss) formed u c =
     at (text_used p ss (λ z m. formed z (later m)) u) (Contains-append_cases (uses s) (all_of (map uses ss)) u c) where
@@ -138,7 +139,8 @@ last_there it (suc (suc (suc r))) last end runs = slice_get_within it.instrs las
 params_there : (p : Program) (b : Body) (k : Header) (it : Code) → Gives p (header_typed b) (Ok k) → (n : Naming)
     → TypedBodyAt p n b k it → (v : Var) → Among k.vars v → HasKind it v.path (kind_of_type v.ty)
 params_there p b k it head n at v m =
-    ap (λ (ks : List ℕ). slice_get (ks ++ it.locals) v.path) (at.params ∙ ap (λ (ks : List ℕ). 3 ∷ ks) at.is_shape.params)
+    ap (λ (ks : List ℕ). slice_get (ks ++ it.locals) v.path) (at.params
+    ∙ ap (λ (ks : List ℕ). 3 ∷ ks) at.is_shape.params)
     ∙ kinds_there k.vars (3 ∷ []) it.locals 1 refl
     (params_counted p b [] b.method.params k.vars ((headers_are_the_meanings p b k).0 head).params counted_none) v m
 
@@ -157,7 +159,11 @@ pub bodies_pass : BodiesPass
 bodies_pass p deep i n rows b k it head typed formed at has =
     let c = then_came (stmts_type (body_in b k) b.method.body (at_start b k)) _ tt typed in
     body i it k.vars at.first at.last refer at.tested
-    (stmts_span_all p deep i n rows it _ (body_in b k) (record { result = at.result ∙ at.is_shape.result; some = has.some })
+    (stmts_span_all p deep i n rows it _ (body_in b k) (record {
+      result = at.result
+          ∙ at.is_shape.result;
+      some = has.some;
+    })
     (at_start b k) (body_ready p b k it head n at has.few) b.method.body
     (texts_there p i n rows b.method.body formed) at.first at.last at.stmts
     (last_there it it.result at.last (length it.instrs) at.over) c.first c.gave has.operands)

@@ -124,7 +124,8 @@ module _ (p : Program) (deep : Shallow p) (i : Image) (n : Naming) (rows : RowsA
 
   view_refers : (v : ViewTerm) (x : Atom) → ViewIs p (site_here h) v x → AnchorRefers it x
   view_refers v x is q k up =
-      let c = class_case p (spot_at (site_here h) role.View) (vars_at (site_here h)) (mask_names p) (v.term ∷ []) v.masks
+      let c = class_case p (spot_at (site_here h) role.View) (vars_at (site_here h)) (mask_names p)
+      (v.term ∷ []) v.masks
       is.resolved.atoms (ty.Class (is.given ∷ []) is.masks) is.resolved.all is.resolved.gives in
       let o = c.each is.given (subst (λ (l : List ShownAtom). Among l is.given)
       (same_atoms c.atoms is.given is.masks c.given.masks c.given.is) first) in
@@ -132,7 +133,8 @@ module _ (p : Program) (deep : Shallow p) (i : Image) (n : Naming) (rows : RowsA
       (case_path (spot_at (site_here h) role.View) (vars_at (site_here h)) o.term.head is.given.anchor q k o.is.anchor
       (ap (λ (z : Atom). z.anchor) (sym is.is) ∙ up)))
     where
-      same_atoms : (xs : List ShownAtom) (y : ShownAtom) (m k : Masks) → ty.Class (y ∷ []) m ≡ ty.Class xs k → y ∷ [] ≡ xs
+      same_atoms : (xs : List ShownAtom) (y : ShownAtom) (m k : Masks) → ty.Class (y ∷ []) m ≡ ty.Class xs k
+          → y ∷ [] ≡ xs
       same_atoms xs y m k e = cc
 
   var_value : (v : Var) (sc : Scope) → ((var_typed v sc).ty ≡ ty.Void → ⊥)
@@ -197,7 +199,8 @@ module _ (p : Program) (deep : Shallow p) (i : Image) (n : Naming) (rows : RowsA
   run_le [] s t e = omega (arith, e)
   run_le (x ∷ xs) s t r = let l = run_le xs (s + 1) t r.1 in omega (arith, l)
 
-  sees : (sc : Scope) (keeps : Bool) (e : Expr) (s t : ℕ) → ExprAt p n scratch it h sc keeps e s t → Good sc → (y : Typed)
+  sees : (sc : Scope) (keeps : Bool) (e : Expr) (s t : ℕ) → ExprAt p n scratch it h sc keeps e s t → Good sc
+      → (y : Typed)
       → Gives p (expr_types h e sc) (Ok y) → Good y.scope
   sees sc keeps e s t at ok y g = expr_sees p deep n scratch it h locals sc keeps e s t at ok y g
 
@@ -311,14 +314,17 @@ module _ (p : Program) (deep : Shallow p) (i : Image) (n : Naming) (rows : RowsA
       (omega (arith, more))))
 
   -- `super`, from the parts of its first argument and of the others
-  super_joined : (keeps : Bool) (s l o m u q kind_q k j : ℕ) (kinds : List ℕ) (count : ℕ) (shape : Shape) (f : Named) (x : Var)
+  super_joined : (keeps : Bool) (s l o m u q kind_q k j : ℕ) (kinds : List ℕ) (count : ℕ) (shape : Shape)
+      (f : Named) (x : Var)
       (xs : List Var) (ks : List OperandKind) → HasKind it q kind_q → Run it.instrs (tuck q) l o → k < length i.classes
       → MethodOf n f.name j shape → shape.params ≡ kind_q ∷ kinds → length kinds ≡ count
       → Run it.instrs (ins.Cls k ∷ ins.Callat j ∷ dropping keeps shape.result) m u
       → shape.params ≡ map (λ (v : Var). kind_of_type v.ty) (x ∷ xs) → Part s l ks (var_kind x ∷ ks)
-      → Part o m (var_kind x ∷ (kind.Reference ∷ ks)) (reverse (map var_kind xs) ++ (var_kind x ∷ (kind.Reference ∷ ks)))
+      → Part o m (var_kind x ∷ (kind.Reference ∷ ks)) (reverse (map var_kind xs) ++ (var_kind x ∷
+      (kind.Reference ∷ ks)))
       → length ks + (count + 3) ≤ it.stack → Part s u ks (left_of keeps shape.result ++ ks)
-  super_joined keeps s l o m u q kind_q k j kinds count shape f x xs ks has tucks low sel params long runs is one rest room =
+  super_joined keeps s l o m u q kind_q k j kinds count shape f x xs ks has tucks low sel params long runs is one
+      rest room =
       let local : local_kind it q ≡ Some (var_kind x) =
       local_is p i n it rows q kind_q has ∙ ap (λ (z : ℕ). Some (kind_of z)) (first_kind (sym params ∙ is)) in
       let many_args : length (arguments shape) ≡ suc count =
@@ -327,7 +333,8 @@ module _ (p : Program) (deep : Shallow p) (i : Image) (n : Naming) (rows : RowsA
       let n_all = length-append (arguments shape) (kind.Reference ∷ ks) in
       joined i it s l u ks (var_kind x ∷ ks) (left_of keeps shape.result ++ ks) one
       (joined i it l o u (var_kind x ∷ ks) (var_kind x ∷ (kind.Reference ∷ ks)) (left_of keeps shape.result ++ ks)
-      (forms.tucked i it q l o (var_kind x) ks local (local_is p i n it rows 0 3 locals.this) tucks (omega (arith, room)))
+      (forms.tucked i it q l o (var_kind x) ks local (local_is p i n it rows 0 3 locals.this) tucks (omega
+      (arith, room)))
       (joined i it o m u (var_kind x ∷ (kind.Reference ∷ ks)) (arguments shape ++ (kind.Reference ∷ ks))
       (left_of keeps shape.result ++ ks)
       (left_as o m (var_kind x ∷ (kind.Reference ∷ ks)) (arguments shape) (reverse (var_kind x ∷ map var_kind xs))
@@ -368,7 +375,8 @@ module _ (p : Program) (deep : Shallow p) (i : Image) (n : Naming) (rows : RowsA
         left_as s t ks _ _ ks (value_is true y _ is ∙ var_value v sc (λ e. kept refl (ap (λ (z : Typed). z.ty) is ∙ e)))
         (its.read v.path (kind_of_type v.ty) s t ks (locals.vars v (named_among h.vars x v named)) runs
         (omega (arith, q, room)))
-    expr_span sc keeps _ s e (at_new _ _ pl t es x cls con _ m _ is args none shapes class ctors runs) ok y g kept inside ks room =
+    expr_span sc keeps _ s e (at_new _ _ pl t es x cls con _ m _ is args none shapes class ctors runs) ok y g kept
+        inside ks room =
         let q = ap (λ (x : Needs). x.operands) (size.at_new pl t es) in
         let l = le-max_left (stacked 0 (map expr_needs es)) (length (map expr_needs es) + 1) in
         let r = le-max_right (stacked 0 (map expr_needs es)) (length (map expr_needs es) + 1) in
@@ -377,7 +385,8 @@ module _ (p : Program) (deep : Shallow p) (i : Image) (n : Naming) (rows : RowsA
         (λ b c passed cons head long given.
         args_span c.vars es (fresh_with (normal_type sc (made_exact x)) sc).scope passed s m (replaced_paths c.vars)
         ((fresh_with (normal_type sc (made_exact x)) sc).path ∷ []) (args b c cons head)
-        (named_sees h (normal_type sc (made_exact x)) None sc ok) long given (omega (arith, low, inside)) ks (length ks) 0
+        (named_sees h (normal_type sc (made_exact x)) None sc ok) long given (omega (arith, low, inside)) ks
+        (length ks) 0
         (omega arith) (omega (arith, q, l, room)))
         none shapes class ctors runs (typed.new_found p h pl sc t x es y is g)
         (let z = length-map es expr_needs in omega (arith, q, r, z, room))
@@ -407,13 +416,15 @@ module _ (p : Program) (deep : Shallow p) (i : Image) (n : Naming) (rows : RowsA
         let tuck_le = run_le (tuck q) l o tucks in
         let rest_le = rest.le in
         left_as s u ks _ _ ks (result_left keeps y w shape is_shape)
-        (super_joined keeps s l o a u q kind_q k j kinds (length es) shape f0 f.x f.xs ks has tucks (class_number k B class) sel
+        (super_joined keeps s l o a u q kind_q k j kinds (length es) shape f0 f.x f.xs ks has tucks
+        (class_number k B class) sel
         params count runs (is_shape.params ∙ ap (map (λ (v : Var). kind_of_type v.ty)) f.same)
         (left_as s l ks (var_kind f.x ∷ []) (value_of true f.one.first.ty) ks (sym kind_is)
         (expr_span sc true e s l ea ok f.one.first f.one.had (λ z. not_void f.one.first.ty (var_kind f.x) kind_is)
         (omega (arith, tuck_le, rest_le, end, inside)) ks (omega (arith, needs, one, room))))
         rest (omega (arith, needs, two, four, all, room)))
-    expr_span sc keeps _ s u (at_bare_super _ _ pl t f B k j shape _ _ bnd shapes class sel none runs) ok y g kept inside ks
+    expr_span sc keeps _ s u (at_bare_super _ _ pl t f B k j shape _ _ bnd shapes class sel none runs) ok y g kept
+        inside ks
         room =
         let q = ap (λ (x : Needs). x.operands) (size.at_super pl t f []) in
         let w = typed.super_found p h pl sc t f [] y g in
@@ -427,7 +438,8 @@ module _ (p : Program) (deep : Shallow p) (i : Image) (n : Naming) (rows : RowsA
         let b = le-max_right (N e) (highest (map suffix_needs xs)) in
         let c = then_came (expr_types h e sc) (suffixes_typed pl e.at (typed_parts h xs)) y
         (typed.asked p h (expr pl (node.Post e xs)) sc y _ ((forms_are.exprs h pl sc).post e xs) g) in
-        let rest = parts_span c.first keeps xs l t (parts c.first c.gave) (sees sc true e s l ea ok c.first c.gave) pl e.at y
+        let rest = parts_span c.first keeps xs l t (parts c.first c.gave)
+        (sees sc true e s l ea ok c.first c.gave) pl e.at y
         c.then kept in
         let behind = rest.1 inside ks (omega (arith, q, b, room)) in
         let low = behind.le in
@@ -445,7 +457,8 @@ module _ (p : Program) (deep : Shallow p) (i : Image) (n : Naming) (rows : RowsA
         let end = run_le (ins.Not ∷ []) l t runs in
         left_as s t ks _ _ ks (value_is true y _ (typed.gave p (plain ty.Bool c.first.scope) y w.then))
         (joined i it s l t ks (value_of true c.first.ty ++ ks) (kind.Bool ∷ ks)
-        (expr_span sc true e s l ea ok c.first c.gave (λ z. not_void c.first.ty kind.Bool v) (omega (arith, end, inside)) ks
+        (expr_span sc true e s l ea ok c.first c.gave (λ z. not_void c.first.ty kind.Bool v) (omega
+        (arith, end, inside)) ks
         (omega (arith, q, room)))
         (from_as l t _ _ ks (kind.Bool ∷ ks) v (its.invert l t ks runs (omega (arith, q, low, room)))))
     expr_span sc _ _ s t (at_neg _ pl e _ l _ ea runs) ok y g kept inside ks room =
@@ -458,7 +471,8 @@ module _ (p : Program) (deep : Shallow p) (i : Image) (n : Naming) (rows : RowsA
         let end = run_le (ins.Neg ∷ []) l t runs in
         left_as s t ks _ _ ks (value_is true y _ (typed.gave p (plain ty.Int c.first.scope) y w.then))
         (joined i it s l t ks (value_of true c.first.ty ++ ks) (kind.Int ∷ ks)
-        (expr_span sc true e s l ea ok c.first c.gave (λ z. not_void c.first.ty kind.Int v) (omega (arith, end, inside)) ks
+        (expr_span sc true e s l ea ok c.first c.gave (λ z. not_void c.first.ty kind.Int v) (omega
+        (arith, end, inside)) ks
         (omega (arith, q, room)))
         (from_as l t _ _ ks (kind.Int ∷ ks) v (its.negate l t ks runs (omega (arith, q, low, room)))))
     expr_span sc _ _ s t (at_view _ pl v e x cls _ l _ ea is class runs) ok y g kept inside ks room =
@@ -470,7 +484,8 @@ module _ (p : Program) (deep : Shallow p) (i : Image) (n : Naming) (rows : RowsA
         let end = run_le (cls ++ ins.Conv ∷ []) l t runs in
         left_as s t ks _ _ ks (class_value y.ty w.class true)
         (joined i it s l t ks (value_of true w.first.ty ++ ks) (kind.Reference ∷ ks)
-        (expr_span sc true e s l ea ok w.first w.had (λ z. not_void w.first.ty kind.Reference o) (omega (arith, end, inside))
+        (expr_span sc true e s l ea ok w.first w.had (λ z. not_void w.first.ty kind.Reference o) (omega
+        (arith, end, inside))
         ks (omega (arith, q, a, room)))
         (from_as l t _ _ ks (kind.Reference ∷ ks) o
         (its.view x cls l t ks many (view_refers v x is) class runs (omega (arith, q, b, room)))))
@@ -481,7 +496,8 @@ module _ (p : Program) (deep : Shallow p) (i : Image) (n : Naming) (rows : RowsA
         let low = expr_low sc true e s l ea in
         let c = then_came (expr_types h e sc) (λ x. links_typed h e.at x (typed_links h ls)) y
         (typed.asked p h (expr pl (node.Chain level e ls)) sc y _ ((forms_are.exprs h pl sc).chain level e ls) g) in
-        let rest = links_span c.first ls l t (links c.first c.gave) (sees sc true e s l ea ok c.first c.gave) e.at y c.then
+        let rest = links_span c.first ls l t (links c.first c.gave)
+        (sees sc true e s l ea ok c.first c.gave) e.at y c.then
         (kept refl) in
         let behind = rest.1 inside ks (omega (arith, q, b, room)) (omega (arith, q, a, low, room)) in
         let end = behind.le in
@@ -506,13 +522,15 @@ module _ (p : Program) (deep : Shallow p) (i : Image) (n : Naming) (rows : RowsA
         ∙ ap (λ (z : ℕ). kind_of z ∷ []) (put_kind f.first.scope from to x.ty) in
         let behind = args_span xs es (arg_passed from to x f.first).scope passed l t from
         (to ++ (arg_passed from to x f.first).path ∷ []) (rest f.first f.had)
-        (named_sees h _ f.first.path f.first.scope (sees sc true e s l ea ok f.first f.had)) (ap pred long) f.rest inside
+        (named_sees h _ f.first.path f.first.scope (sees sc true e s l ea ok f.first f.had))
+        (ap pred long) f.rest inside
         (var_kind x ∷ ks) d (suc base) (omega (arith, is)) (omega (arith, b, room)) in
         let low = behind.le in
         subst (λ (ls : List OperandKind). Part s t ks ls) (sym (turned (var_kind x) (map var_kind xs) ks))
         (joined i it s l t ks (var_kind x ∷ ks) (reverse (map var_kind xs) ++ (var_kind x ∷ ks))
         (left_as s l ks (var_kind x ∷ []) (value_of true f.first.ty) ks (sym k)
-        (expr_span sc true e s l ea ok f.first f.had (λ z. not_void f.first.ty (var_kind x) k) (omega (arith, low, inside))
+        (expr_span sc true e s l ea ok f.first f.had (λ z. not_void f.first.ty (var_kind x) k) (omega
+        (arith, low, inside))
         ks (omega (arith, is, a, room))))
         behind)
 
@@ -539,9 +557,11 @@ module _ (p : Program) (deep : Shallow p) (i : Image) (n : Naming) (rows : RowsA
     parts_span x keeps _ s t (one_part _ _ z v vs2 _ l _ part rest) ok whole at y g kept =
         let c = then_came (part_types h z at x) (suffixes_typed whole whole (typed_parts h (v ∷ vs2))) y g in
         let then = parts_span c.first keeps (v ∷ vs2) l t (rest at c.first c.gave)
-        (part_sees p deep n scratch it h locals x true (out-Suffix z).name (out-Suffix z).args s l part ok at c.first c.gave)
+        (part_sees p deep n scratch it h locals x true (out-Suffix z).name
+        (out-Suffix z).args s l part ok at c.first c.gave)
         whole whole y c.then kept in
-        let one = part_span x true (out-Suffix z).name (out-Suffix z).args s l part ok at c.first c.gave (λ k. then.0) in (
+        let one = part_span x true (out-Suffix z).name (out-Suffix z).args s l part ok at c.first c.gave
+        (λ k. then.0) in (
           one.0,
           λ inside ks room. one_behind i it s l t _ (value_of true c.first.ty ++ ks) _
               (λ low. one.1 low ks (low_first z (v ∷ vs2) ks room)) (then.1 inside ks (low_rest z (v ∷ vs2) ks room))
@@ -559,7 +579,8 @@ module _ (p : Program) (deep : Shallow p) (i : Image) (n : Naming) (rows : RowsA
         let v = class_value x.ty w.class true in
         let ty_is = ap (λ (z : Typed). z.ty) w.is in
         let k : kind_of (kind_of_type y.ty) ≡ kind_of kind_f =
-        ap (λ (z : Ty). kind_of (kind_of_type z)) ty_is ∙ ap kind_of (put_kind (path_of x.ty x).scope (0 ∷ []) ((path_of x.ty x).path ∷ []) w.c.ty)
+        ap (λ (z : Ty). kind_of (kind_of_type z)) ty_is ∙ ap kind_of (put_kind (path_of x.ty x).scope (0 ∷ [])
+        ((path_of x.ty x).path ∷ []) w.c.ty)
         ∙ sym (field_kind w.c.ty kind_f (kinds w.c w.here)) in (
           not_void x.ty kind.Reference v,
           λ inside ks room. from_as s t _ _ ks _ v (left_as s t _ _ _ ks
@@ -583,12 +604,14 @@ module _ (p : Program) (deep : Shallow p) (i : Image) (n : Naming) (rows : RowsA
               (args_span w.header.vars es (path_of x.ty x).scope w.passed s l (replaced_paths w.header.vars)
               ((path_of x.ty x).path ∷ []) (args w.body w.header w.here w.head)
               (named_sees h x.ty x.path x.scope ok)
-              (w.many ∙ length-map es (typed_expr h)) w.args (omega (arith, end, inside)) (kind.Reference ∷ ks) (length ks) 1
+              (w.many ∙ length-map es (typed_expr h)) w.args (omega (arith, end, inside)) (kind.Reference ∷ ks)
+              (length ks) 1
               (omega arith) room))
               (its.call f.name j shape keeps l t ks sel runs (low_call es ks room)))),
         )
 
-    links_span : (x : Typed) (ls : List Link) (s t : ℕ) → LinksAt p n scratch it h x ls s t → Good x.scope → (at : Place) (y : Typed)
+    links_span : (x : Typed) (ls : List Link) (s t : ℕ) → LinksAt p n scratch it h x ls s t → Good x.scope
+        → (at : Place) (y : Typed)
         → Gives p (links_typed h at x (typed_links h ls)) (Ok y) → (y.ty ≡ ty.Void → ⊥) → (x.ty ≡ ty.Void → ⊥)
         × (t < length it.instrs → (ks : List OperandKind) → length ks + highest (map link_needs ls) ≤ it.stack
         → suc (length ks) ≤ it.stack → Part s t (value_of true x.ty ++ ks) (value_of true y.ty ++ ks))

@@ -106,7 +106,8 @@ mutual
   of_one : (k : Kind) (d n : ℕ) (w : List Part) (m : Member) → g.IsMember k d n w m → Nests w → (R : Path)
       → AllFew (one_member m R)
   of_one k d n w m (g.declared {t = t} h) nests R =
-      subst (λ (f : InOrder). AllFew (f R)) (sym (member_is (member.Inner t) _ (outs-Inner t))) (of_inner d n w t h nests R)
+      subst (λ (f : InOrder). AllFew (f R)) (sym (member_is (member.Inner t) _ (outs-Inner t)))
+      (of_inner d n w t h nests R)
   of_one k d n w m (g.slot {x = x} p s {w = v} {t = t} h) nests R =
       subst (λ (f : InOrder). AllFew (f R))
       (sym (member_is (member.Slot (record { ty = t; name = record { name = x; at = p } })) _
@@ -138,7 +139,8 @@ of_top w0 t0 (g.top {k = k} {x = x} {p = p} o c {t = t} {u = u} {v = v} {w = w}
     {es = es} {adapted = fs} {ms = ms} is ls ls' h) nests R =
     let whole = g.decl k (record { name = x; at = p }) es [] fs ms in
     let behind = nests_back v _ (nests_back u _ nests.1.1) in
-    subst (λ (f : InOrder). AllFew (f R)) (sym (decl_is whole)) (of_members k 1 2 w ms h (nests_front w _ behind.1) (x ∷ R))
+    subst (λ (f : InOrder). AllFew (f R)) (sym (decl_is whole)) (of_members k 1 2 w ms h (nests_front w _ behind.1)
+    (x ∷ R))
 
 of_tops : (w : List Part) (ds : List Decl) → g.IsProgram w ds → Nests w → AllFew (one_by_one (map of_decl ds) [])
 of_tops w ds g.no_top nests = no_few

@@ -44,7 +44,8 @@ use Rattle.jn_place_spans.proofs.FewOperands.{sources_hold_few}
 
 -- ---- the start's code
 
-module _ (p : Program) (i : Image) (n : Naming) (rows : RowsAre p i n) (c : Code) (at : StartAt p n c) (room : 1 ≤ c.stack)
+module _ (p : Program) (i : Image) (n : Naming) (rows : RowsAre p i n) (c : Code) (at : StartAt p n c)
+    (room : 1 ≤ c.stack)
   where
     its : NodesOf p i n c
     its = nodes p i n c rows
@@ -107,7 +108,8 @@ there [] j l = absurd (omega (arith, l))
 there (x ∷ xs) zero l = (x, refl)
 there (x ∷ xs) (suc j) l = there xs j (omega (arith, l))
 
-each_passes : (p : Program) → Shallow p → (i : Image) (n : Naming) → RowsAre p i n → CodesStand p i n → (j : ℕ) (c : Code)
+each_passes : (p : Program) → Shallow p → (i : Image) (n : Naming) → RowsAre p i n → CodesStand p i n
+    → (j : ℕ) (c : Code)
     → slice_get i.codes j ≡ Some c → Passes i c
 each_passes p deep i n rows stand j c e = at (split j (length n.bodies) (let l = slice_get_within i.codes j c e in
     let all = rows.codes.all in omega (arith, l, all)))
@@ -134,7 +136,8 @@ codes_none i k (c ∷ cs) each start =
     ap (λ (x : Pass). code_fault x k (codes_fault i (k + 1) cs)) (each zero c refl).1
     ∙ codes_none i (k + 1) cs (λ j d e. each (suc j) d e) start
 
-starts : (i : Image) (c : Code) → slice_get i.codes i.start ≡ Some c → c.params ≡ [] → c.result ≡ 0 → start_fault i ≡ None
+starts : (i : Image) (c : Code) → slice_get i.codes i.start ≡ Some c → c.params ≡ [] → c.result ≡ 0
+    → start_fault i ≡ None
 starts i c e params result =
     ap (λ (b : Bool). if b then None else Some (fault.BadCode i.start 0 why.Start))
     (ap starts_well e ∙ ap (λ (ks : List ℕ). nat_eq (length ks) 0 && not (is_some (result_kind c.result))) params

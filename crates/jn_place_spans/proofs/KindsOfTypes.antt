@@ -138,7 +138,8 @@ pub number_pair : (t u : Ty) → is_int t ≡ true → is_int u ≡ true → (va
 number_pair t u a b = (ap (value_of true) (int_is t a), ap (value_of true) (int_is u b))
 
 pub operands : (o : Op) → Strict o → (t u : Ty) → takes o t ≡ true → takes o u ≡ true → takes_both o t u ≡ true
-    → (value_of true t ≡ operand_kind o (kind_of_type u) ∷ []) × (value_of true u ≡ operand_kind o (kind_of_type u) ∷ [])
+    → (value_of true t ≡ operand_kind o (kind_of_type u) ∷ []) × (value_of true u ≡ operand_kind o
+    (kind_of_type u) ∷ [])
 operands _ add t u a b c = number_pair t u a b
 operands _ sub t u a b c = number_pair t u a b
 operands _ mul t u a b c = number_pair t u a b
@@ -189,7 +190,8 @@ pub decide_low : (o : Op) (and : Bool) → IsDecide o and → (k : ℕ) → link
 decide_low _ _ both k = refl
 decide_low _ _ either k = refl
 
-pub named_same : (vs : List Var) (x : Name) (v : Var) → newest vs x ≡ Some v → var_named (record { list = vs }) x ≡ Some v
+pub named_same : (vs : List Var) (x : Name) (v : Var) → newest vs x ≡ Some v
+    → var_named (record { list = vs }) x ≡ Some v
 named_same vs x v e = found_named (reverse vs) x ∙ e where
   found_named : (vs : List Var) (x : Name) → newest_in vs x ≡ find (λ (y : Var). nat_eq y.name.0 x.0) vs
   found_named [] x = refl

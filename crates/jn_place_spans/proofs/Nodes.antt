@@ -100,7 +100,8 @@ module _ (p : Program) (i : Image) (n : Naming) (c : Code) (rows : RowsAre p i n
 
   shape_at : (m : Name) (j : ℕ) (shape : Shape) → MethodOf n m j shape → slice_get i.methods j ≡ Some shape
   shape_at m j shape sel =
-      ap (λ (ks : List Shape). slice_get ks j) (sym rows.shapes) ∙ slice_get-map (λ (x : MethodSel). x.shape) n.methods j
+      ap (λ (ks : List Shape). slice_get ks j) (sym rows.shapes)
+      ∙ slice_get-map (λ (x : MethodSel). x.shape) n.methods j
       ∙ ap (option_map (λ (x : MethodSel). x.shape)) sel.at
 
   kind_at : (f : Name) (j k : ℕ) → FieldOf n f j k → slice_get i.fields j ≡ Some k
@@ -160,7 +161,8 @@ module _ (p : Program) (i : Image) (n : Naming) (c : Code) (rows : RowsAre p i n
     number = lt-ltb j (length i.methods) (method_there j shape (shape_at m j shape sel));
     local = refl;
     returns = refl;
-    takes_it = ap (λ (o : Option Shape). each_some (argument_kinds o ++ (kind.Reference ∷ []))) (shape_at m j shape sel);
+    takes_it = ap (λ (o : Option Shape). each_some (argument_kinds o ++ (kind.Reference ∷ [])))
+        (shape_at m j shape sel);
     gives_it = ap (option_and_then (λ (h : Shape). result_kind h.result)) (shape_at m j shape sel);
   }
 
@@ -283,7 +285,8 @@ module _ (p : Program) (i : Image) (n : Naming) (c : Code) (rows : RowsAre p i n
   bare_super m k j shape keeps s e ks low sel empty this runs room =
       joined i c s (s + 1) e ks (kind.Reference ∷ ks) (left_of keeps shape.result ++ ks)
       (forms.loads i c s 0 kind.Reference ks runs.0 this (omega (arith, room)))
-      (subst (λ (ws : List OperandKind). Part (s + 1) e (ws ++ (kind.Reference ∷ ks)) (left_of keeps shape.result ++ ks))
+      (subst (λ (ws : List OperandKind). Part (s + 1) e (ws ++ (kind.Reference ∷ ks))
+      (left_of keeps shape.result ++ ks))
       (no_arguments shape.params empty)
       (super m k j shape keeps (s + 1) e ks low sel runs.1
       (subst (λ (ws : List OperandKind). suc (length (ws ++ (kind.Reference ∷ ks))) ≤ c.stack)
@@ -310,7 +313,8 @@ module _ (p : Program) (i : Image) (n : Naming) (c : Code) (rows : RowsAre p i n
       (plain ins.Conv (kind.Class ∷ (kind.Reference ∷ [])) (Some kind.Reference) refl refl refl refl refl refl refl)
       (omega (arith, room)))
 
-  new_made : (x : Atom) (cls rest : List Instr) (s e : ℕ) (ks ls : List OperandKind) → length n.classes ≤ length i.classes
+  new_made : (x : Atom) (cls rest : List Instr) (s e : ℕ) (ks ls : List OperandKind)
+      → length n.classes ≤ length i.classes
       → AnchorRefers c x → ClassCode n x cls → Run c.instrs (cls ++ (ins.New ∷ rest)) s e → suc (length ks) ≤ c.stack
       → ((m : ℕ) → Run c.instrs rest m e → Part m e (kind.Reference ∷ ks) ls) → Part s e ks ls
   new_made x cls rest s e ks ls many refers code runs room behind =
@@ -327,11 +331,13 @@ module _ (p : Program) (i : Image) (n : Naming) (c : Code) (rows : RowsAre p i n
       → suc (length (arguments shape ++ ks)) ≤ c.stack → suc (length ks) ≤ c.stack
       → Part s e (arguments shape ++ ks) (left_of keeps 3 ++ ks)
   make x C j shape cls keeps s e ks many refers code sel runs room less =
-      new_made x cls (ins.Ctor j ∷ dropping keeps 3) s e (arguments shape ++ ks) (left_of keeps 3 ++ ks) many refers code
+      new_made x cls (ins.Ctor j ∷ dropping keeps 3) s e (arguments shape ++ ks)
+      (left_of keeps 3 ++ ks) many refers code
       runs room
       (λ m run. joined i c m (m + 1) e (kind.Reference ∷ (arguments shape ++ ks)) (kind.Reference ∷ ks)
       (left_of keeps 3 ++ ks)
-      (asked m (ins.Ctor j) (kind.Reference ∷ arguments shape) (Some kind.Reference) ks run.0 (builds C j shape sel) less)
+      (asked m (ins.Ctor j) (kind.Reference ∷ arguments shape) (Some kind.Reference) ks run.0
+      (builds C j shape sel) less)
       (dropped keeps 3 (m + 1) e ks run.1 (omega (arith, less))))
 
   make_bare : (x : Atom) (cls : List Instr) (keeps : Bool) (s e : ℕ) (ks : List OperandKind)

@@ -83,7 +83,8 @@ first_passed p h from x xs e es to sc passed g =
     record { first = came.first; had = came.gave; below = w.0; rest = w.1 }
 
 -- where there is an argument there is a parameter for it
-pub record FirstOfAll (p : Program) (h : Here) (from : List ℕ) (vars : List Var) (e : Expr) (es : List Expr) (to : List ℕ)
+pub record FirstOfAll (p : Program) (h : Here) (from : List ℕ) (vars : List Var) (e : Expr) (es : List Expr)
+    (to : List ℕ)
     (sc : Scope) (passed : Passed) : Type 0 where
   pub x : Var
   pub xs : List Var
@@ -119,9 +120,10 @@ pub var_of : (p : Program) (h : Here) (x : Name) (v : Var) (sc : Scope) (pl : Pl
 var_of p h x v sc pl y None e g = absurd (no e) where
   no : ◌≡◌ {A = Option Var} None (Some v) → ⊥
   no e = cc
-var_of p h x v sc pl y (Some w) e g = typed.gave p (var_typed w sc) y g ∙ ap (λ (z : Var). var_typed z sc) (same e) where
-  same : Some w ≡ Some v → w ≡ v
-  same e = cc
+var_of p h x v sc pl y (Some w) e g = typed.gave p (var_typed w sc) y g
+    ∙ ap (λ (z : Var). var_typed z sc) (same e) where
+      same : Some w ≡ Some v → w ≡ v
+      same e = cc
 
 var_scope : (v : Var) (sc : Scope) → (var_typed v sc).scope ≡ sc
 var_scope v sc = at (v.fixed && is_class v.ty) where
@@ -179,10 +181,12 @@ module _ (p : Program) (deep : Shallow p) (n : Naming) (scratch : ℕ) (it : Cod
     pub super_body : (s : Scope) → SeesAs h s → (t : Term) (m : Named) (es : List Expr) (y : Typed) (B : Path)
         → SuperBound p (site_here h) t B → (w : typed.SuperFound p h s t m es y) → IsBody p B m.name w.body
     super_body s g t m es y B is w =
-        subst (λ (Z : Path). IsBody p Z m.name w.body) (sym (super_class p deep it h locals s g t m es y B is w)) w.is_body
+        subst (λ (Z : Path). IsBody p Z m.name w.body) (sym (super_class p deep it h locals s g t m es y B is w))
+        w.is_body
 
     made_sees : (sc : Scope) (x : Atom) (es : List Expr) (y : Typed) → typed.NewFound p h sc x es y → SeesAs h sc
-        → ((b : Body) (c : Header) (passed : Passed) → IsConstructorBody p (bound sc x) b → Gives p (header_typed b) (Ok c)
+        → ((b : Body) (c : Header) (passed : Passed) → IsConstructorBody p (bound sc x) b
+        → Gives p (header_typed b) (Ok c)
         → Gives p (call_typed h c (typed_args h es) (fresh_with (normal_type sc (made_exact x)) sc)) (Ok passed)
         → SeesAs h passed.scope) → SeesAs h y.scope
     made_sees sc x es y (typed.bare lacks cls scope) ok args =
@@ -245,13 +249,15 @@ module _ (p : Program) (deep : Shallow p) (n : Naming) (scratch : ℕ) (it : Cod
       expr_sees sc keeps _ s u (at_super _ _ pl t f0 e es B q kind k j kinds shape _ l o a _ ea under has tucks bnd args
           shapes class sel params count runs) ok y g =
           let w = typed.super_found p h pl sc t f0 (e ∷ es) y g in
-          let f = first_of_all p h (replaced_paths w.header.vars) w.header.vars e es (0 ∷ []) sc w.passed w.long w.args in
+          let f = first_of_all p h (replaced_paths w.header.vars) w.header.vars e es
+          (0 ∷ []) sc w.passed w.long w.args in
           as_was h w.passed.scope y.scope (ap (λ (z : Typed). z.scope) w.is)
           (args_sees f.xs es (arg_passed (replaced_paths w.header.vars) (0 ∷ []) f.x f.one.first).scope w.passed o a
           (replaced_paths w.header.vars)
           (0 ∷ (arg_passed (replaced_paths w.header.vars) (0 ∷ []) f.x f.one.first).path ∷ [])
           (args w.body w.header f.x f.xs f.one.first (super_body sc ok t f0 (e ∷ es) y B bnd w) w.head f.same f.one.had)
-          (named_sees h _ f.one.first.path f.one.first.scope (expr_sees sc true e s l ea ok f.one.first f.one.had)) f.one.rest)
+          (named_sees h _ f.one.first.path f.one.first.scope (expr_sees sc true e s l ea ok f.one.first f.one.had))
+          f.one.rest)
       expr_sees sc keeps _ s u (at_bare_super _ _ pl t f B k j shape _ _ bnd shapes class sel none runs) ok y g =
           let w = typed.super_found p h pl sc t f [] y g in
           as_was h sc y.scope (ap (λ (z : Typed). z.scope) w.is
@@ -259,19 +265,22 @@ module _ (p : Program) (deep : Shallow p) (n : Naming) (scratch : ℕ) (it : Cod
       expr_sees sc keeps _ s t (at_post _ _ pl e xs _ l _ ea parts) ok y g =
           let c = then_came (expr_types h e sc) (suffixes_typed pl e.at (typed_parts h xs)) y
           (typed.asked p h (expr pl (node.Post e xs)) sc y _ ((forms_are.exprs h pl sc).post e xs) g) in
-          parts_sees c.first keeps xs l t (parts c.first c.gave) (expr_sees sc true e s l ea ok c.first c.gave) pl e.at y
+          parts_sees c.first keeps xs l t (parts c.first c.gave)
+          (expr_sees sc true e s l ea ok c.first c.gave) pl e.at y
           c.then
       expr_sees sc _ _ s t (at_not _ pl e _ l _ ea runs) ok y g =
           let c = then_came (expr_types h e sc) _ y
           (typed.asked p h (expr pl (node.Not e)) sc y _ ((forms_are.exprs h pl sc).invert e) g) in
           let w = wanted (is_bool c.first.ty) _ _ y c.then in
-          as_was h c.first.scope y.scope (ap (λ (z : Typed). z.scope) (typed.gave p (plain ty.Bool c.first.scope) y w.then))
+          as_was h c.first.scope y.scope (ap (λ (z : Typed). z.scope) (typed.gave p
+          (plain ty.Bool c.first.scope) y w.then))
           (expr_sees sc true e s l ea ok c.first c.gave)
       expr_sees sc _ _ s t (at_neg _ pl e _ l _ ea runs) ok y g =
           let c = then_came (expr_types h e sc) _ y
           (typed.asked p h (expr pl (node.Neg e)) sc y _ ((forms_are.exprs h pl sc).negate e) g) in
           let w = wanted (is_int c.first.ty) _ _ y c.then in
-          as_was h c.first.scope y.scope (ap (λ (z : Typed). z.scope) (typed.gave p (plain ty.Int c.first.scope) y w.then))
+          as_was h c.first.scope y.scope (ap (λ (z : Typed). z.scope) (typed.gave p
+          (plain ty.Int c.first.scope) y w.then))
           (expr_sees sc true e s l ea ok c.first c.gave)
       expr_sees sc _ _ s t (at_view _ pl v e x cls _ l _ ea is class runs) ok y g =
           let w = typed.view_found p h pl v e sc y g in
@@ -311,12 +320,14 @@ module _ (p : Program) (deep : Shallow p) (n : Naming) (scratch : ℕ) (it : Cod
           → Gives p (suffix_typed h f (given_args h args) at x) (Ok y) → SeesAs h y.scope
       part_sees x _ f _ s t (at_field _ _ j kind_f _ _ sel kinds runs) ok at y g =
           let w = typed.field_found p h f at x y g in
-          as_was h (path_of x.ty x).scope y.scope (ap (λ (z : Typed). z.scope) w.is) (named_sees h x.ty x.path x.scope ok)
+          as_was h (path_of x.ty x).scope y.scope (ap (λ (z : Typed). z.scope) w.is)
+          (named_sees h x.ty x.path x.scope ok)
       part_sees x keeps f _ s t (at_call _ _ _ es j shape _ l _ args shapes sel count runs) ok at y g =
           let w = typed.call_found p h f (typed_args h es) at x y g in
           as_was h w.passed.scope y.scope (ap (λ (z : Typed). z.scope) w.is)
           (args_sees w.header.vars es (path_of x.ty x).scope w.passed s l (replaced_paths w.header.vars)
-          ((path_of x.ty x).path ∷ []) (args w.body w.header w.here w.head) (named_sees h x.ty x.path x.scope ok) w.args)
+          ((path_of x.ty x).path ∷ []) (args w.body w.header w.here w.head)
+          (named_sees h x.ty x.path x.scope ok) w.args)
 
       links_sees : (x : Typed) (ls : List Link) (s t : ℕ) → LinksAt p n scratch it h x ls s t → SeesAs h x.scope
           → (at : Place) (y : Typed) → Gives p (links_typed h at x (typed_links h ls)) (Ok y) → SeesAs h y.scope

@@ -64,7 +64,8 @@ void_result ty.Bool e = cc
 void_result ty.Null e = cc
 void_result (ty.Class xs m) e = cc
 
-module _ (p : Program) (deep : Shallow p) (i : Image) (n : Naming) (rows : RowsAre p i n) (it : Code) (scratch : ℕ) (b : In)
+module _ (p : Program) (deep : Shallow p) (i : Image) (n : Naming) (rows : RowsAre p i n) (it : Code) (scratch : ℕ)
+    (b : In)
     (fits : FitsBody it b) where
   abbrev Part : ℕ → ℕ → List OperandKind → List OperandKind → Type 0
   Part s t ks ls = Spans i it s t ks ls
@@ -102,7 +103,8 @@ module _ (p : Program) (deep : Shallow p) (i : Image) (n : Naming) (rows : RowsA
 
   -- ---- texts
 
-  texts_rest : (u : Stmt) (ss : List Stmt) → TextsThere i (all_of (map uses (u ∷ ss))) → TextsThere i (all_of (map uses ss))
+  texts_rest : (u : Stmt) (ss : List Stmt) → TextsThere i (all_of (map uses (u ∷ ss)))
+      → TextsThere i (all_of (map uses ss))
   texts_rest u ss texts k c = texts k (Contains-append_right (uses u) (all_of (map uses ss)) (Prints k) c)
 
   texts_first : (u : Stmt) (ss : List Stmt) (us : List Use) → uses u ≡ us → TextsThere i (all_of (map uses (u ∷ ss)))
@@ -116,7 +118,8 @@ module _ (p : Program) (deep : Shallow p) (i : Image) (n : Naming) (rows : RowsA
   stmts_span : (x : Before) (ss : List Stmt) (s t : ℕ) → StmtsAt p n scratch it b x ss s t → Ready it b x
       → TextsThere i (all_of (map uses ss)) → t < length it.instrs → (y : Before) → Gives p (stmts_type b ss x) (Ok y)
       → (stmts_need ss).operands ≤ it.stack → Part s t [] []
-  stmts_span x _ s t (no_stmts _ _ _ end) r texts inside y g room = forms.moved_end i it s t s [] [] end (forms.none i it s [])
+  stmts_span x _ s t (no_stmts _ _ _ end) r texts inside y g room = forms.moved_end i it s t s [] [] end
+      (forms.none i it s [])
   stmts_span x _ s t (block_at _ body ss _ m _ inner rest) r texts inside y g room =
       let q = ap (λ (z : Needs). z.operands) (size.at_block body) in
       let one = le-max_left (stmt_needs (stmt.Block body)).operands (highest (map stmt_needs ss)) in
@@ -124,7 +127,8 @@ module _ (p : Program) (deep : Shallow p) (i : Image) (n : Naming) (rows : RowsA
       let c = then_came (stmt_types b (stmt.Block body) x) (stmts_type b ss) y g in
       let a = asked p b _ x c.first _ ((forms_are.stmts b x).block body) c.gave in
       let z = block_found p b x body c.first a in
-      let behind = stmts_span c.first ss m t (rest c.first c.gave) (ready_level it b x c.first r (block_same p b x body c.first a))
+      let behind = stmts_span c.first ss m t (rest c.first c.gave) (ready_level it b x c.first r
+      (block_same p b x body c.first a))
       (texts_rest (stmt.Block body) ss texts) inside y c.then (omega (arith, two, room)) in
       let low = behind.le in
       joined i it s m t [] [] []
@@ -148,7 +152,8 @@ module _ (p : Program) (deep : Shallow p) (i : Image) (n : Naming) (rows : RowsA
       let low = behind.le in
       let bound_low = bound.le in
       joined i it s m t [] (kind_of (kind_of_type f.v.ty) ∷ []) []
-      (below_span x r e s m ea f.v.ty _ c.first f.value (omega (arith, low, bound_low, inside)) (omega (arith, q, one, room)))
+      (below_span x r e s m ea f.v.ty _ c.first f.value (omega (arith, low, bound_low, inside)) (omega
+      (arith, q, one, room)))
       (joined i it m o t (kind_of (kind_of_type f.v.ty) ∷ []) [] [] bound behind)
   stmts_span x _ s t (assign_at _ name e v ss _ m o _ ea new has runs rest) r texts inside y g room =
       let q = ap (λ (z : Needs). z.operands) (size.at_assign name e) in
@@ -162,7 +167,8 @@ module _ (p : Program) (deep : Shallow p) (i : Image) (n : Naming) (rows : RowsA
       let low = behind.le in
       let put_low = put.le in
       joined i it s m t [] (kind_of (kind_of_type v.ty) ∷ []) []
-      (below_span x r e s m ea v.ty _ c.first f.value (omega (arith, low, put_low, inside)) (omega (arith, q, one, room)))
+      (below_span x r e s m ea v.ty _ c.first f.value (omega (arith, low, put_low, inside)) (omega
+      (arith, q, one, room)))
       (joined i it m o t (kind_of (kind_of_type v.ty) ∷ []) [] [] put behind)
   stmts_span x _ s t (set_at _ of f e j kind_f ss _ l m o _ ra eas sel kinds runs rest) r texts inside y g room =
       let q = ap (λ (z : Needs). z.operands) (size.at_set of f e) in
@@ -186,7 +192,8 @@ module _ (p : Program) (deep : Shallow p) (i : Image) (n : Naming) (rows : RowsA
       (expr_span p deep i n rows it scratch (here b x) r.locals (path_of w.first.ty w.first).scope true e l m
       (eas w.first w.had) (named_sees (here b x) w.first.ty w.first.path w.first.scope
       (expr_sees p deep n scratch it (here b x) r.locals x.scope true of s l ra (sees_ready it b x r) w.first w.had))
-      w.value.first w.value.had (λ z. not_void w.value.first.ty (kind_of kind_f) k) (omega (arith, low, put_low, inside))
+      w.value.first w.value.had (λ z. not_void w.value.first.ty (kind_of kind_f) k) (omega
+      (arith, low, put_low, inside))
       (kind.Reference ∷ []) (omega (arith, q, one, right, room))) in
       let value_low = value.le in
       joined i it s l t [] (kind.Reference ∷ []) []
@@ -206,10 +213,12 @@ module _ (p : Program) (deep : Shallow p) (i : Image) (n : Naming) (rows : RowsA
       (omega (arith, two, room)) in
       let low = behind.le in
       joined i it s m t [] [] []
-      (expr_span p deep i n rows it scratch (here b x) r.locals x.scope false e s m ea (sees_ready it b x r) v.first v.gave
+      (expr_span p deep i n rows it scratch (here b x) r.locals x.scope false e s m ea
+      (sees_ready it b x r) v.first v.gave
       (λ z. no_way z) (omega (arith, low, inside)) [] (omega (arith, q, one, room)))
       behind
-  stmts_span x _ s t (if_at _ e body other pl ss _ m o u _ ea at_branch ones at_jump others rest) r texts inside y g room =
+  stmts_span x _ s t (if_at _ e body other pl ss _ m o u _ ea at_branch ones at_jump others rest) r texts inside y g
+      room =
       let q = ap (λ (z : Needs). z.operands) (size.at_if e body other pl) in
       let one = le-max_left (stmt_needs (stmt.If e body other pl)).operands (highest (map stmt_needs ss)) in
       let two = le-max_right (stmt_needs (stmt.If e body other pl)).operands (highest (map stmt_needs ss)) in
@@ -218,7 +227,8 @@ module _ (p : Program) (deep : Shallow p) (i : Image) (n : Naming) (rows : RowsA
       let five = le-max_left (stmts_need body).operands (stmts_need other).operands in
       let six = le-max_right (stmts_need body).operands (stmts_need other).operands in
       let c = then_came (stmt_types b (stmt.If e body other pl) x) (stmts_type b ss) y g in
-      let a = condition_found p b x e _ c.first (asked p b _ x c.first _ ((forms_are.stmts b x).choice e body other pl) c.gave) in
+      let a = condition_found p b x e _ c.first (asked p b _ x c.first _
+      ((forms_are.stmts b x).choice e body other pl) c.gave) in
       let d = choice_found p b x body other c.first a.then in
       let of_one = block_found p b x body d.first d.had_one in
       let of_other = block_found p b (numbered_from x d.first.next) other d.second d.had_other in
@@ -229,12 +239,14 @@ module _ (p : Program) (deep : Shallow p) (i : Image) (n : Naming) (rows : RowsA
       let low = behind.le in
       joined i it s u t [] [] []
       (forms.chosen i it s m o u
-      (value_span x r e s m ea a.first a.had kind.Bool a.truth (slice_get_within it.instrs m (ins.Jfalse (o + 1)) at_branch)
+      (value_span x r e s m ea a.first a.had kind.Bool a.truth (slice_get_within it.instrs m (ins.Jfalse
+      (o + 1)) at_branch)
       (omega (arith, q, one, three, room)))
       at_branch
       (stmts_span x body (m + 1) o ones r
       (λ k z. all k (Contains-append_left (all_of (map uses body)) (all_of (map uses other)) (Prints k) z))
-      (slice_get_within it.instrs o (ins.Jump u) at_jump) of_one.last of_one.had (omega (arith, q, one, four, five, room)))
+      (slice_get_within it.instrs o (ins.Jump u) at_jump) of_one.last of_one.had (omega
+      (arith, q, one, four, five, room)))
       at_jump
       (stmts_span (numbered_from x d.first.next) other (o + 1) u (others d.first d.had_one)
       (record { locals = r.locals; alike = r.alike })
@@ -249,18 +261,21 @@ module _ (p : Program) (deep : Shallow p) (i : Image) (n : Naming) (rows : RowsA
       let three = le-max_left (expr_needs e).operands (stmts_need body).operands in
       let four = le-max_right (expr_needs e).operands (stmts_need body).operands in
       let c = then_came (stmt_types b (stmt.While e body pl) x) (stmts_type b ss) y g in
-      let a = condition_found p b x e _ c.first (asked p b _ x c.first _ ((forms_are.stmts b x).loop e body pl) c.gave) in
+      let a = condition_found p b x e _ c.first (asked p b _ x c.first _
+      ((forms_are.stmts b x).loop e body pl) c.gave) in
       let d = loop_found p b x body c.first a.then in
       let behind = stmts_span c.first ss (o + 1) t (rest c.first c.gave) (ready_level it b x c.first r d.same)
       (texts_rest (stmt.While e body pl) ss texts) inside y c.then (omega (arith, two, room)) in
       let low = behind.le in
       joined i it s (o + 1) t [] [] []
       (forms.repeated i it s m o
-      (value_span x r e s m ea a.first a.had kind.Bool a.truth (slice_get_within it.instrs m (ins.Jfalse (o + 1)) at_branch)
+      (value_span x r e s m ea a.first a.had kind.Bool a.truth (slice_get_within it.instrs m (ins.Jfalse
+      (o + 1)) at_branch)
       (omega (arith, q, one, three, room)))
       at_branch
       (stmts_span x body (m + 1) o inner r
-      (texts_first (stmt.While e body pl) ss _ (uses_rolled (Stmt-F.While e body pl) _ (stmt.rolls-While e body pl)) texts)
+      (texts_first (stmt.While e body pl) ss _ (uses_rolled (Stmt-F.While e body pl) _
+      (stmt.rolls-While e body pl)) texts)
       (slice_get_within it.instrs o (ins.Jump s) at_jump) d.block.last d.block.had (omega (arith, q, one, four, room)))
       at_jump (omega (arith, low, inside)))
       behind
@@ -271,7 +286,8 @@ module _ (p : Program) (deep : Shallow p) (i : Image) (n : Naming) (rows : RowsA
       let c = then_came (stmt_types b (stmt.Return (Some e) pl) x) (stmts_type b ss) y g in
       let f = return_found p b x e pl c.first c.gave in
       let behind = stmts_span c.first ss o t (rest c.first c.gave)
-      (subst (Ready it b) (sym (same_before x c.first f.value.then)) r) (texts_rest (stmt.Return (Some e) pl) ss texts) inside
+      (subst (Ready it b) (sym (same_before x c.first f.value.then)) r) (texts_rest (stmt.Return
+      (Some e) pl) ss texts) inside
       y c.then (omega (arith, two, room)) in
       let ret = its.return_value (kind_of (kind_of_type b.result)) m o
       (ap result_kind fits.result ∙ result_is b.result f.valued) runs in
@@ -300,13 +316,15 @@ module _ (p : Program) (deep : Shallow p) (i : Image) (n : Naming) (rows : RowsA
       let put = print_part v.first.ty m o w.test
       (subst (λ (z : Instr). Run it.instrs (z ∷ []) m o) (is v.first v.gave) runs) in
       let behind = stmts_span c.first ss o t (rest c.first c.gave)
-      (subst (Ready it b) (sym (same_before x c.first w.then)) r) (texts_rest (stmt.Print e pl) ss texts) inside y c.then
+      (subst (Ready it b) (sym (same_before x c.first w.then)) r) (texts_rest
+      (stmt.Print e pl) ss texts) inside y c.then
       (omega (arith, two, room)) in
       let part = put.2 in
       let low = behind.le in
       let put_low = part.le in
       joined i it s m t [] (put.0 ∷ []) []
-      (value_span x r e s m ea v.first v.gave put.0 put.1 (omega (arith, low, put_low, inside)) (omega (arith, q, one, room)))
+      (value_span x r e s m ea v.first v.gave put.0 put.1 (omega (arith, low, put_low, inside)) (omega
+      (arith, q, one, room)))
       (joined i it m o t (put.0 ∷ []) [] [] part behind)
   stmts_span x _ s t (text_at _ k pl ss _ o _ runs rest) r texts inside y g room =
       let two = le-max_right (stmt_needs (stmt.PrintText k pl)).operands (highest (map stmt_needs ss)) in
@@ -315,7 +333,8 @@ module _ (p : Program) (deep : Shallow p) (i : Image) (n : Naming) (rows : RowsA
       (uses_rolled (Stmt-F.PrintText k pl) _ (stmt.rolls-PrintText k pl)) texts k (Contains-push [] (Prints k)) in
       joined i it s o t [] [] [] (its.print_text k s o there runs)
       (stmts_span c.first ss o t (rest c.first c.gave)
-      (subst (Ready it b) (sym (same_before x c.first (asked p b _ x c.first _ ((forms_are.stmts b x).prints_text k pl) c.gave))) r)
+      (subst (Ready it b) (sym (same_before x c.first (asked p b _ x c.first _
+      ((forms_are.stmts b x).prints_text k pl) c.gave))) r)
       (texts_rest (stmt.PrintText k pl) ss texts) inside y c.then (omega (arith, two, room)))
 
 pub stmts_span_all : StmtsSpan

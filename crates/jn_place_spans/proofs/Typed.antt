@@ -34,7 +34,8 @@ use Rattle.jn_rules.specs.Forms.{typed_args, typed_expr}
 use Rattle.jn_rules.proofs.FormLaws.{forms_are}
 use Rattle.jn_rules.proofs.PlanLaws.{then_came, wanted, took, found_was}
 
-pub same_typed : (y x : Typed) → (let a : Result Typed Refusal = Ok y in let b : Result Typed Refusal = Ok x in a ≡ b) → y ≡ x
+pub same_typed : (y x : Typed) → (let a : Result Typed Refusal = Ok y in let b : Result Typed Refusal = Ok x in a ≡
+    b) → y ≡ x
 same_typed y x e = cc
 
 not_typed : (y : Typed) (r : Refusal)
@@ -141,11 +142,13 @@ module _ (p : Program) (h : Here) where
       (subst (λ z. Means p (OfTerm role.New (site_here h) u) z) r.is a.1) is.1) in
       subst (λ (z : Atom). NewFound s z es y) (ap atom_of e ∙ sym is.2)
       (with_body (atom_of r.given) r.then.0 r.then.1 r.then.2) where
-        class : (z : Atom) (q : Scope) → y ≡ of_new (normal_type s (made_exact z)) (fresh_with (normal_type s (made_exact z)) s) q
+        class : (z : Atom) (q : Scope) → y ≡ of_new (normal_type s (made_exact z)) (fresh_with (normal_type s
+            (made_exact z)) s) q
             → is_class y.ty ≡ true
         class z q e = ap (λ (v : Typed). is_class v.ty) e
 
-        scope : (z : Atom) (q : Scope) → y ≡ of_new (normal_type s (made_exact z)) (fresh_with (normal_type s (made_exact z)) s) q
+        scope : (z : Atom) (q : Scope) → y ≡ of_new (normal_type s (made_exact z)) (fresh_with (normal_type s
+            (made_exact z)) s) q
             → y.scope ≡ q
         scope z q e = ap (λ (v : Typed). v.scope) e
 
@@ -155,7 +158,8 @@ module _ (p : Program) (h : Here) where
             let w = wanted (nat_eq (length (typed_args h es)) 0) _ _ y g in
             bare lacks (class z _ (gave p _ y w.then)) (scope z _ (gave p _ y w.then))
         with_body z (Some c0) cons g =
-            let d = then_came (header_typed c0) (made_by h at (typed_args h es) s (normal_type s (made_exact z)) c0) y g in
+            let d = then_came (header_typed c0) (made_by h at (typed_args h es) s (normal_type s
+            (made_exact z)) c0) y g in
             let w = wanted (as_many d.first (typed_args h es)) _ _ y d.then in
             let c = then_came (call_typed h d.first (typed_args h es) (fresh_with (normal_type s (made_exact z)) s))
             (λ v. gives (of_new (normal_type s (made_exact z)) (fresh_with (normal_type s (made_exact z)) s) v.scope)) y
@@ -197,7 +201,8 @@ module _ (p : Program) (h : Here) where
           let e = gave p (viewed_as u x.scope) y g in
           (ap (λ (v : Typed). is_class v.ty) e, ap (λ (v : Typed). v.scope) e)
 
-      shared : (u : Target) (x : Typed) (o : Sharing) → Gives p (shared_or at (viewed_as u x.scope) o) (Ok y) → SeenAs y x
+      shared : (u : Target) (x : Typed) (o : Sharing) → Gives p (shared_or at (viewed_as u x.scope) o) (Ok y)
+          → SeenAs y x
       shared u x Holding g = is_so u x g
       shared u x (Refuted U f) g = absurd (not_typed y _ g)
 
@@ -270,6 +275,7 @@ module _ (p : Program) (h : Here) where
         long = eqb-true (length d.first.vars) (length (typed_args h es)) v.test ∙ length-map es (typed_expr h);
         passed = e.first;
         args = e.gave;
-        is = gave p _ y (behind_granted c0.given m e.first.scope c0.given.method.sharing (result_gives d.first e.first) y
+        is = gave p _ y (behind_granted c0.given m e.first.scope c0.given.method.sharing
+            (result_gives d.first e.first) y
             e.then);
       }

@@ -119,7 +119,8 @@ module _ (p : Program) (b : In) where
       → Gives p (wants ok (mismatch (here b x) e.at) go) (Ok y) → T × Gives p go (Ok y)
   answered x e go y true T a g = (a, g)
   answered x e go y false T a g = absurd (no g) where
-    no : (let u : Result Before Refusal = Ok y in let v : Result Before Refusal = Err (mismatch (here b x) e.at) in u ≡ v)
+    no : (let u : Result Before Refusal = Ok y in let v : Result Before Refusal = Err (mismatch
+        (here b x) e.at) in u ≡ v)
         → ⊥
     no e = cc
 
@@ -132,7 +133,8 @@ module _ (p : Program) (b : In) where
 
   -- ---- single statements
 
-  pub record LocalFound (x : Before) (fixed : Bool) (t : TypeTerm) (name : Named) (e : Expr) (type : Ty) (y : Before) : Type 0
+  pub record LocalFound (x : Before) (fixed : Bool) (t : TypeTerm) (name : Named) (e : Expr) (type : Ty)
+      (y : Before) : Type 0
     where
       pub v : Var
       pub is : y ≡ with_local x v
@@ -184,7 +186,8 @@ module _ (p : Program) (b : In) where
       → Gives p (stmt_types b (stmt.Assign name e) x) (Ok y) → AssignFound x e v y
   assign_found x name e v y new g =
       let a = asked _ x y _ ((forms_are.stmts b x).assign name e) g in
-      let k = subst (λ (o : Option Var). Gives p (assign_typed b x name e o) (Ok y)) (named_same x.vars name.name v new) a in
+      let k = subst (λ (o : Option Var). Gives p (assign_typed b x name e o) (Ok y))
+      (named_same x.vars name.name v new) a in
       let w = wanted (not v.fixed) _ _ y k in
       let f = below_found x e x.scope v.ty (done x) y w.then in
       record { is = same_before x y f.then; value = f }
@@ -305,7 +308,8 @@ module _ (p : Program) (b : In) where
     pub same : SameVars x y
     pub next : y.next ≡ last.next
 
-  pub loop_found : (x : Before) (body : List Stmt) (y : Before) → Gives p (loop_typed (map (stmt_types b) body) x) (Ok y)
+  pub loop_found : (x : Before) (body : List Stmt) (y : Before)
+      → Gives p (loop_typed (map (stmt_types b) body) x) (Ok y)
       → LoopFound x body y
   loop_found x body y g =
       let d = then_came (block_typed (map (stmt_types b) body) x) (λ z. done (numbered_from x z.next)) y g in

@@ -42,7 +42,8 @@ module _ (p : Program) (deep : Shallow p) (n : Naming) (scratch : ℕ) (it : Cod
 
     made_stands : (sc : Scope) (x : Atom) (es : List Expr) (s m : ℕ) (y : Typed)
         → (((b : Body) → IsConstructorBody p (bound sc x) b → ⊥) → (es ≡ []) × (m ≡ s)) → typed.NewFound p h sc x es y
-        → ((b : Body) (c : Header) (passed : Passed) → IsConstructorBody p (bound sc x) b → Gives p (header_typed b) (Ok c)
+        → ((b : Body) (c : Header) (passed : Passed) → IsConstructorBody p (bound sc x) b
+        → Gives p (header_typed b) (Ok c)
         → Gives p (call_typed h c (typed_args h es) (fresh_with (normal_type sc (made_exact x)) sc)) (Ok passed)
         → plain.ArgsAt p n scratch it (site_here h) es s m) → plain.ArgsAt p n scratch it (site_here h) es s m
     made_stands sc x es s m y none (typed.bare lacks cls scope) args =
@@ -53,7 +54,8 @@ module _ (p : Program) (deep : Shallow p) (n : Naming) (scratch : ℕ) (it : Cod
 
     mutual
       pub expr_stands : (sc : Scope) (keeps : Bool) (e : Expr) (s t : ℕ) → ExprAt p n scratch it h sc keeps e s t
-          → SeesAs h sc → (y : Typed) → Gives p (expr_types h e sc) (Ok y) → plain.ExprAt p n scratch it (site_here h) keeps e s t
+          → SeesAs h sc → (y : Typed) → Gives p (expr_types h e sc) (Ok y)
+          → plain.ExprAt p n scratch it (site_here h) keeps e s t
       expr_stands sc _ _ s t (at_number _ pl z _ _ runs) ok y g = plain.at_number (site_here h) true pl z s t runs
       expr_stands sc _ _ s t (at_truth _ pl z _ _ runs) ok y g = plain.at_truth (site_here h) true pl z s t runs
       expr_stands sc _ _ s t (at_null _ pl _ _ runs) ok y g = plain.at_null (site_here h) true pl s t runs
@@ -67,18 +69,21 @@ module _ (p : Program) (deep : Shallow p) (n : Naming) (scratch : ℕ) (it : Cod
           ((fresh_with (normal_type sc (made_exact x)) sc).path ∷ []) (args b c cons head)
           (named_sees h (normal_type sc (made_exact x)) None sc ok) given))
           is class ctors runs
-      expr_stands sc keeps _ s u (at_super _ _ pl t f0 e es B q kind k j kinds shape _ l o a _ ea under has tucks bnd args
+      expr_stands sc keeps _ s u (at_super _ _ pl t f0 e es B q kind k j kinds shape _ l o a _ ea under has tucks
+          bnd args
           shapes class sel params count runs) ok y g =
           let w = typed.super_found p h pl sc t f0 (e ∷ es) y g in
           let is_body = super_body p deep n scratch it h locals sc ok t f0 (e ∷ es) y B bnd w in
-          let f = first_of_all p h (replaced_paths w.header.vars) w.header.vars e es (0 ∷ []) sc w.passed w.long w.args in
+          let f = first_of_all p h (replaced_paths w.header.vars) w.header.vars e es
+          (0 ∷ []) sc w.passed w.long w.args in
           plain.at_super (site_here h) keeps pl t f0 e es B q kind k j kinds shape s l o a u
           (expr_stands sc true e s l ea ok f.one.first f.one.had) under has tucks
           (args_stand f.xs es (arg_passed (replaced_paths w.header.vars) (0 ∷ []) f.x f.one.first).scope w.passed o a
           (replaced_paths w.header.vars)
           (0 ∷ (arg_passed (replaced_paths w.header.vars) (0 ∷ []) f.x f.one.first).path ∷ [])
           (args w.body w.header f.x f.xs f.one.first is_body w.head f.same f.one.had)
-          (named_sees h _ f.one.first.path f.one.first.scope (sees sc true e s l ea ok f.one.first f.one.had)) f.one.rest)
+          (named_sees h _ f.one.first.path f.one.first.scope (sees sc true e s l ea ok f.one.first f.one.had))
+          f.one.rest)
           bnd class sel params count runs
       expr_stands sc keeps _ s u (at_bare_super _ _ pl t f B k j shape _ _ bnd shapes class sel none runs) ok y g =
           plain.at_bare_super (site_here h) keeps pl t f B k j shape s u bnd class sel none runs
@@ -86,7 +91,8 @@ module _ (p : Program) (deep : Shallow p) (n : Naming) (scratch : ℕ) (it : Cod
           let c = then_came (expr_types h e sc) (suffixes_typed pl e.at (typed_parts h xs)) y
           (typed.asked p h (expr pl (node.Post e xs)) sc y _ ((forms_are.exprs h pl sc).post e xs) g) in
           plain.at_post (site_here h) keeps pl e xs s l t (expr_stands sc true e s l ea ok c.first c.gave)
-          (parts_stand c.first keeps xs l t (parts c.first c.gave) (sees sc true e s l ea ok c.first c.gave) pl e.at y c.then)
+          (parts_stand c.first keeps xs l t (parts c.first c.gave)
+          (sees sc true e s l ea ok c.first c.gave) pl e.at y c.then)
       expr_stands sc _ _ s t (at_not _ pl e _ l _ ea runs) ok y g =
           let c = then_came (expr_types h e sc) _ y
           (typed.asked p h (expr pl (node.Not e)) sc y _ ((forms_are.exprs h pl sc).invert e) g) in
@@ -97,7 +103,8 @@ module _ (p : Program) (deep : Shallow p) (n : Naming) (scratch : ℕ) (it : Cod
           plain.at_neg (site_here h) true pl e s l t (expr_stands sc true e s l ea ok c.first c.gave) runs
       expr_stands sc _ _ s t (at_view _ pl v e x cls _ l _ ea is class runs) ok y g =
           let w = typed.view_found p h pl v e sc y g in
-          plain.at_view (site_here h) true pl v e x cls s l t (expr_stands sc true e s l ea ok w.first w.had) is class runs
+          plain.at_view (site_here h) true pl v e x cls s l t
+          (expr_stands sc true e s l ea ok w.first w.had) is class runs
       expr_stands sc _ _ s t (at_chain _ pl level e ls _ l _ ea links) ok y g =
           let c = then_came (expr_types h e sc) (λ x. links_typed h e.at x (typed_links h ls)) y
           (typed.asked p h (expr pl (node.Chain level e ls)) sc y _ ((forms_are.exprs h pl sc).chain level e ls) g) in
@@ -130,7 +137,8 @@ module _ (p : Program) (deep : Shallow p) (n : Naming) (scratch : ℕ) (it : Cod
           plain.one_part (site_here h) keeps z v vs s l t
           (part_stands x true (out-Suffix z).name (out-Suffix z).args s l part ok at c.first c.gave)
           (parts_stand c.first keeps (v ∷ vs) l t (rest at c.first c.gave)
-          (part_sees p deep n scratch it h locals x true (out-Suffix z).name (out-Suffix z).args s l part ok at c.first c.gave)
+          (part_sees p deep n scratch it h locals x true (out-Suffix z).name
+          (out-Suffix z).args s l part ok at c.first c.gave)
           whole whole y c.then)
 
       part_stands : (x : Typed) (keeps : Bool) (f : Named) (args : Option (List Expr)) (s t : ℕ)
@@ -143,7 +151,8 @@ module _ (p : Program) (deep : Shallow p) (n : Naming) (scratch : ℕ) (it : Cod
           let w = typed.call_found p h f (typed_args h es) at x y g in
           plain.at_call (site_here h) keeps f.name es j shape s l t
           (args_stand w.header.vars es (path_of x.ty x).scope w.passed s l (replaced_paths w.header.vars)
-          ((path_of x.ty x).path ∷ []) (args w.body w.header w.here w.head) (named_sees h x.ty x.path x.scope ok) w.args)
+          ((path_of x.ty x).path ∷ []) (args w.body w.header w.here w.head)
+          (named_sees h x.ty x.path x.scope ok) w.args)
           sel count runs
 
       links_stand : (x : Typed) (ls : List Link) (s t : ℕ) → LinksAt p n scratch it h x ls s t → SeesAs h x.scope
@@ -152,7 +161,8 @@ module _ (p : Program) (deep : Shallow p) (n : Naming) (scratch : ℕ) (it : Cod
       links_stand x _ s t (no_links _ _ _ end) ok at y g = plain.no_links (site_here h) s t end
       links_stand x _ s t (one_link _ l ls kind_r _ a o _ strict ea is_kind runs rest) ok at y g =
           let c = operand_typed p deep n scratch it h locals x l ls at y g in
-          plain.one_link (site_here h) l ls kind_r s a o t strict (expr_stands x.scope true l.right s a ea ok c.right c.had)
+          plain.one_link (site_here h) l ls kind_r s a o t strict
+          (expr_stands x.scope true l.right s a ea ok c.right c.had)
           runs (links_stand (plain_type (operator_type l.op) c.right.scope) ls o t (rest c.right c.had)
           (sees x.scope true l.right s a ea ok c.right c.had) at y c.then)
       links_stand x _ s t (one_deciding _ l ls and _ a o _ is at_one ea at_jump runs rest) ok at y g =

@@ -63,10 +63,12 @@ module _ (p : Program) (deep : Shallow p) (n : Naming) (scratch : ℕ) (it : Cod
   as_it_was x y k ss s t vars next at =
       subst (λ (vs : List Var). Plain (site_with vs) k ss s t) vars (subst (λ (i : ℕ). Plain (site y) i ss s t) next at)
 
-  as_same : (x y : Before) (ss : List Stmt) (s t : ℕ) → y ≡ x → Plain (site y) y.next ss s t → Plain (site x) x.next ss s t
+  as_same : (x y : Before) (ss : List Stmt) (s t : ℕ) → y ≡ x → Plain (site y) y.next ss s t
+      → Plain (site x) x.next ss s t
   as_same x y ss s t e at = subst (λ (z : Before). Plain (site z) z.next ss s t) e at
 
-  value_stands : (x : Before) → Ready it b x → (e : Expr) (s t : ℕ) → ValueAt p n scratch it b x true e s t → (y : Typed)
+  value_stands : (x : Before) → Ready it b x → (e : Expr) (s t : ℕ) → ValueAt p n scratch it b x true e s t
+      → (y : Typed)
       → Gives p (typed b x e x.scope) (Ok y) → plain.ExprAt p n scratch it (site x) true e s t
   value_stands x r e s t at y g =
       expr_stands p deep n scratch it (here b x) r.locals x.scope true e s t at (sees_ready it b x r) y g
@@ -83,7 +85,8 @@ module _ (p : Program) (deep : Shallow p) (n : Naming) (scratch : ℕ) (it : Cod
   print_stands at next e pl ss s m o t ty.Void test value runs rest = no_way test
   print_stands at next e pl ss s m o t (ty.Class xs k) test value runs rest = no_way test
 
-  stmts_stand : (x : Before) (ss : List Stmt) (s t : ℕ) → StmtsAt p n scratch it b x ss s t → Ready it b x → (y : Before)
+  stmts_stand : (x : Before) (ss : List Stmt) (s t : ℕ) → StmtsAt p n scratch it b x ss s t → Ready it b x
+      → (y : Before)
       → Gives p (stmts_type b ss x) (Ok y) → Plain (site x) x.next ss s t
   stmts_stand x _ s t (no_stmts _ _ _ end) r y g = plain.no_stmts (site x) x.next s t end
   stmts_stand x _ s t (block_at _ body ss _ m _ inner rest) r y g =
@@ -115,7 +118,8 @@ module _ (p : Program) (deep : Shallow p) (n : Naming) (scratch : ℕ) (it : Cod
       let c = then_came (stmt_types b (stmt.Set of f e) x) (stmts_type b ss) y g in
       let w = set_found p b x of f e c.first c.gave in
       plain.set_at (site x) x.next of f e j kind_f ss s l m o t (value_stands x r of s l ra w.first w.had)
-      (expr_stands p deep n scratch it (here b x) r.locals (path_of w.first.ty w.first).scope true e l m (eas w.first w.had)
+      (expr_stands p deep n scratch it (here b x) r.locals (path_of w.first.ty w.first).scope true e l m
+      (eas w.first w.had)
       (named_sees (here b x) w.first.ty w.first.path w.first.scope
       (expr_sees p deep n scratch it (here b x) r.locals x.scope true of s l ra (sees_ready it b x r) w.first w.had))
       w.value.first w.value.had) sel runs
@@ -132,7 +136,8 @@ module _ (p : Program) (deep : Shallow p) (n : Naming) (scratch : ℕ) (it : Cod
       (stmts_stand c.first ss m t (rest c.first c.gave) (subst (Ready it b) (sym is) r) y c.then))
   stmts_stand x _ s t (if_at _ e body other pl ss _ m o u _ ea at_branch ones at_jump others rest) r y g =
       let c = then_came (stmt_types b (stmt.If e body other pl) x) (stmts_type b ss) y g in
-      let a = condition_found p b x e _ c.first (asked p b _ x c.first _ ((forms_are.stmts b x).choice e body other pl) c.gave) in
+      let a = condition_found p b x e _ c.first (asked p b _ x c.first _
+      ((forms_are.stmts b x).choice e body other pl) c.gave) in
       let d = choice_found p b x body other c.first a.then in
       let of_one = block_found p b x body d.first d.had_one in
       let of_other = block_found p b (numbered_from x d.first.next) other d.second d.had_other in
@@ -148,7 +153,8 @@ module _ (p : Program) (deep : Shallow p) (n : Naming) (scratch : ℕ) (it : Cod
       (stmts_stand c.first ss u t (rest c.first c.gave) (ready_level it b x c.first r d.same) y c.then))
   stmts_stand x _ s t (while_at _ e body pl ss _ m o _ ea at_branch inner at_jump rest) r y g =
       let c = then_came (stmt_types b (stmt.While e body pl) x) (stmts_type b ss) y g in
-      let a = condition_found p b x e _ c.first (asked p b _ x c.first _ ((forms_are.stmts b x).loop e body pl) c.gave) in
+      let a = condition_found p b x e _ c.first (asked p b _ x c.first _
+      ((forms_are.stmts b x).loop e body pl) c.gave) in
       let d = loop_found p b x body c.first a.then in
       plain.while_at (site x) x.next e body pl ss s m o t (value_stands x r e s m ea a.first a.had) at_branch
       (stmts_stand x body (m + 1) o inner r d.block.last d.block.had) at_jump
@@ -191,7 +197,8 @@ stmts_stand_all p deep n scratch it b x r ss s t at y g = stmts_stand p deep n s
 -- ---- whole bodies
 
 -- the shape of a header is that of its body
-shape_is : (p : Program) (b : Body) (k : Header) → IsHeader p b k → (s : Shape) → IsShape k.vars k.result s → HasShape p b s
+shape_is : (p : Program) (b : Body) (k : Header) → IsHeader p b k → (s : Shape) → IsShape k.vars k.result s
+    → HasShape p b s
 shape_is p b k head s is = record {
   vars = k.vars;
   params = head.params;

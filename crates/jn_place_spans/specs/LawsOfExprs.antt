@@ -25,7 +25,8 @@ use Rattle.jn_place_spans.specs.LawsOfNodes.{left_of}
 abbrev pub value_of : (keeps : Bool) → Ty → List OperandKind
 value_of keeps t = left_of keeps (result_kind t)
 
--- the first local is a reference, each variable in scope has a local of its kind, and there are no more than 255 of both
+-- The first local is a reference, each variable in scope has a local of its kind, and there are no more than 255
+-- parameters and locals.
 pub record LocalsAre (it : Code) (h : Here) : Type 0 where
   pub this : HasKind it 0 3
   pub vars : (v : Var) → Among h.vars v → HasKind it v.path (kind_of_type v.ty)

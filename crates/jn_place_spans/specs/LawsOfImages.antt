@@ -43,8 +43,8 @@ abbrev pub CodesValid : Type 0
 CodesValid = (p : Program) → Shallow p → (i : Image) (n : Naming) → RowsAre p i n → CodesStand p i n
     → codes_fault i 0 i.codes ≡ None
 
--- And the bodies of a program that is read from a source hold no more than 3,806 operands, where no selector of the image
--- has more than 15 parameters.
+-- And the bodies of a program that is read from a source hold no more than 3,806 operands, where no selector
+-- of the image has more than 15 parameters.
 abbrev pub OperandsFew : Type 0
 OperandsFew = (p : Program) (bytes : List ℕ) → IsTextOf p bytes → Shallow p → (i : Image) (n : Naming) → RowsAre p i n
     → All ShapeInForm i.methods → (j : ℕ) (b : Body) (c : Code) → slice_get n.bodies j ≡ Some b → CodeStands p n b c
@@ -52,8 +52,8 @@ OperandsFew = (p : Program) (bytes : List ℕ) → IsTextOf p bytes → Shallow 
 
 -- ---- the file
 
--- What is owed beside: a code has at most three locals more than its body has, the selectors are no more than one for each
--- method and one for each field, the groups no more than the classes, and there are at most 1,048,576 entries.
+-- What is owed beside: a code has at most three locals more than its body has, the selectors are no more than one
+-- for each method and one for each field, the groups no more than the classes, and there are at most 1,048,576 entries.
 pub record RestFits (p : Program) (i : Image) (n : Naming) : Type 0 where
   pub locals : (j : ℕ) (b : Body) (c : Code) → slice_get n.bodies j ≡ Some b → slice_get i.codes j ≡ Some c
       → length c.params + length c.locals ≤ path_behind b.method.body (length c.params) + 3
@@ -65,4 +65,5 @@ pub record RestFits (p : Program) (i : Image) (n : Naming) : Type 0 where
 -- SO THE FILE OF THE IMAGE IS WITHIN ITS LIMIT, for each source within its own.
 abbrev pub FilesStand : Type 0
 FilesStand = (p : Program) (bytes : List ℕ) → SourceSpells p bytes → length bytes ≤ greatest_source → Shallow p
-    → (i : Image) (n : Naming) → RowsAre p i n → InForm i → CodesStand p i n → RestFits p i n → length (file_of i) ≤ limit
+    → (i : Image) (n : Naming) → RowsAre p i n → InForm i → CodesStand p i n → RestFits p i n
+    → length (file_of i) ≤ limit

@@ -104,7 +104,8 @@ module _ (p : Program) (i : Image) (n : Naming) (c : Code) where
     -- arguments, the latest first
     pub arguments_had : (vs ks : List OperandKind) (s t : ℕ) → InTurn i c vs ks s t → Part s t ks (reverse vs ++ ks)
     -- calls
-    pub call : (m : Name) (j : ℕ) (shape : Shape) (keeps : Bool) (s e : ℕ) (ks : List OperandKind) → MethodOf n m j shape
+    pub call : (m : Name) (j : ℕ) (shape : Shape) (keeps : Bool) (s e : ℕ) (ks : List OperandKind)
+        → MethodOf n m j shape
         → Run c.instrs (ins.Call j ∷ dropping keeps shape.result) s e → suc (length ks) ≤ c.stack
         → Part s e (arguments shape ++ kind.Reference ∷ ks) (left_of keeps shape.result ++ ks)
     pub super : (m : Name) (k j : ℕ) (shape : Shape) (keeps : Bool) (s e : ℕ) (ks : List OperandKind)

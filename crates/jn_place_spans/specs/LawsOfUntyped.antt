@@ -26,7 +26,8 @@ use Rattle.jn_place_spans.specs.LawsOfStmts.{Ready}
 
 -- an expression that is typed
 abbrev pub ExprsStand : Type 0
-ExprsStand = (p : Program) → Shallow p → (n : Naming) (scratch : ℕ) (it : Code) (h : Here) → LocalsAre it h → (sc : Scope)
+ExprsStand = (p : Program) → Shallow p → (n : Naming) (scratch : ℕ) (it : Code) (h : Here) → LocalsAre it h
+    → (sc : Scope)
     → SeesAs h sc → (keeps : Bool) (e : Expr) (s t : ℕ) → ExprAt p n scratch it h sc keeps e s t → (y : Typed)
     → Gives p (expr_types h e sc) (Ok y) → plain.ExprAt p n scratch it (site_here h) keeps e s t
 
@@ -45,7 +46,8 @@ pub record BodyStands (p : Program) (n : Naming) (b : Body) (it : Code) : Type 0
   pub arguments : FewParams n → (stmts_need b.method.body).arguments ≤ 15
 
 abbrev pub BodiesStand : Type 0
-BodiesStand = (p : Program) → Shallow p → (n : Naming) (b : Body) (k : Header) (it : Code) → Gives p (header_typed b) (Ok k)
+BodiesStand = (p : Program) → Shallow p → (n : Naming) (b : Body) (k : Header) (it : Code)
+    → Gives p (header_typed b) (Ok k)
     → Gives p (body_with b k) (Ok tt) → TypedBodyAt p n b k it → length it.params + length it.locals ≤ 255
     → BodyStands p n b it
 

@@ -8,8 +8,8 @@ ghost use Rattle.jn_place_spans.specs.LawsOfNodes.{NodesSpan};
 ghost use Rattle.jn_place_spans.specs.LawsOfStmts.{StmtsSpan};
 ghost use Rattle.jn_place_spans.specs.LawsOfUntyped.{ExprsStand, StmtsStand, BodiesStand, SourcesHoldFew};
 
-/// In an image with the rows of a program, the instructions of each form's own act are a part with kinds: they take the
-/// operands of their parts and leave the form's value.
+/// In an image with the rows of a program, the instructions of each form's own act are a part with kinds: they take
+/// the operands of their parts and leave the form's value.
 pub fn nodes_span()
     ensures { NodesSpan }
 {}
@@ -40,20 +40,20 @@ pub fn stmts_stand()
     ensures { StmtsStand }
 {}
 
-/// A body whose code stands at its typed place: the code stands at its place, is no longer than the body allows, and has
-/// at most 15 arguments in one call.
+/// A body whose code stands at its typed place: the code stands at its place, is no longer than the body allows, and
+/// has at most 15 arguments in one call.
 pub fn bodies_stand()
     ensures { BodiesStand }
 {}
 
-/// The code of each body of a source within the limits holds no more than 3,806 operands, where no call has more than 15
-/// arguments.
+/// The code of each body of a source within the limits holds no more than 3,806 operands, where no call has more than
+/// 15 arguments.
 pub fn sources_hold_few()
     ensures { SourcesHoldFew }
 {}
 
-/// An image with the rows of a program, whose codes stand at the typed places of its bodies and of its start, has no fault
-/// in its codes.
+/// An image with the rows of a program, whose codes stand at the typed places of its bodies and of its start, has no
+/// fault in its codes.
 pub fn codes_valid()
     ensures { CodesValid }
 {}
