@@ -14,3 +14,9 @@ pub mod CallSteps
 pub mod Making
 pub mod NewSteps
 pub mod SuperSteps
+pub mod Walking
+pub mod WalkForms
+pub mod WalkSteps
+pub mod WalkCalls
+pub mod WalkSupers
+pub mod WalkTypes

@@ -126,6 +126,11 @@ some_call pool x y i e = subst (IsCall pool) (same e) i where
   same : (let o : Option Call = Some x in o ≡ Some y) → x ≡ y
   same g = cc g
 
+pub some_begun : (x y : Call) → length x.paths.items ≡ 1 → (let o : Option Call = Some x in o ≡ Some y) → length y.paths.items ≡ 1
+some_begun x y i e = subst (λ (c : Call). length c.paths.items ≡ 1) (same e) i where
+  same : (let o : Option Call = Some x in o ≡ Some y) → x ≡ y
+  same g = cc g
+
 pub none_call : (pool : List Ty) (y : Call) → (let o : Option Call = None in o ≡ Some y) → IsCall pool y
 none_call pool y e = absurd (none e) where
   none : (let o : Option Call = None in o ≡ Some y) → ⊥

@@ -1,5 +1,5 @@
 -- The parts of `super`.
-use Rattle.std.proofs.Common.{◌≡◌, ℕ, List, [], length, Bool, true, false, Some, None, Result, Ok, Err, refl, sym, ap, ◌∙◌, subst}
+use Rattle.std.proofs.Common.{◌≡◌, ◌<◌, ◌+◌, ℕ, List, [], length, drop, get_or, Bool, true, false, Some, None, Result, Ok, Err, refl, sym, ap, ◌∙◌, subst}
 use Rattle.jn_base.specs.declared.tree.Name.{Name}
 use Rattle.jn_base.specs.declared.tree.Named.{Named}
 use Rattle.jn_base.specs.declared.tree.Term.{Term}
@@ -23,6 +23,7 @@ use Rattle.jn_heads.specs.declared.params.Header.{Header as CodeHeader}
 use Rattle.jn_heads.specs.Params.{header_in}
 use Rattle.jn_heads.specs.Told.{itself}
 use Rattle.jn_heads.specs.Sides.{PledgeTold}
+use Rattle.jn_homes.proofs.Places.{at_index}
 use Rattle.jn_rules.proofs.PlanLaws.{then_refuses}
 use Rattle.jn_rules.specs.Plans.{Target, target_type, Pledge, OfConstraint, OfBody, Plan, refuse, ask, then_do, wants, found_or}
 use Rattle.jn_rules.specs.Questions.{Answers, Finds, Means, Notes}
@@ -38,7 +39,7 @@ use Rattle.jn_expr.specs.Found.{LeastAt}
 use Rattle.jn_expr.specs.Steps.{Leads, LeadsTold, entered}
 use Rattle.jn_expr.specs.Calling.{body_of, OwnerLeads, Begins}
 use Rattle.jn_expr.specs.Supering.{super_asked, super_left, constraint_asked}
-use Rattle.jn_expr.proofs.Leading.{leads_here, leads_ask, leads_want, leads_is, leads_quiet, leads_of_fault}
+use Rattle.jn_expr.proofs.Leading.{leads_here, leads_ask, leads_want, leads_is, leads_quiet, leads_leads, leads_of_fault}
 
 -- ---- the body
 
@@ -155,3 +156,48 @@ pub grants_at : (p : Program) (h : Here) (s1 s : TypeScope) (t1 t : Ty) (u : Tar
 grants_at p h s1 s t1 t u o e f g =
     subst (λ (y : Ty). QuietTold {B = Bool} p (header_grants h s y u) itself o) f
     (subst (λ (y : TypeScope). QuietTold {B = Bool} p (header_grants h y t1 u) itself o) e g)
+
+-- ---- one constraint of the called body after the other
+
+module _ (p : Program) (h : Here) (b : Body) (m : Named) (s : TypeScope) (all : List Constraint) (go : Plan Typed) (before : Resolved) where
+  abbrev asked_all : Plan Typed
+  asked_all = constraints_granted h b m s all go
+
+  abbrev pub asked_from : ℕ → Plan Typed
+  asked_from i = constraints_granted h b m s (drop i all) go
+
+  pub none_granted : (r : Resolved) → r ≡ before → Leads p asked_all asked_all before r
+  none_granted r e = subst (λ (x : Resolved). Leads p asked_all asked_all before x) (sym e) (leads_here asked_all before)
+
+  pub all_granted : (i : ℕ) → drop i all ≡ [] → Leads p asked_all (asked_from i) before before → (r : Resolved) → r ≡ before
+      → Leads p asked_all go before r
+  all_granted i e l r f =
+      subst (λ (x : Resolved). Leads p asked_all go before x) (sym f)
+      (leads_is (ap (λ (ks : List Constraint). constraints_granted h b m s ks go) e) l)
+
+  module _ (i : ℕ) (k : Constraint) (l : i < length all) (e : k ≡ get_or all i k) (so : Leads p asked_all (asked_from i) before before) where
+    next_asked : Leads p asked_all (constraint_asked h b m s k (asked_from (i + 1))) before before
+    next_asked = leads_is (ap (λ (ks : List Constraint). constraints_granted h b m s ks go) (at_index all i k l e)) so
+
+    module _ (h1 : Here) (s1 : TypeScope) (g : h1 ≡ h) (f : s1 ≡ s) (r : Resolved) (before_is : r ≡ before) where
+      moved : {A : Type 0} (o : Result A CheckFault) (after : Resolved)
+          → LeadsTold p (constraint_asked h1 b m s1 k (asked_from (i + 1))) (λ (u : A). asked_from (i + 1)) r after o
+          → LeadsTold p (constraint_asked h b m s k (asked_from (i + 1))) (λ (u : A). asked_from (i + 1)) before after o
+      moved {A} o after t =
+          subst (λ (x : Resolved). LeadsTold p (constraint_asked h b m s k (asked_from (i + 1))) (λ (u : A). asked_from (i + 1)) x after o) before_is
+          (subst (λ (y : TypeScope). LeadsTold p (constraint_asked h b m y k (asked_from (i + 1))) (λ (u : A). asked_from (i + 1)) r after o) f
+          (subst (λ (y : Here). LeadsTold p (constraint_asked y b m s1 k (asked_from (i + 1))) (λ (u : A). asked_from (i + 1)) r after o) g t))
+
+      pub granted_next : (after : Resolved) → after ≡ r
+          → Leads p (constraint_asked h1 b m s1 k (asked_from (i + 1))) (asked_from (i + 1)) r after
+          → Leads p asked_all (asked_from (i + 1)) before before
+      granted_next after is t =
+          subst (λ (x : Resolved). Leads p asked_all (asked_from (i + 1)) before x) (is ∙ before_is)
+          (leads_leads {B = Unit {0}} (λ u. asked_from (i + 1)) after next_asked (Ok tt) (moved {A = Unit {0}} (Ok tt) after t))
+
+      pub next_fault : (A : Type 0) (after : Resolved) (fault : CheckFault)
+          → LeadsTold p (constraint_asked h1 b m s1 k (asked_from (i + 1))) (λ (u : A). asked_from (i + 1)) r after (Err fault)
+          → LeadsTold p asked_all (λ (u : A). go) before after (Err fault)
+      next_fault A after fault t =
+          leads_of_fault p asked_all before {B = A} {C = A} (λ u. asked_from (i + 1)) (λ u. go) after after fault
+          (leads_leads {B = A} (λ u. asked_from (i + 1)) after next_asked (Err fault) (moved {A = A} (Err fault) after t))

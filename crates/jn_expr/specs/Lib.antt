@@ -13,3 +13,4 @@ pub mod Viewing
 pub mod Calling
 pub mod Making
 pub mod Supering
+pub mod Typing

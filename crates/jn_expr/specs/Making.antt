@@ -1,5 +1,5 @@
 -- The parts of `new`.
-use Rattle.std.specs.Prelude.{◌≡◌, List, [], ◌∷◌, Option, Some, None}
+use Rattle.std.specs.Prelude.{◌≡◌, List, [], ◌∷◌, length, Option, Some, None}
 use Rattle.jn_base.specs.declared.tree.Name.{Name}
 use Rattle.jn_base.specs.declared.tree.Expr.{Expr}
 use Rattle.jn_base.specs.declared.tree.Method.{Method}
@@ -45,3 +45,4 @@ pub record IsMade (pool : List Ty) (before after : NumberScope) (m : Making) : T
   pub scope : IsScope pool after
   pub grows : Grows before after
   pub call : (c : Call) → m.call ≡ Some c → IsCall pool c
+  pub begun : (c : Call) → m.call ≡ Some c → length c.paths.items ≡ 1

@@ -11,7 +11,7 @@ ghost use Rattle.jn_sem.specs.NormalFunction.{normal_type};
 ghost use Rattle.jn_heads.specs.Params.{header_in};
 ghost use Rattle.jn_rules.specs.Questions.{Answers};
 ghost use Rattle.jn_rules.specs.Plans.{Plan};
-ghost use Rattle.jn_rules.specs.Exprs.{Typing, Typed, path_type, of_atom, super_gives};
+ghost use Rattle.jn_rules.specs.Exprs.{Typing, Typed, path_type, of_atom, super_gives, constraints_granted};
 ghost use Rattle.jn_expr.specs.Envs.{ArePartsOf, IsScope, Stays, parts, here_at};
 ghost use Rattle.jn_expr.specs.Steps.{LeadsTold, IsCall};
 ghost use Rattle.jn_expr.specs.Calling.{body_of, OwnerLeads};
@@ -107,6 +107,7 @@ pub fn enter_super(
         (body_of owner.now method.now) (header_in env.new.pool call.header) call.paths.items)
         env.old.marks env.new.marks result }
     ensures call { IfOk result (λ call. IsCall env.new.pool call) }
+    ensures begun { IfOk result (λ call. length call.paths.items ≡ 1) }
     ensures stays { Stays env.old env.new }
 {
     match enter(alloc, p, class, m, env, owner, method, name.at, count) {
@@ -163,4 +164,36 @@ fn constraint_granted(
             }
         }
     }
+}
+
+/// What the header of the body that a `super` calls asks: E25 at the name at the first of its constraints that the
+/// header of the caller doesn't grant.
+pub fn constraints_granted(
+    alloc: Global,
+    p: &Program,
+    class: &Bound,
+    m: &Method,
+    env: &mut Env,
+    scope: &Scope,
+    owner: &Bound,
+    method: &Method,
+    name: &Named,
+) -> Result<(), CheckFault>
+    requires parts { ArePartsOf p.now (parts env.old) }
+    requires scope { IsScope env.old.pool scope.now }
+    ensures told { (go : Plan Typed) → LeadsTold p.now
+        (constraints_granted (here_at class.now m.now env.old.vars.list) (body_of owner.now method.now) name.now
+        (scope_in env.old.pool scope.now) method.now.sharing go) (λ u. go) env.old.marks env.new.marks result }
+    ensures stays { Stays env.old env.new }
+    ensures marks { env.new.marks ≡ env.old.marks }
+{
+    for constraint in method.sharing.as_slice() {
+        match constraint_granted(
+            alloc, p, class, m, env, scope, owner, method, name, constraint,
+        ) {
+            Err(fault) => return Err(fault),
+            Ok(()) => {}
+        }
+    }
+    Ok(())
 }

@@ -62,7 +62,7 @@ pub fn plain(env: &mut Env, scope: &Scope, ty: &Ty) -> Result<Value, CheckFault>
 }
 
 /// The present masks of a path: those of its newest bind's type.
-fn masks_at(pool: &Pool, binds: &[Bind], path: u32) -> Masks
+pub fn masks_at(pool: &Pool, binds: &[Bind], path: u32) -> Masks
     requires { All (λ b. InPool pool.now b.ty) binds.now }
     ensures { result ≡ masks_at (binds_in pool.now binds.now) path }
 {
@@ -112,7 +112,7 @@ pub fn path_value(
 }
 
 /// The newest variable of the name.
-fn newest(vars: &[Var], x: Name) -> Option<&Var>
+pub fn newest(vars: &[Var], x: Name) -> Option<&Var>
     ensures { option_copied result ≡ newest (reverse vars.now) x }
 {
     let mut found = None;

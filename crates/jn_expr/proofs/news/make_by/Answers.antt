@@ -1,9 +1,9 @@
-use Rattle.std.proofs.Common.{◌∙◌, ℕ, List, ap, get_or, Option, Some}
+use Rattle.std.proofs.Common.{◌∙◌, ℕ, List, ap, get_or, length, Option, Some}
 use Rattle.jn_intern.specs.Pools.{scope_in, shown}
 use Rattle.jn_expr.specs.Envs.{here_at}
 use Rattle.jn_expr.specs.Calling.{body_of}
 use Rattle.jn_expr.specs.Making.{made_left}
-use Rattle.jn_expr.proofs.NewSteps.{make_fault, make_told, some_call}
+use Rattle.jn_expr.proofs.NewSteps.{make_fault, make_told, some_call, some_begun}
 use Rattle.jn_expr.proofs.news.make_by.Goals as goal
 
 pub returns-in-Err-clause-told : goal.returns-in-Err-clause-told
@@ -27,4 +27,5 @@ returns-in-Some-clause-made c = record {
   scope = c.in-Ok.ensures.call.scope;
   grows = c.in-Ok.ensures.call.grows;
   call = λ d i. some_call c.enter_with.new.env.pool c.in-Ok.call d c.in-Ok.ensures.call.is_call i;
+  begun = λ d i. some_begun c.in-Ok.call d (ap length c.in-Ok.ensures.call.paths) i;
 }
