@@ -14,3 +14,4 @@ pub mod SlotLaw
 pub mod SelectorLaws
 pub mod OnePlace
 pub mod PlacesProof
+pub mod Faultless

@@ -6,3 +6,4 @@ pub mod Asked
 pub mod Lookups
 pub mod RowLists
 pub mod Selecting
+pub mod LawsOfRows
