@@ -1,4 +1,9 @@
-ghost use Rattle.jn_link.specs.Joined.{JoinedStand, JoinedAreImages};
+ghost use Rattle.jn_link.specs.Joined.{LoweredHaveShapes, JoinedStand, JoinedAreImages};
+
+/// Codes that are lowered in source order have the shapes of their bodies. It does nothing.
+pub fn lowered_have_shapes()
+    ensures { LoweredHaveShapes }
+{}
 
 /// In an image whose parts are joined, each code stands at its place, is accepted by the rules, and has room for its
 /// operands. It does nothing.

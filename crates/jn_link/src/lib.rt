@@ -2,5 +2,8 @@
 #![tactic(auto)]
 
 mod law;
+pub mod lists;
+mod start;
 
-pub use law::{joined_are_images, joined_stand};
+pub use law::{joined_are_images, joined_stand, lowered_have_shapes};
+pub use start::start_code;
