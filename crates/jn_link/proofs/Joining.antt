@@ -85,7 +85,14 @@ module _ (p : Program) (bytes : List ℕ) (text : IsTextOf p bytes) (ok : TreePa
       let c = there cs j (omega (arith, within, many)) in
       let s = code_stands n b c.0 (stands_in n all.numbered j b e) (all.each j b c.0 e c.1) in
       let at = (bodies_stand p shallow n b s.header c.0 s.head s.accepted s.at (all.few j c.0 c.1)).at in
-      record { code = c.0; at = c.1; shape = at.shape; has_shape = at.has_shape; params = at.params; result = at.result }
+      record {
+        code = c.0;
+        at = c.1;
+        shape = at.shape;
+        has_shape = at.has_shape;
+        params = at.params;
+        result = at.result;
+      }
 
 -- ---- those of an image
 
@@ -102,7 +109,8 @@ module _ (p : Program) (bytes : List ℕ) (text : IsTextOf p bytes) (ok : TreePa
     has_room j b c e f stands =
         let room = (all.bodies j b c e f).room in
         let few = (in_form j c f).locals_count in
-        let most = operands_few p bytes text (shallow p bytes text ok) i n all.rows all.in_form.methods j b c e stands few in
+        let most = operands_few p bytes text (shallow p bytes text ok) i n all.rows all.in_form.methods j b c e stands
+        few in
         record { few = few; some = omega (arith, room); operands = omega (arith, room, most) }
 
     stand : CodesStand p i n

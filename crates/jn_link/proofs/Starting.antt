@@ -64,11 +64,13 @@ runs class (Some j) main = (refl, (refl, (refl, (refl, (refl, refl)))))
 
 pub start_is : (p : Program) (n : Naming) (names : List MethodSel) (c : Code) (class main : Name) (number j : ℕ)
     (found : Option ℕ)
-    → IsSpelled p (codes "Main") class → IsSpelled p (codes "main") main → slice_get n.classes number ≡ Some (class ∷ [])
+    → IsSpelled p (codes "Main") class → IsSpelled p (codes "main") main
+    → slice_get n.classes number ≡ Some (class ∷ [])
     → n.methods ≡ names → IsBareAt names class found → slice_get names j ≡ Some (bare_sel main)
     → c.params ≡ [] → c.result ≡ 0 → c.locals ≡ 3 ∷ [] → c.stack ≡ 1 → c.instrs ≡ start_instrs number found j
     → IsStart p n c
-start_is p n names c class main number j found spelled main_spelled at_class methods bares at params result locals stack is =
+start_is p n names c class main number j found spelled main_spelled at_class methods bares at params result locals stack
+    is =
     record {
       at = record {
         params = params;
@@ -99,7 +101,8 @@ start_is p n names c class main number j found spelled main_spelled at_class met
 -- ---- its form
 
 instrs_in_form : (class : ℕ) (found : Option ℕ) (main : ℕ) → All InstrInForm (start_instrs class found main)
-instrs_in_form class None main = All-from_recursion InstrInForm (start_instrs class None main) (tt, (tt, (tt, (tt, tt))))
+instrs_in_form class None main =
+    All-from_recursion InstrInForm (start_instrs class None main) (tt, (tt, (tt, (tt, tt))))
 instrs_in_form class (Some j) main =
     All-from_recursion InstrInForm (start_instrs class (Some j) main) (tt, (tt, (tt, (tt, (tt, tt)))))
 

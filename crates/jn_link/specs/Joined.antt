@@ -60,8 +60,8 @@ pub record AreJoined (p : Program) (i : Image) (n : Naming) : Type 0 where
   pub in_form : InForm i
   pub fits : RestFits p i n
 
--- What is promised of the image of a program: it has the program's rows, is in form and valid, agrees with the program's
--- meaning, and its file is within its limit.
+-- What is promised of the image of a program: it has the program's rows, is in form and valid, agrees with the
+-- program's meaning, and its file is within its limit.
 pub record IsImageOf (p : Program) (i : Image) : Type 0 where
   pub rows : Rows p i
   pub in_form : InForm i

@@ -57,5 +57,5 @@ abbrev pub start_instrs : ℕ → Option ℕ → ℕ → List Instr
 start_instrs class constructor main =
     ins.Cls class ∷ (ins.New ∷ (made_by constructor ++ (ins.Call main ∷ (ins.Ret ∷ []))))
 
--- Example: where class 3 is Main, it has no constructor, and selector 2 is `void main()`, the start's code is CLS 3, NEW,
--- CALL 2, RET.
+-- Example: where class 3 is Main, it has no constructor, and selector 2 is `void main()`, the start's code is CLS 3,
+-- NEW, CALL 2, RET.

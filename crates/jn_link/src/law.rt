@@ -11,8 +11,8 @@ pub fn joined_stand()
     ensures { JoinedStand }
 {}
 
-/// An image whose parts are joined is that of the program: it is valid, has the program's rows, agrees with its meaning,
-/// and its file is within its limit. It does nothing.
+/// An image whose parts are joined is that of the program: it is valid, has the program's rows, agrees with its
+/// meaning, and its file is within its limit. It does nothing.
 pub fn joined_are_images()
     ensures { JoinedAreImages }
 {}

@@ -107,8 +107,8 @@ fn top_path(alloc: Global, class: Name) -> Result<Path, AllocError>
     Ok(Path { names })
 }
 
-/// The number of a class at the top. One that isn't in the table, which Main of a checked program is, is refused for want
-/// of memory.
+/// The number of a class at the top. One that isn't in the table, which Main of a checked program is, is refused for
+/// want of memory.
 fn class_number(alloc: Global, t: &Table, class: Name) -> Result<u16, AllocError>
     ensures { IfOk result (λ k. (n : Naming) → AreClassesOf t.now n → slice_get n.classes k ≡ Some (class ∷ [])) }
 {
