@@ -1,6 +1,10 @@
+pub mod Placed
+pub mod PlacedLaws
 pub mod Emitted
 pub mod Laws
 pub mod Forms
 pub mod Straight
 pub mod Composed
 pub mod Plainly
+pub mod Stores
+pub mod Called

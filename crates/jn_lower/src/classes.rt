@@ -1,6 +1,6 @@
 ghost use Rattle.std.specs.Prelude.{◌≡◌, IfOk, OnOk, ℕ};
 ghost use Rattle.jn_agree.specs.Places.{up_by, downs, binding};
-ghost use Rattle.jn_lower.specs.Straight.{Adds};
+ghost use Rattle.jn_lower.specs.Emitted.{Adds};
 ghost use Rattle.jn_base.specs.declared.tree.Program.{Program};
 ghost use Rattle.jn_agree.specs.Naming.{Naming};
 ghost use Rattle.jn_code.specs.declared.image.Code.{Code};
@@ -22,7 +22,7 @@ pub fn member(x: Name) -> Result<u16, AllocError>
 
 /// Adds the way up from a class, by that many levels: UP, and nothing for none.
 pub fn up_by(out: &mut Emitter, levels: u8) -> Result<(), AllocError>
-    ensures { OnOk result (Adds (up_by levels) out.old.instrs out.new.instrs) }
+    ensures { OnOk result (Adds (up_by levels) out.old out.new) }
 {
     if levels == 0 {
         Ok(())
@@ -33,7 +33,7 @@ pub fn up_by(out: &mut Emitter, levels: u8) -> Result<(), AllocError>
 
 /// Adds the way down from a class by these names, of which the last comes first: DOWN for each.
 pub fn downs(out: &mut Emitter, path: &[Name]) -> Result<(), AllocError>
-    ensures { OnOk result (Adds (downs path.now) out.old.instrs out.new.instrs) }
+    ensures { OnOk result (Adds (downs path.now) out.old out.new) }
 {
     let mut left = path.len();
     while left > 0 {
@@ -47,7 +47,7 @@ pub fn downs(out: &mut Emitter, path: &[Name]) -> Result<(), AllocError>
 /// Adds what binds a local of the type: STORE, with CHECK before it where it is final and of class type.
 pub fn binding(out: &mut Emitter, fixed: bool, ty: &Ty, q: u8) -> Result<(), AllocError>
     ensures { OnOk result ((p : Program) (n : Naming) (scratch : ℕ) (c : Code)
-        → Adds (binding p n scratch c fixed ty.now q) out.old.instrs out.new.instrs) }
+        → Adds (binding p n scratch c fixed ty.now q) out.old out.new) }
 {
     if fixed && is_class(ty) {
         out.push(Instr::Check)?;

@@ -1,7 +1,7 @@
 ghost use Rattle.std.specs.Prelude.{◌≡◌, IfOk, OnOk};
 ghost use Rattle.jn_agree.specs.Follows.{is_tested};
 ghost use Rattle.jn_agree.specs.Places.{testing, tests};
-ghost use Rattle.jn_lower.specs.Straight.{Adds};
+ghost use Rattle.jn_lower.specs.Emitted.{Adds};
 
 use crate::emitter::Emitter;
 use crate::straight::is_class;
@@ -26,7 +26,7 @@ pub fn is_tested(x: &Var) -> bool
 
 /// Adds the test of a parameter, where it is one that is tested: LOAD, CHECK, POP.
 pub fn testing(out: &mut Emitter, tested: bool, q: u8) -> Result<(), AllocError>
-    ensures { OnOk result (Adds (testing tested q) out.old.instrs out.new.instrs) }
+    ensures { OnOk result (Adds (testing tested q) out.old out.new) }
 {
     if tested {
         out.push(Instr::Load(q))?;
@@ -39,7 +39,7 @@ pub fn testing(out: &mut Emitter, tested: bool, q: u8) -> Result<(), AllocError>
 
 /// Adds the tests of the parameters, in their order.
 pub fn tests(out: &mut Emitter, vars: &[Var]) -> Result<(), AllocError>
-    ensures { OnOk result (Adds (tests vars.now) out.old.instrs out.new.instrs) }
+    ensures { OnOk result (Adds (tests vars.now) out.old out.new) }
 {
     for x in vars {
         let q = local(x.path)?;
