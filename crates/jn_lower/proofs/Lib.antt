@@ -6,3 +6,5 @@ pub mod Composing
 pub mod Statements
 pub mod Holding
 pub mod Calling
+pub mod Bodies
+pub mod CtorCodes

@@ -8,3 +8,5 @@ pub mod Composed
 pub mod Plainly
 pub mod Stores
 pub mod Called
+pub mod Selecting
+pub mod Whole

@@ -1,14 +1,9 @@
-ghost use Rattle.std.specs.Prelude.{◌≡◌, IfOk, OnOk, ℕ};
-ghost use Rattle.jn_agree.specs.Places.{up_by, downs, binding};
+ghost use Rattle.std.specs.Prelude.{◌≡◌, IfOk, OnOk};
+ghost use Rattle.jn_agree.specs.Places.{up_by, downs};
 ghost use Rattle.jn_lower.specs.Emitted.{Adds};
-ghost use Rattle.jn_base.specs.declared.tree.Program.{Program};
-ghost use Rattle.jn_agree.specs.Naming.{Naming};
-ghost use Rattle.jn_code.specs.declared.image.Code.{Code};
 
 use crate::emitter::Emitter;
-use crate::straight::is_class;
 use jn_base::tree::Name;
-use jn_base::types::Ty;
 use jn_code::Instr;
 use std::alloc::AllocError;
 
@@ -42,17 +37,4 @@ pub fn downs(out: &mut Emitter, path: &[Name]) -> Result<(), AllocError>
         out.push(Instr::Down(k))?;
     }
     Ok(())
-}
-
-/// Adds what binds a local of the type: STORE, with CHECK before it where it is final and of class type.
-pub fn binding(out: &mut Emitter, fixed: bool, ty: &Ty, q: u8) -> Result<(), AllocError>
-    ensures { OnOk result ((p : Program) (n : Naming) (scratch : ℕ) (c : Code)
-        → Adds (binding p n scratch c fixed ty.now q) out.old out.new) }
-{
-    if fixed && is_class(ty) {
-        out.push(Instr::Check)?;
-        out.push(Instr::Store(q))
-    } else {
-        out.push(Instr::Store(q))
-    }
 }

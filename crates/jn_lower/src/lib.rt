@@ -4,11 +4,15 @@
 //! once their target is known.
 #![tactic(auto)]
 
+pub mod calls;
 pub mod classes;
 pub mod emitter;
+pub mod ending;
 pub mod law;
 pub mod leaves;
+pub mod locals;
 pub mod params;
+pub mod selecting;
 pub mod straight;
 
 pub use emitter::Emitter;

@@ -1,9 +1,11 @@
-ghost use Rattle.std.specs.Prelude.{◌≡◌, IfOk, OnOk};
+ghost use Rattle.std.specs.Prelude.{◌≡◌, ◌∷◌, map, IfOk, OnOk};
 ghost use Rattle.jn_agree.specs.Follows.{is_tested};
 ghost use Rattle.jn_agree.specs.Places.{testing, tests};
 ghost use Rattle.jn_lower.specs.Emitted.{Adds};
+ghost use Rattle.jn_lower.specs.Whole.{DeclaresAll, kind_of_var};
 
 use crate::emitter::Emitter;
+use crate::locals::kind_of_type;
 use crate::straight::is_class;
 use jn_base::names::Var;
 use jn_code::Instr;
@@ -15,6 +17,17 @@ pub fn local(path: u32) -> Result<u8, AllocError>
     ensures { IfOk result (λ q. q ≡ path) }
 {
     u8::try_from(path).map_err(|_| AllocError)
+}
+
+/// Declares `this` and the parameters: a reference, and the kinds of their types.
+pub fn declared(out: &mut Emitter, vars: &[Var]) -> Result<(), AllocError>
+    ensures { OnOk result (DeclaresAll (3 ∷ map kind_of_var vars.now) out.old out.new) }
+{
+    out.declare(3)?;
+    for x in vars {
+        out.declare(kind_of_type(&x.ty))?;
+    }
+    Ok(())
 }
 
 /// Whether the parameter is tested on entry: a final one of class type.
