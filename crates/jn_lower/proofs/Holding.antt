@@ -73,7 +73,7 @@ stored_is p n scratch c true (ty.Class xs m) q = refl
 abbrev Bound : Bool → Ty → ℕ → Code → ℕ → ℕ → Type 0
 Bound fixed type q c s t = HasKind c q (kind_of_type type) × Are (stored fixed (is_class type) q) c s t
 
-bound : (fixed : Bool) (type : Ty) (old new : Emitter) → Binds fixed type old new
+bound : (fixed : Bool) (type : Ty) (old new : Emitter) → Binds fixed (is_class type) (kind_of_type type) old new
     → Emitted (Bound fixed type (length old.locals.kinds)) old new
 bound fixed type old new e =
     means_where (Are xs) (Bound fixed type (length old.locals.kinds)) old new

@@ -6,5 +6,7 @@ pub mod Composing
 pub mod Statements
 pub mod Holding
 pub mod Calling
-pub mod Bodies
+pub mod Finishing
 pub mod CtorCodes
+pub mod ClassCodes
+pub mod Named

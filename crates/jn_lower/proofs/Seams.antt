@@ -1,6 +1,6 @@
 -- What is emitted one behind another.
 use Rattle.std.proofs.Common.{◌≡◌, ◌≢◌, ℕ, zero, suc, ◌+◌, ◌<◌, List, [], ◌∷◌, ◌++◌, length, Some, refl, sym, ap, ◌∙◌, subst, arith, length-append}
-use Rattle.std.specs.Prelude.{slice_get, slice_set, Result, Ok, Err, OnOk}
+use Rattle.std.specs.Prelude.{slice_get, slice_set, Result, Ok, Err, OnOk, IfOk}
 use Rattle.jn_code.specs.declared.instr.Instr.{Instr}
 use Rattle.jn_agree.specs.Places.{Run}
 use Rattle.jn_lower.specs.Placed.{Placed, Are, Behind}
@@ -77,3 +77,7 @@ added (x ∷ xs) old new e =
 pub on_ok : {A E X Y : Type 0} (r : Result A E) → (X → Y) → OnOk r X → OnOk r Y
 on_ok (Ok x) f h = f h
 on_ok (Err e) f h = h
+
+pub if_ok : {A E : Type 0} (r : Result A E) (P Q : A → Type 0) → ((a : A) → P a → Q a) → IfOk r P → IfOk r Q
+if_ok (Ok x) P Q f h = f x h
+if_ok (Err e) P Q f h = h

@@ -10,3 +10,6 @@ pub mod Stores
 pub mod Called
 pub mod Selecting
 pub mod Whole
+pub mod Classes
+pub mod Written
+pub mod Told

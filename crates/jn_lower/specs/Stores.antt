@@ -32,10 +32,10 @@ stored true true q = ins.Check ∷ ins.Store q ∷ []
 stored true false q = ins.Store q ∷ []
 stored false class q = ins.Store q ∷ []
 
--- the next local is bound, and has the kind of its type
-pub record Binds (fixed : Bool) (type : Ty) (old new : Emitter) : Type 0 where
-  pub instrs : new.instrs ≡ old.instrs ++ stored fixed (is_class type) (length old.locals.kinds)
-  pub kinds : new.locals.kinds ≡ old.locals.kinds ++ kind_of_type type ∷ []
+-- the next local is bound, is of class type or not, and has that kind
+pub record Binds (fixed class : Bool) (kind : ℕ) (old new : Emitter) : Type 0 where
+  pub instrs : new.instrs ≡ old.instrs ++ stored fixed class (length old.locals.kinds)
+  pub kinds : new.locals.kinds ≡ old.locals.kinds ++ kind ∷ []
   pub spare : new.locals.spare ≡ old.locals.spare
   pub scratch : new.locals.scratch ≡ old.locals.scratch
 
@@ -45,7 +45,7 @@ LocalStands =
     (p : Program) (n : Naming) (scratch : ℕ) (b : In) (x : Before) (final : Bool) (ty : TypeTerm) (name : Named)
     (e : Expr) (type : Ty) (ss : List Stmt) (c0 c1 c2 new : Emitter)
     → Emitted (Value p n scratch (here b x) x.scope true e) c0 c1 → TypeIs p (site_here (here b x)) ty type
-    → length c1.locals.kinds ≡ x.next → Binds final type c1 c2
+    → length c1.locals.kinds ≡ x.next → Binds final (is_class type) (kind_of_type type) c1 c2
     → Emitted (StmtsBehind p n scratch b x (stmt.Local final ty name e) ss) c2 new
     → Emitted (Stmts p n scratch b x (stmt.Local final ty name e ∷ ss)) c0 new
 

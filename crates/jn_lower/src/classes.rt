@@ -1,9 +1,11 @@
 ghost use Rattle.std.specs.Prelude.{◌≡◌, IfOk, OnOk};
-ghost use Rattle.jn_agree.specs.Places.{up_by, downs};
+ghost use Rattle.jn_agree.specs.Places.{up_by};
 ghost use Rattle.jn_lower.specs.Emitted.{Adds};
+ghost use Rattle.jn_lower.specs.Classes.{down_each, seen_by};
 
 use crate::emitter::Emitter;
 use jn_base::tree::Name;
+use jn_base::types::Atom;
 use jn_code::Instr;
 use std::alloc::AllocError;
 
@@ -26,15 +28,24 @@ pub fn up_by(out: &mut Emitter, levels: u8) -> Result<(), AllocError>
     }
 }
 
-/// Adds the way down from a class by these names, of which the last comes first: DOWN for each.
-pub fn downs(out: &mut Emitter, path: &[Name]) -> Result<(), AllocError>
-    ensures { OnOk result (Adds (downs path.now) out.old out.new) }
+/// Adds the way down from a class by these names, the outermost first: DOWN for each.
+pub fn downs(out: &mut Emitter, names: &[Name]) -> Result<(), AllocError>
+    ensures { OnOk result (Adds (down_each names.now) out.old out.new) }
 {
-    let mut left = path.len();
-    while left > 0 {
-        left -= 1;
-        let k = member(path[left])?;
+    for name in names {
+        let k = member(*name)?;
         out.push(Instr::Down(k))?;
     }
     Ok(())
+}
+
+/// Adds the class that is found from the view of a local: LOAD, VIEWOF, UP, and DOWN for each name of the atom.
+pub fn seen_class(out: &mut Emitter, q: u8, levels: u8, x: &Atom) -> Result<(), AllocError>
+    ensures { OnOk result (Adds (seen_by q levels x.now) out.old out.new) }
+{
+    out.push(Instr::Load(q))?;
+    out.push(Instr::Viewof)?;
+    up_by(out, levels)?;
+    downs(out, x.exact.as_slice())?;
+    downs(out, x.names.as_slice())
 }

@@ -11,6 +11,7 @@ pub mod ending;
 pub mod law;
 pub mod leaves;
 pub mod locals;
+pub mod members;
 pub mod params;
 pub mod selecting;
 pub mod straight;

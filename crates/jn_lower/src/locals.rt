@@ -1,11 +1,9 @@
 ghost use Rattle.std.specs.Prelude.{◌≡◌, OnOk};
-ghost use Rattle.jn_base.specs.Resolve.{is_class};
 ghost use Rattle.jn_agree.specs.Rows.{kind_of_type};
 ghost use Rattle.jn_lower.specs.Emitted.{Adds};
 ghost use Rattle.jn_lower.specs.Stores.{stored, Binds};
 
 use crate::emitter::Emitter;
-use crate::straight::is_class;
 use jn_base::types::Ty;
 use jn_code::Instr;
 use std::alloc::AllocError;
@@ -33,10 +31,10 @@ pub fn stored(out: &mut Emitter, fixed: bool, class: bool, q: u8) -> Result<(), 
     out.push(Instr::Store(q))
 }
 
-/// Binds the next local to the value on top, which is of the type.
-pub fn bind(out: &mut Emitter, fixed: bool, ty: &Ty) -> Result<(), AllocError>
-    ensures { OnOk result (Binds fixed ty.now out.old out.new) }
+/// Binds the next local to the value on top, which is of that kind and of class type or not.
+pub fn bind(out: &mut Emitter, fixed: bool, class: bool, kind: u8) -> Result<(), AllocError>
+    ensures { OnOk result (Binds fixed class kind out.old out.new) }
 {
-    let q = out.declare(kind_of_type(ty))?;
-    stored(out, fixed, is_class(ty), q)
+    let q = out.declare(kind)?;
+    stored(out, fixed, class, q)
 }

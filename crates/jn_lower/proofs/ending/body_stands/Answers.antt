@@ -1,4 +1,4 @@
-use Rattle.jn_lower.proofs.Bodies.{body_so}
+use Rattle.jn_lower.proofs.Finishing.{body_so}
 use Rattle.jn_lower.proofs.ending.body_stands.Goals as goal
 
 pub returns : goal.returns

@@ -1,0 +1,29 @@
+-- What is told of a member of the program, and by what selector it is named.
+use Rattle.std.specs.Prelude.{◌≡◌, ℕ, List, Contains, map, Option, Some, None, slice_get}
+use Rattle.jn_base.specs.declared.tree.Name.{Name}
+use Rattle.jn_base.specs.declared.tree.Field.{Field}
+use Rattle.jn_base.specs.declared.tree.Method.{Method}
+use Rattle.jn_agree.specs.declared.selectors.MethodSel.{MethodSel}
+use Rattle.jn_lower.specs.declared.members.Callee.{Callee}
+use Rattle.jn_lower.specs.Selecting.{method_sel}
+use Rattle.jn_lower.specs.Written.{written_result, param_kind}
+
+-- a thing that is so, none where there is none
+abbrev pub Tells : {A : Type 0} → (A → Type 0) → Option A → Type 0
+Tells Is (Some a) = Is a
+Tells {A} Is None = (a : A) → Is a → ⊥
+
+-- a method, a field, of this name
+abbrev pub IsMethodNamed : List Method → Name → Method → Type 0
+IsMethodNamed ms m x = Contains ms x × (x.name.name ≡ m)
+
+abbrev pub IsFieldNamed : List Field → Name → Field → Type 0
+IsFieldNamed fs f x = Contains fs x × (x.name.name ≡ f)
+
+-- the method is called by that selector, which has its name and its written kinds
+pub record IsCallee (names : List MethodSel) (f : Name) (m : Method) (x : Callee) : Type 0 where
+  pub at : slice_get names x.selector ≡ Some (method_sel f x.params.items x.kind)
+  pub params : x.params.items ≡ map param_kind m.params
+  pub result : x.kind ≡ written_result m.result
+
+-- Example: the selector of `int m(A a, boolean b)` has the kinds 3 and 2, and the result 1.
