@@ -1,13 +1,20 @@
-ghost use Rattle.std.specs.Prelude.{◌≡◌, IfOk, OnOk};
+ghost use Rattle.std.specs.Prelude.{◌≡◌, ◌++◌, IfOk, OnOk};
+ghost use Rattle.jn_base.specs.Atoms.{atom_of};
+ghost use Rattle.jn_base.specs.declared.types.Anchor.TheVariants.{Root};
+ghost use Rattle.jn_agree.specs.Naming.{Naming};
 ghost use Rattle.jn_agree.specs.Places.{up_by};
 ghost use Rattle.jn_lower.specs.Emitted.{Adds};
-ghost use Rattle.jn_lower.specs.Classes.{down_each, seen_by};
+ghost use Rattle.jn_lower.specs.Classes.{AreClassesOf, AddsClass, down_each, seen_by};
 
 use crate::emitter::Emitter;
+use crate::params::local;
+use jn_base::path::Path;
 use jn_base::tree::Name;
-use jn_base::types::Atom;
+use jn_base::types::{Anchor, Atom};
 use jn_code::Instr;
-use std::alloc::AllocError;
+use jn_table::Table;
+use sqlite_items::Items;
+use std::alloc::{AllocError, Global};
 
 /// The number of a member's name, in two bytes. One above 65535, which no program within the limits has, is refused for
 /// want of memory.
@@ -48,4 +55,41 @@ pub fn seen_class(out: &mut Emitter, q: u8, levels: u8, x: &Atom) -> Result<(), 
     up_by(out, levels)?;
     downs(out, x.exact.as_slice())?;
     downs(out, x.names.as_slice())
+}
+
+/// The path that has the atom's names.
+fn path_of(alloc: Global, x: &Atom) -> Result<Path, AllocError>
+    ensures { IfOk result (λ path. path.names ≡ x.now.exact ++ x.now.names) }
+{
+    let mut names = Items::from_slice(alloc, x.exact.as_slice())?;
+    for name in x.names.as_slice() {
+        names.push(*name)?;
+    }
+    Ok(Path { names })
+}
+
+/// Adds the class of one of the program's own paths: CLS. A path that isn't in the table, which no atom of a checked
+/// body is, is refused for want of memory.
+fn own_class(alloc: Global, out: &mut Emitter, t: &Table, x: &Atom) -> Result<(), AllocError>
+    requires { x.now.anchor ≡ Root }
+    ensures { OnOk result ((n : Naming) → AreClassesOf t.now n → AddsClass n (atom_of x.now) out.old out.new) }
+{
+    let path = path_of(alloc, x)?;
+    match t.find(&path) {
+        None => Err(AllocError),
+        Some(id) => out.push(Instr::Cls(id.0)),
+    }
+}
+
+/// Adds the class of an atom: that of its path, or the one that is found from the view of its local.
+pub fn class_of(alloc: Global, out: &mut Emitter, t: &Table, x: &Atom) -> Result<(), AllocError>
+    ensures { OnOk result ((n : Naming) → AreClassesOf t.now n → AddsClass n (atom_of x.now) out.old out.new) }
+{
+    match x.anchor {
+        Anchor::Root => own_class(alloc, out, t, x),
+        Anchor::Up(q, levels) => {
+            let at = local(q)?;
+            seen_class(out, at, levels, x)
+        }
+    }
 }
