@@ -10,3 +10,16 @@ pub mod Finishing
 pub mod CtorCodes
 pub mod ClassCodes
 pub mod Named
+pub mod Noting
+pub mod Taking
+pub mod LeafForms
+pub mod Chains
+pub mod Blocks
+pub mod Loops
+pub mod Written
+pub mod Heads
+pub mod Declaring
+pub mod Bodies
+pub mod NextLocals
+pub mod Posts
+pub mod Passing

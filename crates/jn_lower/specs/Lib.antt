@@ -13,3 +13,6 @@ pub mod Whole
 pub mod Classes
 pub mod Written
 pub mod Told
+pub mod Cursors
+pub mod Lowering
+pub mod Walks
