@@ -126,19 +126,23 @@ body_stands g n m r b k c0 c1 c3 w1 w2 code parts is begun tested at_first marks
       last = length w2.out.instrs;
       tested = subst (λ (xs : List Instr). Run code.instrs xs 0 (length c1.instrs)) (sym head.tested)
           (subst (λ (s : ℕ). Run code.instrs (param_tests 1 m.params) s (length c1.instrs)) zero0
-          (e1.there code (subst (λ (o : Emitter). Fits o.locals code) at_first fit1) (record { by = λ i ge lt.
-            ap (λ (o : Emitter). slice_get o.instrs i) (sym at_first)
-            ∙ d.emitted.grown.kept.by i (omega arith) (subst (λ (o : Emitter). i < length o.instrs) (sym at_first) lt)
-            ∙ e3.grown.kept.by i (omega arith) (omega (arith, d.emitted.grown.longer, ap (λ (o : Emitter). length o.instrs) at_first))
-            ∙ ap (λ (l : List Instr). slice_get l i) (sym end.instrs) })));
+          (e1.there code (subst (λ (o : Emitter). Fits o.locals code) at_first fit1) (record {
+            by = λ i ge lt.
+                ap (λ (o : Emitter). slice_get o.instrs i) (sym at_first)
+                ∙ d.emitted.grown.kept.by i (omega arith) (subst (λ (o : Emitter). i < length o.instrs) (sym at_first) lt)
+                ∙ e3.grown.kept.by i (omega arith) (omega (arith, d.emitted.grown.longer, ap (λ (o : Emitter). length o.instrs) at_first))
+                ∙ ap (λ (l : List Instr). slice_get l i) (sym end.instrs);
+          })));
       stmts = subst (λ (z : Method). StmtsAt g.p.now n (path_behind z.body (suc (length k.vars))) code (body_in b k) (at_start b k) z.body (length c1.instrs) (length w2.out.instrs))
           (sym is.method)
           (subst (λ (i : ℕ). StmtsAt g.p.now n (path_behind m.body (suc i)) code (body_in b k) (at_start b k) m.body (length c1.instrs) (length w2.out.instrs))
           (sym head.count)
           (subst (λ (o : Emitter). StmtsAt g.p.now n scratch code (body_in b k) (at_start b k) m.body (length o.instrs) (length w2.out.instrs))
           at_first
-          (d.emitted.there code fit2 (record { by = λ i ge lt.
-            e3.grown.kept.by i (omega arith) lt ∙ ap (λ (l : List Instr). slice_get l i) (sym end.instrs) }))));
+          (d.emitted.there code fit2 (record {
+            by = λ i ge lt.
+                e3.grown.kept.by i (omega arith) lt ∙ ap (λ (l : List Instr). slice_get l i) (sym end.instrs);
+          }))));
       over = subst (λ (i : ℕ). Run code.instrs (last_return i) (length w2.out.instrs) (length code.instrs)) (sym end.result)
           (subst (λ (i : ℕ). Run code.instrs (last_return (written_result m.result)) (length w2.out.instrs) i) (ap length (sym end.instrs))
           (e3.there code fit3 (record { by = λ i ge lt. ap (λ (l : List Instr). slice_get l i) (sym end.instrs) })));

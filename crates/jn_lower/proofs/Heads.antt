@@ -118,15 +118,15 @@ numbered_by front _ _ _ e (none {n = n}) v m = elim m [ ]
 numbered_by front n _ _ e (more {x = x} {xs = xs} h r) v first =
     ap (λ (q : ℕ). slice_get (front ++ param_kind x ∷ map param_kind xs) q) (h.path ∙ sym e)
     ∙ at_end front (param_kind x) (map param_kind xs) ∙ ap Some (sym h.kind) where
-  at_end : (front : List ℕ) (k : ℕ) (l : List ℕ) → slice_get (front ++ k ∷ l) (length front) ≡ Some k
-  at_end [] k l = refl
-  at_end (j ∷ front) k l = at_end front k l
+      at_end : (front : List ℕ) (k : ℕ) (l : List ℕ) → slice_get (front ++ k ∷ l) (length front) ≡ Some k
+      at_end [] k l = refl
+      at_end (j ∷ front) k l = at_end front k l
 numbered_by front n _ _ e (more {x = x} {xs = xs} {vs = vs} h r) v (later m) =
     ap (λ (l : List ℕ). slice_get l v.path) (sym (append_assoc front (param_kind x ∷ []) (map param_kind xs)))
     ∙ numbered_by (front ++ param_kind x ∷ []) (suc n) xs vs (longer front (param_kind x) ∙ ap suc e) r v m where
-  longer : (front : List ℕ) (k : ℕ) → length (front ++ k ∷ []) ≡ suc (length front)
-  longer [] k = refl
-  longer (j ∷ front) k = ap suc (longer front k)
+      longer : (front : List ℕ) (k : ℕ) → length (front ++ k ∷ []) ≡ suc (length front)
+      longer [] k = refl
+      longer (j ∷ front) k = ap suc (longer front k)
 
 valued_all : (n : ℕ) (xs : List Param) (vs : List Var) → AreThey n xs vs → (v : Var) → Among vs v → v.ty ≡ ty.Void → ⊥
 valued_all _ _ _ (none {n = n}) v m = elim m [ ]

@@ -149,7 +149,7 @@ var_done g x q w0 m o w1 took stands had pl n scratch h sc parts = record {
         let gave = gives_noted g.p.now kind.0 (var_typed v sc) z noted.0 kind.1 noted.2 in
         let marks = noted.1 ∙ ap (λ (l : List Mark). VarMark v.path ∷ l) gave.marks in
         let one = var_ahead q v.path (KindMark kind.0 ∷ rest) w0.marks m took
-            (subst (λ (l : List Mark). Ahead (l ++ rest) w0.marks) marks ahead) in
+        (subst (λ (l : List Mark). Ahead (l ++ rest) w0.marks) marks ahead) in
         let it = had_ahead kind.0 rest (record { out = o; marks = m; last = w0.last }) w1 had one.left in
         record {
           left = it.left;

@@ -102,10 +102,10 @@ grants_silent p h [] s t u ms b g = g.0
 grants_silent p h (c ∷ cs) s t u ms b g =
     let x = taken_noted g.0 (λ (x : Pledge). ask (Grants s x t u) (λ ok. cond ok (done true) (one_grants h cs s t u))) ms b g.2 in
     at x.then.0 x.then.2 (grants_silent p h cs s t u ms b) where
-  at : (ok : Bool) → Notes p (cond ok (done true) (one_grants h cs s t u)) ms b
-      → (Notes p (one_grants h cs s t u) ms b → ms ≡ []) → ms ≡ []
-  at true g f = g.0
-  at false g f = f g
+      at : (ok : Bool) → Notes p (cond ok (done true) (one_grants h cs s t u)) ms b
+          → (Notes p (one_grants h cs s t u) ms b → ms ≡ []) → ms ≡ []
+      at true g f = g.0
+      at false g f = f g
 
 -- the masks of two ends
 joined_type_silent : (p : Program) (t u v : Ty) (ms : List Mark) → Notes p (joined_type t u) ms v → ms ≡ []

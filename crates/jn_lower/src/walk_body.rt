@@ -12,12 +12,12 @@ ghost use Rattle.jn_lower.specs.Walks.{IsAbove, DeclaresEach, Begun, CodeMade, F
 use crate::cursor::Marks;
 use crate::emitter::Emitter;
 use crate::ending::code_of;
+use crate::kinds::{is_reference, written_kind};
 use crate::params::testing;
 use crate::path_behind::{next_number, path_behind};
 use crate::straight::last_return;
 use crate::walk::{Parts, Walk};
 use crate::walk_stmts::stmts;
-use crate::kinds::{is_reference, written_kind};
 use jn_agree::selectors::Selectors;
 use jn_base::names::Resolved;
 use jn_base::tree::{Method, Param, Program, Stmt, TypeTerm};

@@ -5,7 +5,7 @@ ghost use Rattle.jn_lower.specs.declared.walk.Parts.{Parts as AParts};
 ghost use Rattle.jn_lower.specs.Walks.{LowersValue, LowersNode, LowersLinks, LowersLink, Operated, Decided};
 
 use crate::leaves::{null, this, truth, variable};
-use crate::straight::{deciding, deciding_of, decided_by, operator};
+use crate::straight::{decided_by, deciding, deciding_of, operator};
 use crate::walk::{Parts, Walk, had, push, set};
 use jn_base::tree::{Expr, Link, Node, Op};
 use jn_code::Instr;

@@ -6,9 +6,9 @@ ghost use Rattle.jn_lower.specs.Stores.{stored};
 ghost use Rattle.jn_lower.specs.Walks.{BindsWritten, LowersStmt};
 
 use crate::emitter::Emitter;
+use crate::kinds::{is_reference, written_kind, written_terms};
 use crate::walk::{Parts, Walk, push};
 use crate::walk_exprs::value;
-use crate::kinds::{is_reference, written_kind, written_terms};
 use jn_base::tree::{Expr, TypeTerm};
 use jn_code::Instr;
 use std::alloc::AllocError;
