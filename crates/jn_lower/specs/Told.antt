@@ -1,12 +1,23 @@
 -- What is told of a member of the program, and by what selector it is named.
-use Rattle.std.specs.Prelude.{◌≡◌, ℕ, List, Contains, map, Option, Some, None, slice_get}
+use Rattle.std.specs.Prelude.{◌≡◌, ℕ, List, Contains, map, Option, Some, None, Bool, slice_get, cond}
 use Rattle.jn_base.specs.declared.tree.Name.{Name}
 use Rattle.jn_base.specs.declared.tree.Field.{Field}
 use Rattle.jn_base.specs.declared.tree.Method.{Method}
+use Rattle.jn_base.specs.declared.tree.Program.{Program}
+use Rattle.jn_base.specs.declared.types.Ty.{Ty}
+use Rattle.jn_base.specs.Paths.{Path}
+use Rattle.jn_table.specs.declared.class.ClassId.{ClassId}
+use Rattle.jn_table.specs.declared.table.Table.{Table}
+use Rattle.jn_table.specs.Tables.{StandsFor}
+use Rattle.jn_sem.specs.Sharing.{IsClass}
+use Rattle.jn_sem.specs.Slots.{FieldType}
+use Rattle.jn_sem.specs.LawsOfFinding.{FoundOnceIn}
+use Rattle.jn_agree.specs.Rows.{FieldKind, kind_of_type}
 use Rattle.jn_agree.specs.declared.selectors.MethodSel.{MethodSel}
+use Rattle.jn_agree.specs.declared.selectors.FieldSel.{FieldSel}
 use Rattle.jn_lower.specs.declared.members.Callee.{Callee}
-use Rattle.jn_lower.specs.Selecting.{method_sel}
-use Rattle.jn_lower.specs.Written.{written_result, param_kind}
+use Rattle.jn_lower.specs.Selecting.{method_sel, field_sel}
+use Rattle.jn_lower.specs.Written.{written_kind, written_result, param_kind}
 
 -- a thing that is so, none where there is none
 abbrev pub Tells : {A : Type 0} → (A → Type 0) → Option A → Type 0
@@ -25,5 +36,10 @@ pub record IsCallee (names : List MethodSel) (f : Name) (m : Method) (x : Callee
   pub at : slice_get names x.selector ≡ Some (method_sel f x.params.items x.kind)
   pub params : x.params.items ≡ map param_kind m.params
   pub result : x.kind ≡ written_result m.result
+
+-- and it gives nothing
+pub record MakesBy (names : List MethodSel) (C : Name) (m : Method) (x : Callee) : Type 0 where
+  pub callee : IsCallee names C m x
+  pub nothing : x.kind ≡ 0
 
 -- Example: the selector of `int m(A a, boolean b)` has the kinds 3 and 2, and the result 1.

@@ -1,16 +1,24 @@
-ghost use Rattle.std.specs.Prelude.{◌≡◌, [], ◌∷◌, map, reverse, IfOk, option_copied};
+ghost use Rattle.std.specs.Prelude.{◌≡◌, ◌↔◌, ◌++◌, [], ◌∷◌, map, reverse, IsTrue, IfOk, option_copied};
+ghost use Rattle.jn_base.specs.declared.tree.Name.{Name as AName};
+ghost use Rattle.jn_base.specs.declared.tree.Program.{Program as AProgram};
 ghost use Rattle.jn_base.specs.declared.tree.Method.{Method as AMethod};
 ghost use Rattle.jn_base.specs.Duplicates.{duplicates};
 ghost use Rattle.jn_base.specs.Members.{MethodAt, FieldAt};
-ghost use Rattle.jn_base.specs.Paths.{methods, fields};
+ghost use Rattle.jn_base.specs.Atoms.{atom_of};
+ghost use Rattle.jn_base.specs.Paths.{Path as APath, methods, fields};
+ghost use Rattle.jn_table.specs.Rows.{HasMethod};
+ghost use Rattle.jn_table.specs.Tables.{IsFilled, IsFilledAt, StandsFor};
 ghost use Rattle.jn_lower.specs.Written.{written_kind, written_result, param_kind};
-ghost use Rattle.jn_lower.specs.Told.{Tells, IsMethodNamed, IsFieldNamed, IsCallee};
+ghost use Rattle.jn_lower.specs.Told.{Tells, IsMethodNamed, IsFieldNamed, IsCallee, MakesBy};
 
-use crate::selecting::method_number;
+use crate::selecting::{method_number, name_of};
 use jn_agree::selectors::MethodSel;
+use jn_base::compare::has_name;
 use jn_base::path::Path;
 use jn_base::tree::{Field, Member, Method, Name, Param, Program, TypeTerm};
+use jn_base::types::Atom;
 use jn_homes::decl_at;
+use jn_table::{ClassId, Table};
 use std::alloc::{AllocError, Global};
 
 /// By what a method is called: the number of its selector, the kinds of its parameters, and that of its result.
@@ -153,5 +161,43 @@ pub fn callee_at(
     match method_at(p, path, f) {
         None => Err(AllocError),
         Some(m) => callee_of(alloc, names, f, m),
+    }
+}
+
+/// Whether a class has a method of that name: some declaration at one of its supers has one.
+pub fn has_method(t: &Table, id: ClassId, m: Name) -> bool
+    requires { IsFilledAt t.now id }
+    ensures { (p : AProgram) (R : APath) → IsFilled p t.now → StandsFor t.now id R → IsTrue result ↔ HasMethod p R m }
+{
+    has_name(&t.row(id).methods, m)
+}
+
+/// What is called, where it gives nothing. A constructor that gives something, which no checked program has, is refused
+/// for want of memory.
+fn without_result(x: Callee) -> Result<Callee, AllocError>
+    ensures { IfOk result (λ y. (y ≡ x) × (y.kind ≡ 0)) }
+{
+    if x.kind == 0 { Ok(x) } else { Err(AllocError) }
+}
+
+/// By what the constructor of the atom's class is called, which the class at the path declares.
+pub fn constructor_at(
+    alloc: Global,
+    p: &Program,
+    names: &[MethodSel],
+    x: &Atom,
+    path: &Path,
+) -> Result<Callee, AllocError>
+    requires { duplicates p.now ≡ [] }
+    ensures { IfOk result (λ c. (C : AName) (P : APath) (m : AMethod)
+        → (atom_of x.now).names ++ (atom_of x.now).exact ≡ C ∷ P → MethodAt p.now (reverse path.now.names) C m
+        → MakesBy names.now C m c) }
+{
+    match name_of(x) {
+        None => Err(AllocError),
+        Some(name) => {
+            let found = callee_at(alloc, p, names, path, name)?;
+            without_result(found)
+        }
     }
 }
