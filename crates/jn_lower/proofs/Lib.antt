@@ -10,3 +10,5 @@ pub mod Finishing
 pub mod CtorCodes
 pub mod ClassCodes
 pub mod Named
+pub mod FieldKinds
+pub mod Bounding

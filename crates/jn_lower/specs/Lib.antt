@@ -13,3 +13,4 @@ pub mod Whole
 pub mod Classes
 pub mod Written
 pub mod Told
+pub mod Bounds

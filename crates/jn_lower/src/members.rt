@@ -1,7 +1,8 @@
-ghost use Rattle.std.specs.Prelude.{◌≡◌, ◌↔◌, ◌++◌, [], ◌∷◌, map, reverse, IsTrue, IfOk, option_copied};
+ghost use Rattle.std.specs.Prelude.{◌≡◌, ◌↔◌, ◌++◌, [], ◌∷◌, map, reverse, cond, IsTrue, IfOk, option_copied};
 ghost use Rattle.jn_base.specs.declared.tree.Name.{Name as AName};
 ghost use Rattle.jn_base.specs.declared.tree.Program.{Program as AProgram};
 ghost use Rattle.jn_base.specs.declared.tree.Method.{Method as AMethod};
+ghost use Rattle.jn_base.specs.declared.tree.Field.{Field as AField};
 ghost use Rattle.jn_base.specs.Duplicates.{duplicates};
 ghost use Rattle.jn_base.specs.Members.{MethodAt, FieldAt};
 ghost use Rattle.jn_base.specs.Atoms.{atom_of};
@@ -9,15 +10,16 @@ ghost use Rattle.jn_base.specs.Paths.{Path as APath, methods, fields};
 ghost use Rattle.jn_table.specs.Rows.{HasMethod};
 ghost use Rattle.jn_table.specs.Tables.{IsFilled, IsFilledAt, StandsFor};
 ghost use Rattle.jn_lower.specs.Written.{written_kind, written_result, param_kind};
-ghost use Rattle.jn_lower.specs.Told.{Tells, IsMethodNamed, IsFieldNamed, IsCallee, MakesBy};
+ghost use Rattle.jn_lower.specs.Told.{Tells, IsMethodNamed, IsFieldNamed, IsCallee, MakesBy, OwnKind, IsGetter};
 
-use crate::selecting::{method_number, name_of};
-use jn_agree::selectors::MethodSel;
+use crate::selecting::{field_number, method_number, name_of};
+use jn_agree::selectors::{FieldSel, MethodSel};
 use jn_base::compare::has_name;
 use jn_base::path::Path;
 use jn_base::tree::{Field, Member, Method, Name, Param, Program, TypeTerm};
 use jn_base::types::Atom;
 use jn_homes::decl_at;
+use jn_share::Slots;
 use jn_table::{ClassId, Table};
 use std::alloc::{AllocError, Global};
 
@@ -26,6 +28,13 @@ use std::alloc::{AllocError, Global};
 pub struct Callee {
     pub selector: u32,
     pub params: Vec<u8>,
+    pub kind: u8,
+}
+
+/// By what a field is read and written: the number of its selector, and its kind.
+#[derive(Clone, Copy)]
+pub struct Getter {
+    pub selector: u32,
     pub kind: u8,
 }
 
@@ -199,5 +208,62 @@ pub fn constructor_at(
             let found = callee_at(alloc, p, names, path, name)?;
             without_result(found)
         }
+    }
+}
+
+/// The kind of a field: 4 where its type hangs on `this`.
+fn own_kind(hangs: bool, kind: u8) -> u8
+    ensures { result ≡ cond hangs 4 kind }
+{
+    if hangs { 4 } else { kind }
+}
+
+/// The kind of the field that the class at the path declares. A path that isn't in the table, at which no class of the
+/// program is, is refused for want of memory.
+fn kind_at(t: &Table, s: &Slots, path: &Path, f: Name, field: &Field) -> Result<u8, AllocError>
+    ensures { IfOk result (OwnKind t.now s.now (reverse path.now.names) f field.now) }
+{
+    match t.find(path) {
+        None => Err(AllocError),
+        Some(id) => Ok(own_kind(s.hangs(id, f), kind_of(&field.ty))),
+    }
+}
+
+/// By what the field is read and written. A field without a selector, which none of a program with its own selectors is,
+/// is refused for want of memory.
+fn getter_of(
+    t: &Table,
+    s: &Slots,
+    names: &[FieldSel],
+    path: &Path,
+    f: Name,
+    field: &Field,
+) -> Result<Getter, AllocError>
+    ensures { IfOk result (IsGetter t.now s.now names.now (reverse path.now.names) f field.now) }
+{
+    let kind = kind_at(t, s, path, f, field)?;
+    match field_number(names, f, kind)? {
+        None => Err(AllocError),
+        Some(selector) => Ok(Getter { selector, kind }),
+    }
+}
+
+/// By what the field of this name at the path is read and written. A path without one, which no checked body uses, is
+/// refused for want of memory.
+pub fn getter_at(
+    p: &Program,
+    t: &Table,
+    s: &Slots,
+    names: &[FieldSel],
+    path: &Path,
+    f: Name,
+) -> Result<Getter, AllocError>
+    requires { duplicates p.now ≡ [] }
+    ensures { IfOk result (λ x. (field : AField) → FieldAt p.now (reverse path.now.names) f field
+        → IsGetter t.now s.now names.now (reverse path.now.names) f field x) }
+{
+    match field_at(p, path, f) {
+        None => Err(AllocError),
+        Some(field) => getter_of(t, s, names, path, f, field),
     }
 }
