@@ -1,11 +1,11 @@
 -- The codes of constructors, from the numbers of selectors.
-use Rattle.std.proofs.Common.{◌≡◌, ◌<◌, ◌-◌, ◌++◌, ℕ, reverse, get_or, slice_index_or, List, [], ◌∷◌, length, refl, sym, ap, ◌∙◌, subst, arith}
-use Rattle.std.specs.Prelude.{Option, Some, None}
+use Rattle.std.proofs.Common.{◌≡◌, ◌<◌, ◌-◌, ℕ, reverse, get_or, slice_index_or, List, [], ◌∷◌, length, refl, sym, ap, ◌∙◌, subst, arith}
+use Rattle.std.specs.Prelude.{Some, None}
 use Rattle.std.proofs.lemmas.List.{get_or-reverse, length-reverse}
 use Rattle.jn_base.specs.declared.tree.Name.{Name}
 use Rattle.jn_code.specs.declared.image.Shape.{Shape}
-use Rattle.jn_agree.specs.Places.{MethodOf, CtorCode, ctor, bare}
-use Rattle.jn_lower.specs.Selecting.{shape_of, made_by, HeadIs, IsCtorOf, CtorsFound}
+use Rattle.jn_agree.specs.Places.{MethodOf, ctor, bare}
+use Rattle.jn_lower.specs.Selecting.{shape_of, HeadIs, CtorsFound}
 
 no_items : (xs : List ℕ) → length xs ≡ 0 → xs ≡ []
 no_items [] e = refl

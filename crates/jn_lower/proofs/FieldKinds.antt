@@ -1,18 +1,17 @@
 -- The kind of a field, by what its slots tell.
-use Rattle.std.proofs.Common.{◌≡◌, ℕ, Bool, true, false, refl, sym, subst, ◌∙◌}
-use Rattle.std.specs.Prelude.{cond, IsTrue, ◌↔◌}
+use Rattle.std.proofs.Common.{◌≡◌, Bool, true, false, refl, sym, subst, ◌∙◌}
+use Rattle.std.specs.Prelude.{cond}
 use Rattle.jn_base.specs.declared.tree.Name.{Name}
 use Rattle.jn_base.specs.declared.tree.Program.{Program}
 use Rattle.jn_base.specs.declared.types.Ty.{Ty}
 use Rattle.jn_base.specs.Paths.{Path}
 use Rattle.jn_base.specs.Supers.{itself}
 use Rattle.jn_base.proofs.SuperLaws.{sup_joined}
-use Rattle.jn_base.specs.Members.{FieldDecls, IsField}
 use Rattle.jn_sem.specs.Sharing.{HangsOnThis}
 use Rattle.jn_sem.specs.Slots.{FieldType, FieldHangs}
-use Rattle.jn_agree.specs.Rows.{FieldKind, plain, hanging, kind_of_type}
+use Rattle.jn_agree.specs.Rows.{FieldKind, plain, hanging}
 use Rattle.jn_lower.specs.Written.{written_kind}
-use Rattle.jn_lower.specs.Told.{OwnKind, KindsOfFields}
+use Rattle.jn_lower.specs.Told.{KindsOfFields}
 
 -- a field has its type at the class that declares it too
 pub where_declared : (p : Program) (V : Path) (f : Name) (u : Ty) → (h : FieldType p V f u) → FieldType p h.class f u
