@@ -1,17 +1,16 @@
 -- Calls, fields behind a receiver and new objects, from what is emitted one behind another.
-use Rattle.std.proofs.Common.{◌≡◌, ◌++◌, ◌≤◌, ℕ, ◌+◌, List, [], ◌∷◌, Bool, true, refl, sym, ap, ◌∙◌, subst, arith}
-use Rattle.std.specs.Prelude.{Some, None, Ok, slice_get}
+use Rattle.std.proofs.Common.{◌≡◌, ◌++◌, ◌≤◌, ℕ, List, [], ◌∷◌, true, sym, ap, ◌∙◌, subst, arith}
+use Rattle.std.specs.Prelude.{Some, None, slice_get}
 use Rattle.jn_base.specs.declared.tree.Node.TheVariants as node
 use Rattle.jn_base.specs.declared.tree.Suffix.{out-Suffix}
 use Rattle.jn_base.specs.Parts.{expr}
 use Rattle.jn_code.specs.declared.instr.Instr.TheVariants as ins
 use Rattle.jn_code.specs.declared.image.Code.{Code}
-use Rattle.jn_agree.specs.Places.{Run, HasKind, dropping, tuck}
+use Rattle.jn_agree.specs.Places.{HasKind, dropping, tuck}
 use Rattle.jn_places.specs.ExprPlaces.{at_new, at_super, at_bare_super, at_post, no_args, one_arg, no_parts, last_part, one_part, at_field, at_call}
-use Rattle.jn_lower.specs.declared.emitter.Locals.{Locals}
 use Rattle.jn_lower.specs.declared.emitter.Emitter.{Emitter}
 use Rattle.jn_lower.specs.Placed.{Nothing, Are, Behind}
-use Rattle.jn_lower.specs.Emitted.{Fits, Keeps, Emitted, Adds, Places, had, next, IsSpare}
+use Rattle.jn_lower.specs.Emitted.{Fits, Keeps, Emitted, Places, had, next, IsSpare}
 use Rattle.jn_lower.specs.Forms.{Value}
 use Rattle.jn_lower.specs.Called.{Args, ArgsBehind, NoArgsStand, OneArgStands, Parts, Part, PartsBehind, PartsBehindPart, PostStands, NoPartsStand, LastPartStands, OnePartStands, FieldStands, CallArgs, CallStands, NewArgs, NewStands, Tucks, SuperArgs, SuperStands, BareSuperStands}
 use Rattle.jn_lower.proofs.Seams as seams

@@ -8,13 +8,12 @@ use Rattle.jn_base.specs.declared.types.Atom.{Atom as ShownAtom}
 use Rattle.jn_base.specs.declared.types.Anchor.TheVariants.{Root, Up}
 use Rattle.jn_base.specs.declared.path.Path.{Path as ShownPath}
 use Rattle.jn_base.specs.Atoms.{atom_of}
-use Rattle.jn_base.specs.Paths.{Path, shown}
+use Rattle.jn_base.specs.Paths.{shown}
 use Rattle.jn_table.specs.declared.table.Table.{Table}
 use Rattle.jn_table.proofs.Shown.{at_shown}
-use Rattle.jn_code.specs.declared.instr.Instr.{Instr}
 use Rattle.jn_code.specs.declared.instr.Instr.TheVariants as ins
 use Rattle.jn_agree.specs.Naming.{Naming}
-use Rattle.jn_agree.specs.Places.{up_by, downs, ClassCode, fixed, seen}
+use Rattle.jn_agree.specs.Places.{up_by, downs, fixed, seen}
 use Rattle.jn_lower.specs.declared.emitter.Emitter.{Emitter}
 use Rattle.jn_lower.specs.Emitted.{Adds}
 use Rattle.jn_lower.specs.Classes.{down_each, seen_by, AreClassesOf, AddsClass}

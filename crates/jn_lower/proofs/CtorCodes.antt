@@ -1,11 +1,11 @@
 -- The codes of constructors, from the numbers of selectors.
-use Rattle.std.proofs.Common.{◌≡◌, ◌<◌, ◌-◌, ◌++◌, ℕ, reverse, get_or, slice_index_or, List, [], ◌∷◌, length, refl, sym, ap, ◌∙◌, subst, arith}
-use Rattle.std.specs.Prelude.{Option, Some, None}
+use Rattle.std.proofs.Common.{◌≡◌, ◌<◌, ◌-◌, ℕ, reverse, get_or, slice_index_or, List, [], ◌∷◌, length, refl, sym, ap, ◌∙◌, subst, arith}
+use Rattle.std.specs.Prelude.{Some, None}
 use Rattle.std.proofs.lemmas.List.{get_or-reverse, length-reverse}
 use Rattle.jn_base.specs.declared.tree.Name.{Name}
 use Rattle.jn_code.specs.declared.image.Shape.{Shape}
-use Rattle.jn_agree.specs.Places.{MethodOf, CtorCode, ctor, bare}
-use Rattle.jn_lower.specs.Selecting.{shape_of, made_by, IsCtorOf, CtorsFound}
+use Rattle.jn_agree.specs.Places.{MethodOf, ctor, bare}
+use Rattle.jn_lower.specs.Selecting.{shape_of, HeadIs, CtorsFound}
 
 no_items : (xs : List ℕ) → length xs ≡ 0 → xs ≡ []
 no_items [] e = refl
@@ -37,3 +37,10 @@ last_head xs d lt =
     let h = head_of (reverse xs) d long in
     let same : length xs - 1 - 0 ≡ length xs - 1 = omega arith in
     (h.0, h.1 ∙ ap (λ y. y ∷ h.0) (get_or-reverse xs 0 d lt ∙ ap (λ k. get_or xs k d) same))
+
+-- two that are said to be the first are one
+pub same_head : (xs : List Name) (a b : Name) (ys : List Name) → HeadIs xs (Some a) → xs ≡ b ∷ ys → a ≡ b
+same_head xs a b ys h e = first_one a b h.0 ys (sym h.1 ∙ e)
+  where
+    first_one : (a b : Name) (xs ys : List Name) → ◌≡◌ {A = List Name} (a ∷ xs) (b ∷ ys) → a ≡ b
+    first_one a b xs ys e = ap (λ (zs : List Name). get_or zs 0 a) e

@@ -1,13 +1,11 @@
 -- The code of a whole body, from what is emitted one behind another.
-use Rattle.std.proofs.Common.{◌≡◌, ◌++◌, ℕ, zero, suc, ◌+◌, List, [], ◌∷◌, length, refl, sym, ap, ◌∙◌, subst, arith}
+use Rattle.std.proofs.Common.{◌≡◌, ◌++◌, ℕ, zero, suc, ◌+◌, List, [], ◌∷◌, length, refl, sym, ap, subst, arith}
 use Rattle.std.specs.Prelude.{Some, slice_get}
 use Rattle.jn_sem.specs.Acts.{path_behind}
 use Rattle.jn_code.specs.declared.image.Code.{Code}
 use Rattle.jn_rules.specs.Stmts.{body_in, at_start}
 use Rattle.jn_agree.specs.Places.{tests, last_return, Run}
-use Rattle.jn_places.specs.StmtPlaces.{StmtsAt, TypedBodyAt}
-use Rattle.jn_lower.specs.Placed.{Same, Are, Behind}
-use Rattle.jn_lower.specs.Emitted.{Fits, Emitted}
+use Rattle.jn_lower.specs.Placed.{Are, Behind}
 use Rattle.jn_lower.specs.Composed.{Stmts}
 use Rattle.jn_lower.specs.Whole.{LocalsFit, BodyStands}
 use Rattle.jn_lower.proofs.Growing.{behind, added}

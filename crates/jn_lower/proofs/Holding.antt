@@ -1,6 +1,6 @@
 -- Declarations of locals and assignments, from what is emitted one behind another.
-use Rattle.std.proofs.Common.{◌≡◌, ◌≢◌, ◌++◌, ◌<◌, ℕ, zero, suc, ◌+◌, List, [], ◌∷◌, length, Bool, true, false, refl, sym, ap, ◌∙◌, subst, arith}
-use Rattle.std.specs.Prelude.{Some, Ok, slice_get}
+use Rattle.std.proofs.Common.{◌≡◌, ◌++◌, ℕ, zero, suc, List, [], ◌∷◌, length, Bool, true, false, refl, sym, ap, ◌∙◌, subst}
+use Rattle.std.specs.Prelude.{Some, slice_get}
 use Rattle.jn_base.specs.declared.tree.Stmt.TheVariants as stmt
 use Rattle.jn_base.specs.declared.tree.Program.{Program}
 use Rattle.jn_base.specs.declared.types.Ty.{Ty}
@@ -17,12 +17,12 @@ use Rattle.jn_places.specs.StmtPlaces.{local_at, assign_at, set_at}
 use Rattle.jn_lower.specs.declared.emitter.Locals.{Locals}
 use Rattle.jn_lower.specs.declared.emitter.Emitter.{Emitter}
 use Rattle.jn_lower.specs.Placed.{Are, Behind}
-use Rattle.jn_lower.specs.Emitted.{Fits, Keeps, Emitted, Adds, had, next, HasPlace}
+use Rattle.jn_lower.specs.Emitted.{Fits, Keeps, Emitted, had, next, HasPlace}
 use Rattle.jn_lower.specs.Forms.{Value}
 use Rattle.jn_lower.specs.Composed.{Stmts, StmtsBehind}
 use Rattle.jn_lower.specs.Stores.{stored, Binds, LocalStands, AssignStands, ValueBehind, SetStands}
 use Rattle.jn_lower.proofs.Seams as seams
-use Rattle.jn_lower.proofs.Growing.{means, means_where, behind, added, emitted, earlier}
+use Rattle.jn_lower.proofs.Growing.{means, means_where, behind, added, emitted}
 
 -- ---- lists of kinds
 

@@ -20,6 +20,9 @@ pub mod Written
 pub mod Heads
 pub mod Declaring
 pub mod Bodies
+pub mod Views
 pub mod NextLocals
 pub mod Posts
 pub mod Passing
+pub mod FieldKinds
+pub mod Bounding

@@ -1,5 +1,5 @@
 -- Forms of one instruction.
-use Rattle.std.proofs.Common.{ℕ, List, [], ◌∷◌, true, sym, subst}
+use Rattle.std.proofs.Common.{ℕ, [], ◌∷◌, true, sym, subst}
 use Rattle.jn_base.specs.declared.tree.Node.TheVariants as node
 use Rattle.jn_base.specs.Parts.{expr}
 use Rattle.jn_code.specs.declared.instr.Instr.TheVariants as ins

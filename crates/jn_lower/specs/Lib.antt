@@ -16,3 +16,4 @@ pub mod Told
 pub mod Cursors
 pub mod Lowering
 pub mod Walks
+pub mod Bounds

@@ -1,5 +1,5 @@
 -- Which number the selector of a method or a field has.
-use Rattle.std.specs.Prelude.{◌≡◌, ◌<◌, ◌++◌, ℕ, List, [], ◌∷◌, length, Option, Some, None, slice_get}
+use Rattle.std.specs.Prelude.{◌≡◌, ◌++◌, ℕ, List, [], ◌∷◌, length, Option, Some, None, slice_get}
 use Rattle.jn_base.specs.declared.tree.Name.{Name}
 use Rattle.jn_base.specs.Atoms.{Atom}
 use Rattle.jn_base.specs.Paths.{Path}
@@ -9,7 +9,7 @@ use Rattle.jn_code.specs.declared.image.Shape.{Shape}
 use Rattle.jn_agree.specs.declared.selectors.MethodSel.{MethodSel}
 use Rattle.jn_agree.specs.declared.selectors.FieldSel.{FieldSel}
 use Rattle.jn_agree.specs.Naming.{Naming}
-use Rattle.jn_agree.specs.Places.{MethodOf, FieldOf, CtorCode}
+use Rattle.jn_agree.specs.Places.{MethodOf, CtorCode}
 
 abbrev pub shape_of : List ℕ → ℕ → Shape
 shape_of params result = record { params = params; result = result }

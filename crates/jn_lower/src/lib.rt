@@ -4,6 +4,7 @@
 //! once their target is known.
 #![tactic(auto)]
 
+pub mod bounds;
 pub mod calls;
 pub mod classes;
 pub mod cursor;

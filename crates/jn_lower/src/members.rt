@@ -1,16 +1,26 @@
-ghost use Rattle.std.specs.Prelude.{◌≡◌, [], ◌∷◌, map, reverse, IfOk, option_copied};
+ghost use Rattle.std.specs.Prelude.{◌≡◌, ◌↔◌, ◌++◌, [], ◌∷◌, map, reverse, cond, IsTrue, IfOk, option_copied};
+ghost use Rattle.jn_base.specs.declared.tree.Name.{Name as AName};
+ghost use Rattle.jn_base.specs.declared.tree.Program.{Program as AProgram};
 ghost use Rattle.jn_base.specs.declared.tree.Method.{Method as AMethod};
+ghost use Rattle.jn_base.specs.declared.tree.Field.{Field as AField};
 ghost use Rattle.jn_base.specs.Duplicates.{duplicates};
 ghost use Rattle.jn_base.specs.Members.{MethodAt, FieldAt};
-ghost use Rattle.jn_base.specs.Paths.{methods, fields};
+ghost use Rattle.jn_base.specs.Atoms.{atom_of};
+ghost use Rattle.jn_base.specs.Paths.{Path as APath, methods, fields};
+ghost use Rattle.jn_table.specs.Rows.{HasMethod};
+ghost use Rattle.jn_table.specs.Tables.{IsFilled, IsFilledAt, StandsFor};
 ghost use Rattle.jn_lower.specs.Written.{written_kind, written_result, param_kind};
-ghost use Rattle.jn_lower.specs.Told.{Tells, IsMethodNamed, IsFieldNamed, IsCallee};
+ghost use Rattle.jn_lower.specs.Told.{Tells, IsMethodNamed, IsFieldNamed, IsCallee, MakesBy, OwnKind, IsGetter};
 
-use crate::selecting::method_number;
-use jn_agree::selectors::MethodSel;
+use crate::selecting::{field_number, method_number, name_of};
+use jn_agree::selectors::{FieldSel, MethodSel};
+use jn_base::compare::has_name;
 use jn_base::path::Path;
 use jn_base::tree::{Field, Member, Method, Name, Param, Program, TypeTerm};
+use jn_base::types::Atom;
 use jn_homes::decl_at;
+use jn_share::Slots;
+use jn_table::{ClassId, Table};
 use std::alloc::{AllocError, Global};
 
 /// By what a method is called: the number of its selector, the kinds of its parameters, and that of its result.
@@ -18,6 +28,13 @@ use std::alloc::{AllocError, Global};
 pub struct Callee {
     pub selector: u32,
     pub params: Vec<u8>,
+    pub kind: u8,
+}
+
+/// By what a field is read and written: the number of its selector, and its kind.
+#[derive(Clone, Copy)]
+pub struct Getter {
+    pub selector: u32,
     pub kind: u8,
 }
 
@@ -153,5 +170,100 @@ pub fn callee_at(
     match method_at(p, path, f) {
         None => Err(AllocError),
         Some(m) => callee_of(alloc, names, f, m),
+    }
+}
+
+/// Whether a class has a method of that name: some declaration at one of its supers has one.
+pub fn has_method(t: &Table, id: ClassId, m: Name) -> bool
+    requires { IsFilledAt t.now id }
+    ensures { (p : AProgram) (R : APath) → IsFilled p t.now → StandsFor t.now id R → IsTrue result ↔ HasMethod p R m }
+{
+    has_name(&t.row(id).methods, m)
+}
+
+/// What is called, where it gives nothing. A constructor that gives something, which no checked program has, is refused
+/// for want of memory.
+fn without_result(x: Callee) -> Result<Callee, AllocError>
+    ensures { IfOk result (λ y. (y ≡ x) × (y.kind ≡ 0)) }
+{
+    if x.kind == 0 { Ok(x) } else { Err(AllocError) }
+}
+
+/// By what the constructor of the atom's class is called, which the class at the path declares.
+pub fn constructor_at(
+    alloc: Global,
+    p: &Program,
+    names: &[MethodSel],
+    x: &Atom,
+    path: &Path,
+) -> Result<Callee, AllocError>
+    requires { duplicates p.now ≡ [] }
+    ensures { IfOk result (λ c. (C : AName) (P : APath) (m : AMethod)
+        → (atom_of x.now).names ++ (atom_of x.now).exact ≡ C ∷ P → MethodAt p.now (reverse path.now.names) C m
+        → MakesBy names.now C m c) }
+{
+    match name_of(x) {
+        None => Err(AllocError),
+        Some(name) => {
+            let found = callee_at(alloc, p, names, path, name)?;
+            without_result(found)
+        }
+    }
+}
+
+/// The kind of a field: 4 where its type hangs on `this`.
+fn own_kind(hangs: bool, kind: u8) -> u8
+    ensures { result ≡ cond hangs 4 kind }
+{
+    if hangs { 4 } else { kind }
+}
+
+/// The kind of the field that the class at the path declares. A path that isn't in the table, at which no class of the
+/// program is, is refused for want of memory.
+fn kind_at(t: &Table, s: &Slots, path: &Path, f: Name, field: &Field) -> Result<u8, AllocError>
+    ensures { IfOk result (OwnKind t.now s.now (reverse path.now.names) f field.now) }
+{
+    match t.find(path) {
+        None => Err(AllocError),
+        Some(id) => Ok(own_kind(s.hangs(id, f), kind_of(&field.ty))),
+    }
+}
+
+/// By what the field is read and written. A field without a selector, which none of a program with its own selectors is,
+/// is refused for want of memory.
+fn getter_of(
+    t: &Table,
+    s: &Slots,
+    names: &[FieldSel],
+    path: &Path,
+    f: Name,
+    field: &Field,
+) -> Result<Getter, AllocError>
+    ensures { IfOk result (IsGetter t.now s.now names.now (reverse path.now.names) f field.now) }
+{
+    let kind = kind_at(t, s, path, f, field)?;
+    match field_number(names, f, kind)? {
+        None => Err(AllocError),
+        Some(selector) => Ok(Getter { selector, kind }),
+    }
+}
+
+/// By what the field of this name at the path is read and written. A path without one, which no checked body uses, is
+/// refused for want of memory.
+pub fn getter_at(
+    p: &Program,
+    t: &Table,
+    s: &Slots,
+    names: &[FieldSel],
+    path: &Path,
+    f: Name,
+) -> Result<Getter, AllocError>
+    requires { duplicates p.now ≡ [] }
+    ensures { IfOk result (λ x. (field : AField) → FieldAt p.now (reverse path.now.names) f field
+        → IsGetter t.now s.now names.now (reverse path.now.names) f field x) }
+{
+    match field_at(p, path, f) {
+        None => Err(AllocError),
+        Some(field) => getter_of(t, s, names, path, f, field),
     }
 }

@@ -2,12 +2,14 @@ ghost use Rattle.std.specs.Prelude.{OnOk};
 ghost use Rattle.jn_base.specs.declared.tree.Name.{Name as AName};
 ghost use Rattle.jn_base.specs.declared.tree.Node.TheVariants as node;
 ghost use Rattle.jn_lower.specs.declared.walk.Parts.{Parts as AParts};
-ghost use Rattle.jn_lower.specs.Walks.{LowersValue, LowersNode, LowersLinks, LowersLink, Operated, Decided};
+ghost use Rattle.jn_lower.specs.Walks.{LowersValue, LowersNode, LowersLinks, LowersLink, Operated, Decided, ViewedAs};
 
+use crate::classes::class_of;
 use crate::leaves::{null, this, truth, variable};
 use crate::straight::{decided_by, deciding, deciding_of, operator};
 use crate::walk::{Parts, Walk, had, push, set};
 use jn_base::tree::{Expr, Link, Node, Op};
+use jn_base::types::Atom;
 use jn_code::Instr;
 use std::alloc::AllocError;
 
@@ -73,6 +75,15 @@ fn decided(w: &mut Walk, and: bool, test: usize) -> Result<(), AllocError>
     had(w)
 }
 
+/// Behind the operand of a view change: the class of the atom, and CONV.
+fn viewed(g: &Parts, w: &mut Walk, x: &Atom) -> Result<(), AllocError>
+    ensures { OnOk result (ViewedAs g.now x.now w.old w.new) }
+{
+    class_of(g.alloc, &mut w.out, g.t, x)?;
+    w.out.push(Instr::Conv)?;
+    had(w)
+}
+
 /// Emits an expression, whose value is kept.
 #[cycle(exprs)]
 pub fn value(g: &Parts, w: &mut Walk, e: &Expr) -> Result<(), AllocError>
@@ -108,7 +119,13 @@ fn node(g: &Parts, w: &mut Walk, node: &Node) -> Result<(), AllocError>
         Node::New(_, _) => Err(AllocError),
         Node::Super(_, _, _) => Err(AllocError),
         Node::Post(_, _) => Err(AllocError),
-        Node::View(_, _) => Err(AllocError),
+        Node::View(_, e) => match w.marks.next_term() {
+            None => Err(AllocError),
+            Some(x) => {
+                value(g, w, e.get())?;
+                viewed(g, w, x)
+            }
+        },
     }
 }
 

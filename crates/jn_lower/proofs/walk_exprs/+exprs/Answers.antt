@@ -7,6 +7,7 @@ use Rattle.jn_lower.specs.Walks.{Decided, LowersValue, LowersNode, LowersLinks}
 use Rattle.jn_lower.proofs.Seams.{on_ok}
 use Rattle.jn_lower.proofs.LeafForms.{at_place}
 use Rattle.jn_lower.proofs.Chains.{inverted, negated, chained, strict_link, strict_of, decide_of, deciding_link}
+use Rattle.jn_lower.proofs.Views.{view_done}
 use Rattle.jn_lower.proofs.Loops.{links_on, links_over}
 use Rattle.jn_lower.proofs.walk_exprs.+exprs.Goals as goal
 
@@ -62,3 +63,11 @@ link-returns-in_ok-value-in-Some t c =
     c.value-in-Some.new.w c.decided.new.w (decide_of c.args.l.now.op c.in-Some.and (sym c.deciding_of.ensures ∙ c.in-Some.is))
     c.in_ok-push-in-Some.ensures c.in_ok-value-in-Some.ensures
     (subst (λ k. Decided c.in-Some.and k c.value-in-Some.new.w c.decided.new.w) c.len-test.ensures h)) c.decided.ensures
+
+pub node-returns-in_ok-value-in-Some : goal.node-returns-in_ok-value-in-Some
+node-returns-in_ok-value-in-Some t c =
+    on_ok c.viewed.result (λ h. subst (λ (x : Node). LowersNode c.args.g.now x c.args.w.now c.viewed.new.w) (sym c.in-View.is)
+    (view_done c.args.g.now c.in-View.field-0 c.in-View.e c.in-Some.x.now c.next_term.new.self c.args.w.now c.value-in-Some.new.w c.viewed.new.w
+    c.in-Some.ensures
+    (subst (λ (x : Expr). LowersValue c.args.g.now x (record { out = c.args.w.now.out; marks = c.next_term.new.self; last = c.args.w.now.last }) c.value-in-Some.new.w) c.get-in-Some.ensures c.in_ok-value-in-Some.ensures)
+    h)) c.viewed.ensures
