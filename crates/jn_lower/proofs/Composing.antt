@@ -13,11 +13,10 @@ use Rattle.jn_rules.specs.Stmts.{Before, here, block_typed, stmt_types}
 use Rattle.jn_agree.specs.Places.{operator, deciding, decided_by}
 use Rattle.jn_places.specs.ExprPlaces.{at_view, LinksAt, at_not, at_neg, at_chain, one_link, one_deciding}
 use Rattle.jn_places.specs.StmtPlaces.{StmtsAt, numbered_from, if_at, while_at}
-use Rattle.jn_lower.specs.Emitted.{Are, Behind, Branches, Turns}
+use Rattle.jn_lower.specs.Placed.{Are, Behind, Branches, Turns}
 use Rattle.jn_lower.specs.Forms.{Value}
 use Rattle.jn_lower.specs.Composed.{ViewStands, NotStands, NegStands, Links, LinksBehind, ChainStands, StrictStands, DecidingStands, Stmts, StmtsBehind, IfStands, WhileStands}
-use Rattle.jn_lower.proofs.Seams.{means, behind, added}
-use Rattle.jn_lower.proofs.Jumps.{branches, turns}
+use Rattle.jn_lower.proofs.Growing.{means, behind, added, branches, turns}
 
 pub not_so : NotStands
 not_so p n scratch h sc pl e c0 c1 new a add =

@@ -2,7 +2,7 @@
 use Rattle.std.proofs.Common.{◌≡◌, ◌≢◌, ℕ, ◌+◌, ◌<◌, length, Some, sym, ap, ◌∙◌, subst, arith, length-set}
 use Rattle.std.specs.Prelude.{slice_get}
 use Rattle.jn_code.specs.declared.instr.Instr.TheVariants as ins
-use Rattle.jn_lower.specs.Laws.{BranchesStand, TurnsStand}
+use Rattle.jn_lower.specs.PlacedLaws.{BranchesStand, TurnsStand}
 use Rattle.jn_lower.proofs.Seams.{last_at, set_other, set_here, grown, pushed}
 
 pub branches : BranchesStand

@@ -1,10 +1,10 @@
 -- What is emitted one behind another.
 use Rattle.std.proofs.Common.{◌≡◌, ◌≢◌, ℕ, zero, suc, ◌+◌, ◌<◌, List, [], ◌∷◌, ◌++◌, length, Some, refl, sym, ap, ◌∙◌, subst, arith, length-append}
-use Rattle.std.specs.Prelude.{slice_get, slice_set, Result, Ok, Err, OnOk}
+use Rattle.std.specs.Prelude.{slice_get, slice_set, Result, Ok, Err, OnOk, IfOk}
 use Rattle.jn_code.specs.declared.instr.Instr.{Instr}
 use Rattle.jn_agree.specs.Places.{Run}
-use Rattle.jn_lower.specs.Emitted.{Emitted, Are, Behind}
-use Rattle.jn_lower.specs.Laws.{AddedStand, NothingStands, OneBehindAnother, Means}
+use Rattle.jn_lower.specs.Placed.{Placed, Are, Behind}
+use Rattle.jn_lower.specs.PlacedLaws.{AddedStand, NothingStands, OneBehindAnother, Means}
 
 pub last_at : (old : List Instr) (i : Instr) → slice_get (old ++ i ∷ []) (length old) ≡ Some i
 last_at [] i = refl
@@ -30,7 +30,7 @@ set_here (x ∷ xs) (suc m) i lt = set_here xs m i (omega arith)
 pub grown : (old new : List Instr) (i : Instr) → new ≡ old ++ i ∷ [] → length new ≡ length old + 1
 grown old new i e = ap length e ∙ length-append old (i ∷ [])
 
-pub pushed : (old new : List Instr) (i : Instr) → new ≡ old ++ i ∷ [] → Emitted (Are (i ∷ [])) old new
+pub pushed : (old new : List Instr) (i : Instr) → new ≡ old ++ i ∷ [] → Placed (Are (i ∷ [])) old new
 pushed old new i e =
     let n = grown old new i e in
     record {
@@ -67,7 +67,7 @@ none_added [] = refl
 none_added (y ∷ old) = ap (λ zs. y ∷ zs) (none_added old)
 
 pub added : AddedStand
-added [] old new e = subst (λ n. Emitted (Are []) old n) (sym (e ∙ none_added old)) (none old)
+added [] old new e = subst (λ n. Placed (Are []) old n) (sym (e ∙ none_added old)) (none old)
 added (x ∷ xs) old new e =
     means (Behind (Are (x ∷ [])) (Are xs)) (Are (x ∷ xs)) old new (λ c s t h. (h.1.0, subst (λ m. Run c.instrs xs m t) h.1.1 h.2))
     (behind (Are (x ∷ [])) (Are xs) old (old ++ x ∷ []) new (pushed old (old ++ x ∷ []) x refl)
@@ -77,3 +77,7 @@ added (x ∷ xs) old new e =
 pub on_ok : {A E X Y : Type 0} (r : Result A E) → (X → Y) → OnOk r X → OnOk r Y
 on_ok (Ok x) f h = f h
 on_ok (Err e) f h = h
+
+pub if_ok : {A E : Type 0} (r : Result A E) (P Q : A → Type 0) → ((a : A) → P a → Q a) → IfOk r P → IfOk r Q
+if_ok (Ok x) P Q f h = f x h
+if_ok (Err e) P Q f h = h

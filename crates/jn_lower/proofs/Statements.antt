@@ -5,11 +5,11 @@ use Rattle.jn_base.specs.declared.tree.Stmt.TheVariants as stmt
 use Rattle.jn_code.specs.declared.instr.Instr.TheVariants as ins
 use Rattle.jn_rules.specs.Stmts.{here}
 use Rattle.jn_places.specs.StmtPlaces.{no_stmts, block_at, do_at, return_at, end_at, print_at, text_at}
-use Rattle.jn_lower.specs.Emitted.{Nothing, Are, Behind}
+use Rattle.jn_lower.specs.Placed.{Nothing, Are, Behind}
 use Rattle.jn_lower.specs.Forms.{Value}
 use Rattle.jn_lower.specs.Composed.{Stmts, StmtsBehind}
 use Rattle.jn_lower.specs.Plainly.{NoneStands, BlockStands, DoStands, ReturnStands, EndStands, PrintStands, TextStands}
-use Rattle.jn_lower.proofs.Seams.{none, means, behind, added}
+use Rattle.jn_lower.proofs.Growing.{none, means, behind, added}
 
 pub none_so : NoneStands
 none_so p n scratch b x c0 =

@@ -1,5 +1,5 @@
 -- How forms with parts stand, where their parts were emitted one behind another.
-use Rattle.std.specs.Prelude.{◌≡◌, ◌++◌, ℕ, List, [], ◌∷◌, length, map, Bool, true, Ok, slice_set}
+use Rattle.std.specs.Prelude.{◌≡◌, ◌++◌, ℕ, List, [], ◌∷◌, length, map, Bool, true, Ok}
 use Rattle.jn_base.specs.declared.tree.Place.{Place}
 use Rattle.jn_base.specs.declared.tree.ViewTerm.{ViewTerm}
 use Rattle.jn_base.specs.Atoms.{Atom}
@@ -27,20 +27,20 @@ use Rattle.jn_agree.specs.Rows.{kind_of_type}
 use Rattle.jn_agree.specs.Places.{operator, Strict, IsDecide, deciding, decided_by}
 use Rattle.jn_places.specs.ExprPlaces.{LinksAt}
 use Rattle.jn_places.specs.StmtPlaces.{StmtsAt, numbered_from}
-use Rattle.jn_lower.specs.Emitted.{Emitted}
+use Rattle.jn_lower.specs.declared.emitter.Emitter.{Emitter}
+use Rattle.jn_lower.specs.Emitted.{Emitted, Adds, Patched}
 use Rattle.jn_lower.specs.Forms.{Value}
-use Rattle.jn_lower.specs.Straight.{Adds}
 
 -- `!e` and `-e` are the operand, and NOT or NEG
 abbrev pub NotStands : Type 0
 NotStands =
-    (p : Program) (n : Naming) (scratch : ℕ) (h : Here) (sc : Scope) (pl : Place) (e : Expr) (c0 c1 new : List Instr)
+    (p : Program) (n : Naming) (scratch : ℕ) (h : Here) (sc : Scope) (pl : Place) (e : Expr) (c0 c1 new : Emitter)
     → Emitted (Value p n scratch h sc true e) c0 c1 → Adds (ins.Not ∷ []) c1 new
     → Emitted (Value p n scratch h sc true (expr pl (node.Not e))) c0 new
 
 abbrev pub NegStands : Type 0
 NegStands =
-    (p : Program) (n : Naming) (scratch : ℕ) (h : Here) (sc : Scope) (pl : Place) (e : Expr) (c0 c1 new : List Instr)
+    (p : Program) (n : Naming) (scratch : ℕ) (h : Here) (sc : Scope) (pl : Place) (e : Expr) (c0 c1 new : Emitter)
     → Emitted (Value p n scratch h sc true e) c0 c1 → Adds (ins.Neg ∷ []) c1 new
     → Emitted (Value p n scratch h sc true (expr pl (node.Neg e))) c0 new
 
@@ -48,7 +48,7 @@ NegStands =
 abbrev pub ViewStands : Type 0
 ViewStands =
     (p : Program) (n : Naming) (scratch : ℕ) (h : Here) (sc : Scope) (pl : Place) (v : ViewTerm) (e : Expr) (x : Atom)
-    (cls c0 c1 new : List Instr) → Emitted (Value p n scratch h sc true e) c0 c1 → ViewIs p (site_here h) v x
+    (cls : List Instr) (c0 c1 new : Emitter) → Emitted (Value p n scratch h sc true e) c0 c1 → ViewIs p (site_here h) v x
     → ClassCode n x cls → Adds (cls ++ ins.Conv ∷ []) c1 new
     → Emitted (Value p n scratch h sc true (expr pl (node.View v e))) c0 new
 
@@ -64,7 +64,7 @@ LinksBehind p n scratch h sc e ls c s t =
 abbrev pub ChainStands : Type 0
 ChainStands =
     (p : Program) (n : Naming) (scratch : ℕ) (h : Here) (sc : Scope) (pl : Place) (level : Level) (e : Expr)
-    (ls : List Link) (c0 c1 new : List Instr) → Emitted (Value p n scratch h sc true e) c0 c1
+    (ls : List Link) (c0 c1 new : Emitter) → Emitted (Value p n scratch h sc true e) c0 c1
     → Emitted (LinksBehind p n scratch h sc e ls) c1 new
     → Emitted (Value p n scratch h sc true (expr pl (node.Chain level e ls))) c0 new
 
@@ -72,7 +72,7 @@ ChainStands =
 abbrev pub StrictStands : Type 0
 StrictStands =
     (p : Program) (n : Naming) (scratch : ℕ) (h : Here) (x : Typed) (l : Link) (ls : List Link) (kind : ℕ)
-    (c0 c1 c2 new : List Instr) → Strict l.op → Emitted (Value p n scratch h x.scope true l.right) c0 c1
+    (c0 c1 c2 new : Emitter) → Strict l.op → Emitted (Value p n scratch h x.scope true l.right) c0 c1
     → ((y : Typed) → Gives p (expr_types h l.right x.scope) (Ok y) → kind ≡ kind_of_type y.ty)
     → Adds (operator l.op kind) c1 c2
     → Emitted (λ c s t. (y : Typed) → Gives p (expr_types h l.right x.scope) (Ok y)
@@ -83,10 +83,10 @@ StrictStands =
 abbrev pub DecidingStands : Type 0
 DecidingStands =
     (p : Program) (n : Naming) (scratch : ℕ) (h : Here) (x : Typed) (l : Link) (ls : List Link) (and : Bool)
-    (i j : Instr) (c0 c1 c2 c3 c4 c5 c6 new : List Instr) → IsDecide l.op and → Adds (i ∷ []) c0 c1
+    (i j : Instr) (c0 c1 c2 c3 c4 c5 c6 new : Emitter) → IsDecide l.op and → Adds (i ∷ []) c0 c1
     → Emitted (Value p n scratch h x.scope true l.right) c1 c2 → Adds (j ∷ []) c2 c3
-    → Adds (decided_by and ∷ []) c3 c4 → c5 ≡ slice_set c4 (length c0) (deciding and (length c3))
-    → c6 ≡ slice_set c5 (length c2) (ins.Jump (length c4))
+    → Adds (decided_by and ∷ []) c3 c4 → Patched (length c0.instrs) (deciding and (length c3.instrs)) c4 c5
+    → Patched (length c2.instrs) (ins.Jump (length c4.instrs)) c5 c6
     → Emitted (λ c s t. (y : Typed) → Gives p (expr_types h l.right x.scope) (Ok y)
     → LinksAt p n scratch c h (plain ty.Bool y.scope) ls s t) c6 new
     → Emitted (Links p n scratch h x (l ∷ ls)) c0 new
@@ -106,12 +106,13 @@ StmtsBehind p n scratch b x one ss c s t =
 abbrev pub IfStands : Type 0
 IfStands =
     (p : Program) (n : Naming) (scratch : ℕ) (b : In) (x : Before) (e : Expr) (one other : List Stmt) (pl : Place)
-    (ss : List Stmt) (i j : Instr) (c0 c1 c2 c3 c4 c5 c6 c7 new : List Instr)
+    (ss : List Stmt) (i j : Instr) (c0 c1 c2 c3 c4 c5 c6 c7 new : Emitter)
     → Emitted (Value p n scratch (here b x) x.scope true e) c0 c1 → Adds (i ∷ []) c1 c2
     → Emitted (Stmts p n scratch b x one) c2 c3 → Adds (j ∷ []) c3 c4
     → Emitted (λ c s t. (y : Before) → Gives p (block_typed (map (stmt_types b) one) x) (Ok y)
     → StmtsAt p n scratch c b (numbered_from x y.next) other s t) c4 c5
-    → c6 ≡ slice_set c5 (length c1) (ins.Jfalse (length c4)) → c7 ≡ slice_set c6 (length c3) (ins.Jump (length c5))
+    → Patched (length c1.instrs) (ins.Jfalse (length c4.instrs)) c5 c6
+    → Patched (length c3.instrs) (ins.Jump (length c5.instrs)) c6 c7
     → Emitted (StmtsBehind p n scratch b x (stmt.If e one other pl) ss) c7 new
     → Emitted (Stmts p n scratch b x (stmt.If e one other pl ∷ ss)) c0 new
 
@@ -119,10 +120,10 @@ IfStands =
 abbrev pub WhileStands : Type 0
 WhileStands =
     (p : Program) (n : Naming) (scratch : ℕ) (b : In) (x : Before) (e : Expr) (body : List Stmt) (pl : Place)
-    (ss : List Stmt) (i : Instr) (c0 c1 c2 c3 c4 c5 new : List Instr)
+    (ss : List Stmt) (i : Instr) (c0 c1 c2 c3 c4 c5 new : Emitter)
     → Emitted (Value p n scratch (here b x) x.scope true e) c0 c1 → Adds (i ∷ []) c1 c2
-    → Emitted (Stmts p n scratch b x body) c2 c3 → Adds (ins.Jump (length c0) ∷ []) c3 c4
-    → c5 ≡ slice_set c4 (length c1) (ins.Jfalse (length c4))
+    → Emitted (Stmts p n scratch b x body) c2 c3 → Adds (ins.Jump (length c0.instrs) ∷ []) c3 c4
+    → Patched (length c1.instrs) (ins.Jfalse (length c4.instrs)) c4 c5
     → Emitted (StmtsBehind p n scratch b x (stmt.While e body pl) ss) c5 new
     → Emitted (Stmts p n scratch b x (stmt.While e body pl ∷ ss)) c0 new
 

@@ -1,42 +1,69 @@
--- What is emitted behind a code.
-use Rattle.std.specs.Prelude.{◌≡◌, ℕ, ◌+◌, ◌≤◌, ◌<◌, List, length, slice_get}
+-- What is emitted behind a code, and what is known of its locals.
+use Rattle.std.specs.Prelude.{◌≡◌, ℕ, ◌+◌, ◌≤◌, List, ◌∷◌, [], ◌++◌, length, Some, slice_get, slice_set}
 use Rattle.jn_code.specs.declared.instr.Instr.{Instr}
-use Rattle.jn_code.specs.declared.instr.Instr.TheVariants as ins
 use Rattle.jn_code.specs.declared.image.Code.{Code}
-use Rattle.jn_agree.specs.Places.{At, Run}
+use Rattle.jn_agree.specs.Places.{HasKind}
+use Rattle.jn_lower.specs.declared.emitter.Locals.{Locals}
+use Rattle.jn_lower.specs.declared.emitter.Emitter.{Emitter}
+use Rattle.jn_lower.specs.Placed.{Same}
 
--- the same instructions from a place up to another
-pub record Same (a b : List Instr) (s t : ℕ) : Type 0 where
-  pub by : (k : ℕ) → s ≤ k → k < t → slice_get a k ≡ slice_get b k
+-- The locals of the code have these kinds: those of the variables from 0 on, and the scratch ones from the first number
+-- on that no variable has.
+pub record Fits (x : Locals) (c : Code) : Type 0 where
+  pub kinds : (q k : ℕ) → slice_get x.kinds q ≡ Some k → HasKind c q k
+  pub spare : (j k : ℕ) → slice_get x.spare j ≡ Some k → HasKind c (x.scratch + j) k
 
--- What was old is as before, and the form stands in each code that has there what is new.
-pub record Emitted (There : Code → ℕ → ℕ → Type 0) (old new : List Instr) : Type 0 where
-  pub longer : length old ≤ length new
-  pub kept : Same old new 0 (length old)
-  pub there : (c : Code) → Same new c.instrs (length old) (length new) → There c (length old) (length new)
+-- what was known of the locals is still known
+pub record Keeps (old new : Locals) : Type 0 where
+  pub kinds : (q k : ℕ) → slice_get old.kinds q ≡ Some k → slice_get new.kinds q ≡ Some k
+  pub spare : (j k : ℕ) → slice_get old.spare j ≡ Some k → slice_get new.spare j ≡ Some k
+  pub scratch : new.scratch ≡ old.scratch
 
--- nothing
-abbrev pub Nothing : Code → ℕ → ℕ → Type 0
-Nothing c s t = t ≡ s
+-- what was emitted is as before, and what was known of the locals
+pub record Grown (old new : Emitter) : Type 0 where
+  pub longer : length old.instrs ≤ length new.instrs
+  pub kept : Same old.instrs new.instrs 0 (length old.instrs)
+  pub locals : Keeps old.locals new.locals
 
--- these instructions
-abbrev pub Are : List Instr → Code → ℕ → ℕ → Type 0
-Are xs c s t = Run c.instrs xs s t
+-- What was old is as before, and the form stands in each code that has there what is new, and such locals.
+pub record Emitted (There : Code → ℕ → ℕ → Type 0) (old new : Emitter) : Type 0 where
+  pub grown : Grown old new
+  pub there : (c : Code) → Fits new.locals c → Same new.instrs c.instrs (length old.instrs) (length new.instrs)
+      → There c (length old.instrs) (length new.instrs)
 
--- one form, and behind it another
-abbrev pub Behind : (A B : Code → ℕ → ℕ → Type 0) → Code → ℕ → ℕ → Type 0
-Behind A B c s t = (m : ℕ) × A c s m × B c m t
+-- the instructions are added, and what was there before stays
+pub record Adds (xs : List Instr) (old new : Emitter) : Type 0 where
+  pub instrs : new.instrs ≡ old.instrs ++ xs
+  pub locals : new.locals ≡ old.locals
 
--- One of two forms. `jump` goes to the other one, which begins behind the jump that ends the first.
-abbrev pub Branches : (jump : ℕ → Instr) → (One Other : Code → ℕ → ℕ → Type 0) → Code → ℕ → ℕ → Type 0
-Branches jump One Other c s t =
-    (o : ℕ) × At c.instrs s (jump (o + 1)) × One c (s + 1) o × At c.instrs o (ins.Jump t) × Other c (o + 1) t
+-- the instruction stands at that place, and all else stays
+pub record Patched (at : ℕ) (i : Instr) (old new : Emitter) : Type 0 where
+  pub instrs : new.instrs ≡ slice_set old.instrs at i
+  pub locals : new.locals ≡ old.locals
 
--- A form again and again while another gives true.
-abbrev pub Turns : (Asks Body : Code → ℕ → ℕ → Type 0) → Code → ℕ → ℕ → Type 0
-Turns Asks Body c s t =
-    (m o : ℕ) × Asks c s m × At c.instrs m (ins.Jfalse (o + 1)) × Body c (m + 1) o × At c.instrs o (ins.Jump s)
-    × (t ≡ o + 1)
+-- the next local has that kind, and all else stays
+pub record Declares (kind : ℕ) (old new : Emitter) : Type 0 where
+  pub instrs : new.instrs ≡ old.instrs
+  pub kinds : new.locals.kinds ≡ old.locals.kinds ++ kind ∷ []
+  pub spare : new.locals.spare ≡ old.locals.spare
+  pub scratch : new.locals.scratch ≡ old.locals.scratch
 
--- Example: behind a code of 3 instructions, emitting JFALSE 6, INT 1, JUMP 7, INT 2 is emitting the branches JFALSE of
--- INT 1 and INT 2: they stand from 3 up to 7.
+-- the kind has its place in the list: the one that it had, else the next one
+pub data Places (kind : ℕ) (old new : List ℕ) : Type 0 where
+  had : (j : ℕ) → slice_get old j ≡ Some kind → new ≡ old → Places kind old new
+  next : ((j : ℕ) → slice_get old j ≡ Some kind → ⊥) → new ≡ old ++ kind ∷ [] → Places kind old new
+
+pub record HasPlace (kind : ℕ) (old new : List ℕ) (j : ℕ) : Type 0 where
+  pub at : slice_get new j ≡ Some kind
+  pub places : Places kind old new
+
+-- q is the number of the scratch local of that kind, and all else stays
+pub record IsSpare (kind : ℕ) (old new : Emitter) (q : ℕ) : Type 0 where
+  pub instrs : new.instrs ≡ old.instrs
+  pub kinds : new.locals.kinds ≡ old.locals.kinds
+  pub scratch : new.locals.scratch ≡ old.locals.scratch
+  pub place : ℕ
+  pub has : HasPlace kind old.locals.spare new.locals.spare place
+  pub number : q ≡ new.locals.scratch + place
+
+-- Example: behind a code of 3 instructions, INT 7 is emitted where the expression `7` stands: from 3 up to 4.

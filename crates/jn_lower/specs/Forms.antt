@@ -1,5 +1,5 @@
 -- Which forms of expression stand in what is emitted.
-use Rattle.std.specs.Prelude.{◌≡◌, ℕ, List, Bool, true, Some}
+use Rattle.std.specs.Prelude.{◌≡◌, ℕ, Bool, true, Some}
 use Rattle.jn_base.specs.declared.tree.Name.{Name}
 use Rattle.jn_base.specs.declared.tree.Place.{Place}
 use Rattle.jn_base.specs.declared.tree.Node.{Node}
@@ -9,12 +9,12 @@ use Rattle.jn_base.specs.declared.tree.Program.{Program}
 use Rattle.jn_base.specs.declared.names.Var.{Var}
 use Rattle.jn_base.specs.Parts.{expr}
 use Rattle.jn_base.specs.Scopes.{Scope}
-use Rattle.jn_code.specs.declared.instr.Instr.{Instr}
 use Rattle.jn_code.specs.declared.image.Code.{Code}
 use Rattle.jn_rules.specs.Exprs.{Here}
 use Rattle.jn_agree.specs.Naming.{Naming}
 use Rattle.jn_agree.specs.Places.{newest}
 use Rattle.jn_places.specs.ExprPlaces.{ExprAt}
+use Rattle.jn_lower.specs.declared.emitter.Emitter.{Emitter}
 use Rattle.jn_lower.specs.Emitted.{Emitted}
 
 -- the expression in that scope, whose value is kept or not
@@ -22,13 +22,13 @@ abbrev pub Value : Program → Naming → ℕ → Here → Scope → Bool → Ex
 Value p n scratch h sc keeps e c s t = ExprAt p n scratch c h sc keeps e s t
 
 -- wherever it stands, as a value that is kept
-abbrev pub StandsAsValue : Node → List Instr → List Instr → Type 0
+abbrev pub StandsAsValue : Node → Emitter → Emitter → Type 0
 StandsAsValue x old new =
     (p : Program) (n : Naming) (scratch : ℕ) (h : Here) (sc : Scope) (pl : Place)
     → Emitted (Value p n scratch h sc true (expr pl x)) old new
 
 -- each variable whose newest declaration has that number
-abbrev pub StandsAsVar : ℕ → List Instr → List Instr → Type 0
+abbrev pub StandsAsVar : ℕ → Emitter → Emitter → Type 0
 StandsAsVar q old new =
     (p : Program) (n : Naming) (scratch : ℕ) (h : Here) (sc : Scope) (pl : Place) (x : Name) (y : Var)
     → newest h.vars x ≡ Some y → y.path ≡ q → Emitted (Value p n scratch h sc true (expr pl (node.Var x))) old new

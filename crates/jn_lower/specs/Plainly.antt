@@ -12,21 +12,21 @@ use Rattle.jn_rules.specs.Exprs.{Typed}
 use Rattle.jn_rules.specs.Stmts.{In, Before, here, typed}
 use Rattle.jn_agree.specs.Naming.{Naming}
 use Rattle.jn_places.specs.StmtPlaces.{printing}
-use Rattle.jn_lower.specs.Emitted.{Emitted}
+use Rattle.jn_lower.specs.declared.emitter.Emitter.{Emitter}
+use Rattle.jn_lower.specs.Emitted.{Emitted, Adds}
 use Rattle.jn_lower.specs.Forms.{Value}
-use Rattle.jn_lower.specs.Straight.{Adds}
 use Rattle.jn_lower.specs.Composed.{Stmts, StmtsBehind}
 
 -- no statement
 abbrev pub NoneStands : Type 0
 NoneStands =
-    (p : Program) (n : Naming) (scratch : ℕ) (b : In) (x : Before) (c0 : List Instr)
+    (p : Program) (n : Naming) (scratch : ℕ) (b : In) (x : Before) (c0 : Emitter)
     → Emitted (Stmts p n scratch b x []) c0 c0
 
 -- a block, and what is behind it
 abbrev pub BlockStands : Type 0
 BlockStands =
-    (p : Program) (n : Naming) (scratch : ℕ) (b : In) (x : Before) (body ss : List Stmt) (c0 c1 new : List Instr)
+    (p : Program) (n : Naming) (scratch : ℕ) (b : In) (x : Before) (body ss : List Stmt) (c0 c1 new : Emitter)
     → Emitted (Stmts p n scratch b x body) c0 c1 → Emitted (StmtsBehind p n scratch b x (stmt.Block body) ss) c1 new
     → Emitted (Stmts p n scratch b x (stmt.Block body ∷ ss)) c0 new
 
@@ -34,7 +34,7 @@ BlockStands =
 abbrev pub DoStands : Type 0
 DoStands =
     (p : Program) (n : Naming) (scratch : ℕ) (b : In) (x : Before) (e : Expr) (ss : List Stmt)
-    (c0 c1 new : List Instr) → Emitted (Value p n scratch (here b x) x.scope false e) c0 c1
+    (c0 c1 new : Emitter) → Emitted (Value p n scratch (here b x) x.scope false e) c0 c1
     → Emitted (StmtsBehind p n scratch b x (stmt.Do e) ss) c1 new
     → Emitted (Stmts p n scratch b x (stmt.Do e ∷ ss)) c0 new
 
@@ -42,7 +42,7 @@ DoStands =
 abbrev pub ReturnStands : Type 0
 ReturnStands =
     (p : Program) (n : Naming) (scratch : ℕ) (b : In) (x : Before) (e : Expr) (pl : Place) (ss : List Stmt)
-    (c0 c1 c2 new : List Instr) → Emitted (Value p n scratch (here b x) x.scope true e) c0 c1
+    (c0 c1 c2 new : Emitter) → Emitted (Value p n scratch (here b x) x.scope true e) c0 c1
     → Adds (ins.Retv ∷ []) c1 c2 → Emitted (StmtsBehind p n scratch b x (stmt.Return (Some e) pl) ss) c2 new
     → Emitted (Stmts p n scratch b x (stmt.Return (Some e) pl ∷ ss)) c0 new
 
@@ -50,7 +50,7 @@ ReturnStands =
 abbrev pub EndStands : Type 0
 EndStands =
     (p : Program) (n : Naming) (scratch : ℕ) (b : In) (x : Before) (pl : Place) (ss : List Stmt)
-    (c0 c1 new : List Instr) → Adds (ins.Ret ∷ []) c0 c1
+    (c0 c1 new : Emitter) → Adds (ins.Ret ∷ []) c0 c1
     → Emitted (StmtsBehind p n scratch b x (stmt.Return None pl) ss) c1 new
     → Emitted (Stmts p n scratch b x (stmt.Return None pl ∷ ss)) c0 new
 
@@ -58,7 +58,7 @@ EndStands =
 abbrev pub PrintStands : Type 0
 PrintStands =
     (p : Program) (n : Naming) (scratch : ℕ) (b : In) (x : Before) (e : Expr) (pl : Place) (i : Instr)
-    (ss : List Stmt) (c0 c1 c2 new : List Instr) → Emitted (Value p n scratch (here b x) x.scope true e) c0 c1
+    (ss : List Stmt) (c0 c1 c2 new : Emitter) → Emitted (Value p n scratch (here b x) x.scope true e) c0 c1
     → ((y : Typed) → Gives p (typed b x e x.scope) (Ok y) → i ≡ printing y.ty) → Adds (i ∷ []) c1 c2
     → Emitted (StmtsBehind p n scratch b x (stmt.Print e pl) ss) c2 new
     → Emitted (Stmts p n scratch b x (stmt.Print e pl ∷ ss)) c0 new
@@ -67,7 +67,7 @@ PrintStands =
 abbrev pub TextStands : Type 0
 TextStands =
     (p : Program) (n : Naming) (scratch : ℕ) (b : In) (x : Before) (k : ℕ) (pl : Place) (ss : List Stmt)
-    (c0 c1 new : List Instr) → Adds (ins.Printt k ∷ []) c0 c1
+    (c0 c1 new : Emitter) → Adds (ins.Printt k ∷ []) c0 c1
     → Emitted (StmtsBehind p n scratch b x (stmt.PrintText k pl) ss) c1 new
     → Emitted (Stmts p n scratch b x (stmt.PrintText k pl ∷ ss)) c0 new
 

@@ -1,12 +1,7 @@
--- What is added without a jump.
-use Rattle.std.specs.Prelude.{◌≡◌, List, ◌++◌, Bool, true, false, Option, Some, None}
+-- Which operators may decide without their right operand.
+use Rattle.std.specs.Prelude.{Bool, true, false, Option, Some, None}
 use Rattle.jn_base.specs.declared.tree.Op.{Op}
 use Rattle.jn_base.specs.declared.tree.Op.TheVariants as op
-use Rattle.jn_code.specs.declared.instr.Instr.{Instr}
-
--- the instructions are added, and what was there before stays
-abbrev pub Adds : List Instr → List Instr → List Instr → Type 0
-Adds xs old new = new ≡ old ++ xs
 
 -- true for `&&`, false for `||`, and none of another operator
 abbrev pub deciding_of : Op → Option Bool
@@ -23,5 +18,3 @@ deciding_of op.Sub = None
 deciding_of op.Mul = None
 deciding_of op.Div = None
 deciding_of op.Rem = None
-
--- Example: `!=` of numbers adds EQI and NOT.

@@ -1,5 +1,7 @@
 ghost use Rattle.jn_lower.specs.Laws.{AddedStand, NothingStands};
 ghost use Rattle.jn_lower.specs.Plainly.{NoneStands, BlockStands, DoStands, ReturnStands, EndStands, PrintStands, TextStands};
+ghost use Rattle.jn_lower.specs.Stores.{LocalStands, AssignStands, SetStands};
+ghost use Rattle.jn_lower.specs.Called.{NoArgsStand, OneArgStands, PostStands, NoPartsStand, LastPartStands, OnePartStands, FieldStands, CallStands, NewStands, SuperStands, BareSuperStands};
 ghost use Rattle.jn_lower.specs.Composed.{ViewStands, NotStands, NegStands, ChainStands, StrictStands, DecidingStands, IfStands, WhileStands};
 
 /// What is added at the end stands there. It does nothing.
@@ -93,4 +95,89 @@ pub fn text_stands()
 /// A view change stands where its operand, the class of its target and CONV are emitted. It does nothing.
 pub fn view_stands()
     ensures { ViewStands }
+{}
+
+/// A declaration of a local stands where the value and what binds the local are emitted, and the statements behind it.
+/// It does nothing.
+pub fn local_stands()
+    ensures { LocalStands }
+{}
+
+/// An assignment stands where the value and STORE are emitted, and the statements behind it.
+/// It does nothing.
+pub fn assign_stands()
+    ensures { AssignStands }
+{}
+
+/// An assignment to a field stands where the receiver, the value and PUT are emitted, and the statements behind it.
+/// It does nothing.
+pub fn set_stands()
+    ensures { SetStands }
+{}
+
+/// No argument stands where nothing is emitted.
+/// It does nothing.
+pub fn no_args_stand()
+    ensures { NoArgsStand }
+{}
+
+/// Arguments stand where the first one is emitted, and the others behind it.
+/// It does nothing.
+pub fn one_arg_stands()
+    ensures { OneArgStands }
+{}
+
+/// What stands behind a receiver does so where the receiver is emitted, and its parts behind it.
+/// It does nothing.
+pub fn post_stands()
+    ensures { PostStands }
+{}
+
+/// No part behind a receiver stands where nothing is emitted.
+/// It does nothing.
+pub fn no_parts_stand()
+    ensures { NoPartsStand }
+{}
+
+/// The last part behind a receiver stands where it is emitted.
+/// It does nothing.
+pub fn last_part_stands()
+    ensures { LastPartStands }
+{}
+
+/// Parts behind a receiver stand where the first one is emitted, and the others behind it.
+/// It does nothing.
+pub fn one_part_stands()
+    ensures { OnePartStands }
+{}
+
+/// A field stands where GET is emitted.
+/// It does nothing.
+pub fn field_stands()
+    ensures { FieldStands }
+{}
+
+/// A call stands where its arguments and CALL are emitted.
+/// It does nothing.
+pub fn call_stands()
+    ensures { CallStands }
+{}
+
+/// A new object stands where its arguments, its class, NEW and the constructor are emitted.
+/// It does nothing.
+pub fn new_stands()
+    ensures { NewStands }
+{}
+
+/// `super` with arguments stands where the first argument, what brings `this` below it, the others and CALLAT are
+/// emitted.
+/// It does nothing.
+pub fn super_stands()
+    ensures { SuperStands }
+{}
+
+/// `super` without arguments stands where `this` and CALLAT are emitted.
+/// It does nothing.
+pub fn bare_super_stands()
+    ensures { BareSuperStands }
 {}

@@ -4,11 +4,26 @@
 //! once their target is known.
 #![tactic(auto)]
 
+pub mod bounds;
+pub mod calls;
 pub mod classes;
+pub mod cursor;
 pub mod emitter;
+pub mod ending;
+pub mod kinds;
 pub mod law;
 pub mod leaves;
+pub mod locals;
+pub mod members;
 pub mod params;
+pub mod path_behind;
+pub mod selecting;
 pub mod straight;
+pub mod walk;
+pub mod walk_body;
+pub mod walk_exprs;
+pub mod walk_locals;
+pub mod walk_stmts;
 
 pub use emitter::Emitter;
+pub use walk_body::lower;

@@ -2,7 +2,8 @@ ghost use Rattle.std.specs.Prelude.{◌≡◌, [], ◌∷◌, OnOk};
 ghost use Rattle.jn_base.specs.Resolve.{is_class};
 ghost use Rattle.jn_agree.specs.Places.{equal, operator, deciding, decided_by, dropping, tuck, last_return};
 ghost use Rattle.jn_places.specs.StmtPlaces.{printing};
-ghost use Rattle.jn_lower.specs.Straight.{Adds, deciding_of};
+ghost use Rattle.jn_lower.specs.Straight.{deciding_of};
+ghost use Rattle.jn_lower.specs.Emitted.{Adds};
 
 use crate::emitter::Emitter;
 use jn_base::tree::Op;
@@ -78,7 +79,7 @@ pub fn decided_by(and: bool) -> Instr
 
 /// Adds two instructions.
 fn two(out: &mut Emitter, a: Instr, b: Instr) -> Result<(), AllocError>
-    ensures { OnOk result (Adds (a ∷ b ∷ []) out.old.instrs out.new.instrs) }
+    ensures { OnOk result (Adds (a ∷ b ∷ []) out.old out.new) }
 {
     out.push(a)?;
     out.push(b)
@@ -87,7 +88,7 @@ fn two(out: &mut Emitter, a: Instr, b: Instr) -> Result<(), AllocError>
 /// Adds an operator that has both its operands, which are of the kind: `!=` is `==` and NOT. Those that may decide
 /// without the right operand add nothing.
 pub fn operator(out: &mut Emitter, op: Op, kind: u8) -> Result<(), AllocError>
-    ensures { OnOk result (Adds (operator op kind) out.old.instrs out.new.instrs) }
+    ensures { OnOk result (Adds (operator op kind) out.old out.new) }
 {
     match op {
         Op::Add => out.push(Instr::Add),
@@ -108,7 +109,7 @@ pub fn operator(out: &mut Emitter, op: Op, kind: u8) -> Result<(), AllocError>
 
 /// Drops a value of the kind where it isn't kept: POP, and nothing where there is no value.
 pub fn dropping(out: &mut Emitter, keeps: bool, kind: u8) -> Result<(), AllocError>
-    ensures { OnOk result (Adds (dropping keeps kind) out.old.instrs out.new.instrs) }
+    ensures { OnOk result (Adds (dropping keeps kind) out.old out.new) }
 {
     if keeps || kind == 0 {
         Ok(())
@@ -119,7 +120,7 @@ pub fn dropping(out: &mut Emitter, keeps: bool, kind: u8) -> Result<(), AllocErr
 
 /// Brings `this` below the value on top, by way of a local: STORE, LOAD 0, LOAD.
 pub fn tuck(out: &mut Emitter, q: u8) -> Result<(), AllocError>
-    ensures { OnOk result (Adds (tuck q) out.old.instrs out.new.instrs) }
+    ensures { OnOk result (Adds (tuck q) out.old out.new) }
 {
     two(out, Instr::Store(q), Instr::Load(0))?;
     out.push(Instr::Load(q))
@@ -127,7 +128,7 @@ pub fn tuck(out: &mut Emitter, q: u8) -> Result<(), AllocError>
 
 /// The return behind a body's end, by the kind of its result.
 pub fn last_return(out: &mut Emitter, kind: u8) -> Result<(), AllocError>
-    ensures { OnOk result (Adds (last_return kind) out.old.instrs out.new.instrs) }
+    ensures { OnOk result (Adds (last_return kind) out.old out.new) }
 {
     match kind {
         0 => out.push(Instr::Ret),

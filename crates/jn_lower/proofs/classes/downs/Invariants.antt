@@ -1,9 +1,8 @@
-use Rattle.std.proofs.Common.{◌≡◌, ◌≤◌, ◌++◌, drop, length}
-use Rattle.jn_agree.specs.Places.{downs}
+use Rattle.std.proofs.Common.{◌≡◌, ◌++◌, drop}
+use Rattle.jn_lower.specs.Classes.{down_each}
 use Rattle.jn_lower.proofs.classes.downs.Given as goal
 
-abbrev pub invariant-loop-left : goal.invariant-loop-left
-invariant-loop-left l = (l.left ≤ length l.path) × (l.out.instrs ≡ l.fn.out.instrs ++ downs (drop l.left l.path))
-
-abbrev pub decreases-loop-left : goal.decreases-loop-left
-decreases-loop-left l = l.left
+abbrev pub invariant-loop-name : goal.invariant-loop-name
+invariant-loop-name l =
+    (l.out.instrs ++ down_each (drop l.name-index l.names) ≡ l.fn.out.instrs ++ down_each l.names)
+    × (l.out.locals ≡ l.fn.out.locals)

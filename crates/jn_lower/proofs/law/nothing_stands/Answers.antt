@@ -1,4 +1,4 @@
-use Rattle.jn_lower.proofs.Seams.{none}
+use Rattle.jn_lower.proofs.Growing.{none}
 use Rattle.jn_lower.proofs.law.nothing_stands.Goals as goal
 
 pub returns : goal.returns

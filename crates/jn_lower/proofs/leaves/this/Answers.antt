@@ -3,4 +3,4 @@ use Rattle.jn_lower.proofs.OneInstr.{this_so}
 use Rattle.jn_lower.proofs.leaves.this.Goals as goal
 
 pub returns : goal.returns
-returns c = on_ok c.push.result (this_so c.args.out.now.instrs c.push.new.self.instrs) c.push.ensures.emitted
+returns c = on_ok c.push.result (this_so c.args.out.now c.push.new.self) c.push.ensures.emitted

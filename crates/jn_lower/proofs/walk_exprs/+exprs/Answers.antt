@@ -1,0 +1,73 @@
+use Rattle.std.proofs.Common.{rules, ◌≡◌, List, true, ℤ, to_z, of_z, w64, subst, sym, ◌∙◌}
+use Rattle.jn_base.specs.declared.tree.Expr.{Expr}
+use Rattle.jn_base.specs.declared.tree.Node.{Node}
+use Rattle.jn_base.specs.declared.tree.Node.TheVariants as node
+use Rattle.jn_base.specs.declared.tree.Link.{Link}
+use Rattle.jn_lower.specs.Walks.{Decided, LowersValue, LowersNode, LowersLinks}
+use Rattle.jn_lower.proofs.Seams.{on_ok}
+use Rattle.jn_lower.proofs.LeafForms.{at_place}
+use Rattle.jn_lower.proofs.Chains.{inverted, negated, chained, strict_link, strict_of, decide_of, deciding_link}
+use Rattle.jn_lower.proofs.Views.{view_done}
+use Rattle.jn_lower.proofs.Loops.{links_on, links_over}
+use Rattle.jn_lower.proofs.walk_exprs.+exprs.Goals as goal
+
+pub value-returns : goal.value-returns
+value-returns t c =
+    on_ok c.node.result (λ h. at_place c.args.g.now true c.args.e.now c.args.w.now c.node.new.w h) c.node.ensures
+
+pub node-returns-in-Int : goal.node-returns-in-Int
+node-returns-in-Int t c =
+    let e : to_z w64 (of_z w64 c.in-Int.z) ≡ c.in-Int.z = search rules in
+    on_ok c.number_value.result (λ h. subst (λ (x : Node). LowersNode c.args.g.now x c.args.w.now c.number_value.new.w) (sym c.in-Int.is)
+    (subst (λ (y : ℤ). LowersNode c.args.g.now (node.Int y) c.args.w.now c.number_value.new.w) e (h c.args.g.now))) c.number_value.ensures
+
+pub node-returns-in_ok-push-in-Not : goal.node-returns-in_ok-push-in-Not
+node-returns-in_ok-push-in-Not t c =
+    on_ok c.had.result (λ h. subst (λ (x : Node). LowersNode c.args.g.now x c.args.w.now c.had.new.w) (sym c.in-Not.is)
+    (inverted c.args.g.now c.in-Not.e c.args.w.now c.value.new.w c.push.new.w c.had.new.w
+    (subst (λ (x : Expr). LowersValue c.args.g.now x c.args.w.now c.value.new.w) c.get.ensures c.in_ok-value-in-Not.ensures)
+    c.in_ok-push-in-Not.ensures h)) c.had.ensures
+
+pub node-returns-in_ok-push-in-Neg : goal.node-returns-in_ok-push-in-Neg
+node-returns-in_ok-push-in-Neg t c =
+    on_ok c.had-in-Neg.result (λ h. subst (λ (x : Node). LowersNode c.args.g.now x c.args.w.now c.had-in-Neg.new.w) (sym c.in-Neg.is)
+    (negated c.args.g.now c.in-Neg.e c.args.w.now c.value-in-Neg.new.w c.push-in-Neg.new.w c.had-in-Neg.new.w
+    (subst (λ (x : Expr). LowersValue c.args.g.now x c.args.w.now c.value-in-Neg.new.w) c.get-in-Neg.ensures c.in_ok-value-in-Neg.ensures)
+    c.in_ok-push-in-Neg.ensures h)) c.had-in-Neg.ensures
+
+pub node-returns-in_ok-value-in-Chain : goal.node-returns-in_ok-value-in-Chain
+node-returns-in_ok-value-in-Chain t c =
+    on_ok c.links.result (λ h. subst (λ (x : Node). LowersNode c.args.g.now x c.args.w.now c.links.new.w) (sym c.in-Chain.is)
+    (chained c.args.g.now c.in-Chain.field-0 c.in-Chain.e c.in-Chain.ls c.args.w.now c.value-in-Chain.new.w c.links.new.w
+    (subst (λ (x : Expr). LowersValue c.args.g.now x c.args.w.now c.value-in-Chain.new.w) c.get-in-Chain.ensures c.in_ok-value-in-Chain.ensures)
+    (subst (λ (x : List Link). LowersLinks c.args.g.now x c.value-in-Chain.new.w c.links.new.w) c.as_slice.ensures h))) c.links.ensures
+
+pub links-loop-l-preserved : goal.links-loop-l-preserved
+links-loop-l-preserved t c =
+    links_on c.args.g.now c.args.ls.now c.loop-l.l-index c.l-item.result c.args.w.now c.loop-l.w c.link.new.w c.loop-l.invariant
+    c.loop-l-test.true c.l-item.is c.in_ok-link.ensures
+
+pub links-returns : goal.links-returns
+links-returns t c =
+    links_over c.args.g.now c.args.ls.now c.loop-l.l-index c.args.w.now c.loop-l.w c.loop-l.invariant c.loop-l-test.false
+
+pub link-returns-in_ok-value-in-None : goal.link-returns-in_ok-value-in-None
+link-returns-in_ok-value-in-None t c =
+    on_ok c.strict.result (λ h. strict_link c.args.g.now c.args.l.now c.args.w.now c.value.new.w h.mid c.strict.new.w
+    (strict_of c.args.l.now.op (sym c.deciding_of.ensures ∙ c.in-None.is)) c.in_ok-value-in-None.ensures h.pushed h.had)
+    c.strict.ensures
+
+pub link-returns-in_ok-value-in-Some : goal.link-returns-in_ok-value-in-Some
+link-returns-in_ok-value-in-Some t c =
+    on_ok c.decided.result (λ h. deciding_link c.args.g.now c.args.l.now c.in-Some.and c.deciding.result c.args.w.now c.push.new.w
+    c.value-in-Some.new.w c.decided.new.w (decide_of c.args.l.now.op c.in-Some.and (sym c.deciding_of.ensures ∙ c.in-Some.is))
+    c.in_ok-push-in-Some.ensures c.in_ok-value-in-Some.ensures
+    (subst (λ k. Decided c.in-Some.and k c.value-in-Some.new.w c.decided.new.w) c.len-test.ensures h)) c.decided.ensures
+
+pub node-returns-in_ok-value-in-Some : goal.node-returns-in_ok-value-in-Some
+node-returns-in_ok-value-in-Some t c =
+    on_ok c.viewed.result (λ h. subst (λ (x : Node). LowersNode c.args.g.now x c.args.w.now c.viewed.new.w) (sym c.in-View.is)
+    (view_done c.args.g.now c.in-View.field-0 c.in-View.e c.in-Some.x.now c.next_term.new.self c.args.w.now c.value-in-Some.new.w c.viewed.new.w
+    c.in-Some.ensures
+    (subst (λ (x : Expr). LowersValue c.args.g.now x (record { out = c.args.w.now.out; marks = c.next_term.new.self; last = c.args.w.now.last }) c.value-in-Some.new.w) c.get-in-Some.ensures c.in_ok-value-in-Some.ensures)
+    h)) c.viewed.ensures

@@ -1,0 +1,159 @@
+ghost use Rattle.std.specs.Prelude.{OnOk};
+ghost use Rattle.jn_base.specs.declared.tree.Name.{Name as AName};
+ghost use Rattle.jn_base.specs.declared.tree.Node.TheVariants as node;
+ghost use Rattle.jn_lower.specs.declared.walk.Parts.{Parts as AParts};
+ghost use Rattle.jn_lower.specs.Walks.{LowersValue, LowersNode, LowersLinks, LowersLink, Operated, Decided, ViewedAs};
+
+use crate::classes::class_of;
+use crate::leaves::{null, this, truth, variable};
+use crate::straight::{decided_by, deciding, deciding_of, operator};
+use crate::walk::{Parts, Walk, had, push, set};
+use jn_base::tree::{Expr, Link, Node, Op};
+use jn_base::types::Atom;
+use jn_code::Instr;
+use std::alloc::AllocError;
+
+fn number_value(w: &mut Walk, z: i64) -> Result<(), AllocError>
+    ensures { OnOk result ((g : AParts) → LowersNode g (node.Int z) w.old w.new) }
+{
+    push(w, Instr::Int(z))?;
+    had(w)
+}
+
+fn truth_value(w: &mut Walk, b: bool) -> Result<(), AllocError>
+    ensures { OnOk result ((g : AParts) → LowersNode g (node.Bool b) w.old w.new) }
+{
+    truth(&mut w.out, b)?;
+    had(w)
+}
+
+fn null_value(w: &mut Walk) -> Result<(), AllocError>
+    ensures { OnOk result ((g : AParts) → LowersNode g node.Null w.old w.new) }
+{
+    null(&mut w.out)?;
+    had(w)
+}
+
+fn this_value(w: &mut Walk) -> Result<(), AllocError>
+    ensures { OnOk result ((g : AParts) → LowersNode g node.This w.old w.new) }
+{
+    this(&mut w.out)?;
+    had(w)
+}
+
+fn var_value(w: &mut Walk) -> Result<(), AllocError>
+    ensures { OnOk result ((g : AParts) (x : AName) → LowersNode g (node.Var x) w.old w.new) }
+{
+    match w.marks.next_var() {
+        None => Err(AllocError),
+        Some(q) => {
+            variable(&mut w.out, q)?;
+            had(w)
+        }
+    }
+}
+
+/// An operator that has both its operands.
+fn strict(w: &mut Walk, op: Op) -> Result<(), AllocError>
+    ensures { OnOk result (Operated op w.old w.new) }
+{
+    operator(&mut w.out, op, w.last)?;
+    had(w)
+}
+
+/// Behind the right operand of `&&` or `||`: the value where the left one decides, and the two jumps.
+fn decided(w: &mut Walk, and: bool, test: usize) -> Result<(), AllocError>
+    ensures { OnOk result (Decided and test w.old w.new) }
+{
+    let jump = w.out.len();
+    w.out.push(Instr::Jump(0))?;
+    let other = w.out.place()?;
+    w.out.push(decided_by(and))?;
+    let end = w.out.place()?;
+    set(&mut w.out, test, deciding(and, other))?;
+    set(&mut w.out, jump, Instr::Jump(end))?;
+    had(w)
+}
+
+/// Behind the operand of a view change: the class of the atom, and CONV.
+fn viewed(g: &Parts, w: &mut Walk, x: &Atom) -> Result<(), AllocError>
+    ensures { OnOk result (ViewedAs g.now x.now w.old w.new) }
+{
+    class_of(g.alloc, &mut w.out, g.t, x)?;
+    w.out.push(Instr::Conv)?;
+    had(w)
+}
+
+/// Emits an expression, whose value is kept.
+#[cycle(exprs)]
+pub fn value(g: &Parts, w: &mut Walk, e: &Expr) -> Result<(), AllocError>
+    ensures { OnOk result (LowersValue g.now e.now w.old w.new) }
+{
+    node(g, w, &e.node)
+}
+
+#[cycle(exprs)]
+fn node(g: &Parts, w: &mut Walk, node: &Node) -> Result<(), AllocError>
+    ensures { OnOk result (LowersNode g.now node.now w.old w.new) }
+{
+    match node {
+        Node::Int(z) => number_value(w, *z),
+        Node::Bool(b) => truth_value(w, *b),
+        Node::Null => null_value(w),
+        Node::This => this_value(w),
+        Node::Var(_) => var_value(w),
+        Node::Not(e) => {
+            value(g, w, e.get())?;
+            push(w, Instr::Not)?;
+            had(w)
+        }
+        Node::Neg(e) => {
+            value(g, w, e.get())?;
+            push(w, Instr::Neg)?;
+            had(w)
+        }
+        Node::Chain(_, e, ls) => {
+            value(g, w, e.get())?;
+            links(g, w, ls.as_slice())
+        }
+        Node::New(_, _) => Err(AllocError),
+        Node::Super(_, _, _) => Err(AllocError),
+        Node::Post(_, _) => Err(AllocError),
+        Node::View(_, e) => match w.marks.next_term() {
+            None => Err(AllocError),
+            Some(x) => {
+                value(g, w, e.get())?;
+                viewed(g, w, x)
+            }
+        },
+    }
+}
+
+/// Emits the operators of a chain.
+#[cycle(exprs)]
+fn links(g: &Parts, w: &mut Walk, ls: &[Link]) -> Result<(), AllocError>
+    ensures { OnOk result (LowersLinks g.now ls.now w.old w.new) }
+{
+    for l in ls {
+        link(g, w, l)?;
+    }
+    Ok(())
+}
+
+#[cycle(exprs)]
+fn link(g: &Parts, w: &mut Walk, l: &Link) -> Result<(), AllocError>
+    ensures { OnOk result (LowersLink g.now l.now w.old w.new) }
+{
+    match deciding_of(l.op) {
+        None => {
+            value(g, w, &l.right)?;
+            strict(w, l.op)
+        }
+        Some(and) => {
+            let test = w.out.len();
+            push(w, deciding(and, 0))?;
+            value(g, w, &l.right)?;
+            decided(w, and, test)
+        }
+    }
+}

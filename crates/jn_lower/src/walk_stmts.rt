@@ -1,0 +1,138 @@
+ghost use Rattle.std.specs.Prelude.{◌≡◌, ◌∷◌, [], Some, None, IfOk, OnOk};
+ghost use Rattle.jn_base.specs.declared.tree.Place.{Place as APlace};
+ghost use Rattle.jn_base.specs.declared.tree.Stmt.TheVariants as stmt;
+ghost use Rattle.jn_lower.specs.declared.walk.Parts.{Parts as AParts};
+ghost use Rattle.jn_lower.specs.Walks.{printed_by, Tested, Jumped, Joined, Repeated, LowersStmts, LowersStmt};
+
+use crate::walk::{Parts, Walk, push, set};
+use crate::walk_exprs::value;
+use crate::walk_locals::{assign, local};
+use jn_base::tree::{Expr, Stmt};
+use jn_code::Instr;
+use std::alloc::AllocError;
+
+/// What prints a value of the kind.
+fn printed_by(kind: u8) -> Instr
+    ensures { result ≡ printed_by kind }
+{
+    match kind {
+        1 => Instr::Printi,
+        _ => Instr::Printb,
+    }
+}
+
+/// `return` with a value.
+fn returns(g: &Parts, w: &mut Walk, e: &Expr) -> Result<(), AllocError>
+    ensures { OnOk result ((pl : APlace) → LowersStmt g.now (stmt.Return (Some e.now) pl) w.old w.new) }
+{
+    value(g, w, e)?;
+    push(w, Instr::Retv)
+}
+
+/// `return` without a value.
+fn ends(w: &mut Walk) -> Result<(), AllocError>
+    ensures { OnOk result ((g : AParts) (pl : APlace) → LowersStmt g (stmt.Return None pl) w.old w.new) }
+{
+    push(w, Instr::Ret)
+}
+
+/// `print` of a value.
+fn prints(g: &Parts, w: &mut Walk, e: &Expr) -> Result<(), AllocError>
+    ensures { OnOk result ((pl : APlace) → LowersStmt g.now (stmt.Print e.now pl) w.old w.new) }
+{
+    value(g, w, e)?;
+    push(w, printed_by(w.last))
+}
+
+/// `print` of a text.
+fn prints_text(w: &mut Walk, text: u32) -> Result<(), AllocError>
+    ensures { OnOk result ((g : AParts) (pl : APlace) → LowersStmt g (stmt.PrintText text pl) w.old w.new) }
+{
+    push(w, Instr::Printt(text))
+}
+
+/// A jump without a target: its place, and that behind it.
+#[derive(Clone, Copy)]
+pub struct Jump {
+    pub at: usize,
+    pub behind: u32,
+}
+
+/// A condition, and a jump that has no target yet: its place.
+fn tested(g: &Parts, w: &mut Walk, e: &Expr) -> Result<usize, AllocError>
+    ensures { IfOk result (λ test. Tested g.now e.now test w.old w.new) }
+{
+    value(g, w, e)?;
+    let test = w.out.len();
+    push(w, Instr::Jfalse(0))?;
+    Ok(test)
+}
+
+/// Between both blocks of an `if`: a jump that has no target yet.
+fn jumped(w: &mut Walk) -> Result<Jump, AllocError>
+    ensures { IfOk result (λ j. Jumped j w.old w.new) }
+{
+    let at = w.out.len();
+    push(w, Instr::Jump(0))?;
+    let behind = w.out.place()?;
+    Ok(Jump { at, behind })
+}
+
+/// Behind both blocks of an `if`: its two jumps get their targets.
+fn joined(w: &mut Walk, test: usize, j: Jump) -> Result<(), AllocError>
+    ensures { OnOk result (Joined test j w.old w.new) }
+{
+    let end = w.out.place()?;
+    set(&mut w.out, test, Instr::Jfalse(j.behind))?;
+    set(&mut w.out, j.at, Instr::Jump(end))
+}
+
+/// Behind the body of a `while`: the jump back, and the one past it gets its target.
+fn repeated(w: &mut Walk, start: u32, test: usize) -> Result<(), AllocError>
+    ensures { OnOk result (Repeated start test w.old w.new) }
+{
+    w.out.push(Instr::Jump(start))?;
+    let end = w.out.place()?;
+    set(&mut w.out, test, Instr::Jfalse(end))
+}
+
+/// Emits statements, one behind the other.
+#[cycle(stmts)]
+pub fn stmts(g: &Parts, w: &mut Walk, ss: &[Stmt]) -> Result<(), AllocError>
+    ensures { OnOk result (LowersStmts g.now ss.now w.old w.new) }
+{
+    for s in ss {
+        stmt(g, w, s)?;
+    }
+    Ok(())
+}
+
+#[cycle(stmts)]
+fn stmt(g: &Parts, w: &mut Walk, s: &Stmt) -> Result<(), AllocError>
+    ensures { OnOk result (LowersStmt g.now s.now w.old w.new) }
+{
+    match s {
+        Stmt::Block(body) => stmts(g, w, body.as_slice()),
+        Stmt::Local(fixed, ty, _, e) => local(g, w, *fixed, ty, e),
+        Stmt::Assign(_, e) => assign(g, w, e),
+        Stmt::Set(_, _, _) => Err(AllocError),
+        Stmt::Do(_) => Err(AllocError),
+        Stmt::If(e, one, other, _) => {
+            let test = tested(g, w, e)?;
+            stmts(g, w, one.as_slice())?;
+            let jump = jumped(w)?;
+            stmts(g, w, other.as_slice())?;
+            joined(w, test, jump)
+        }
+        Stmt::While(e, body, _) => {
+            let start = w.out.place()?;
+            let test = tested(g, w, e)?;
+            stmts(g, w, body.as_slice())?;
+            repeated(w, start, test)
+        }
+        Stmt::Return(Some(e), _) => returns(g, w, e),
+        Stmt::Return(None, _) => ends(w),
+        Stmt::Print(e, _) => prints(g, w, e),
+        Stmt::PrintText(text, _) => prints_text(w, *text),
+    }
+}
