@@ -1,0 +1,1 @@
+use Rattle.jn_drive.proofs.exec.loaded.Goals as goal
