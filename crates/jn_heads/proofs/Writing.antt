@@ -31,7 +31,7 @@ use Rattle.jn_sem.specs.Normal.{NormalType, same_path}
 use Rattle.jn_sem.proofs.Codes.{contains_of}
 use Rattle.jn_sem.proofs.NormalTypes.{type_subst_is}
 use Rattle.jn_intern.specs.Pools.{Keeps, scope_in}
-use Rattle.jn_intern.proofs.Pools.{scope_kept}
+use Rattle.jn_intern.proofs.Pools.{scope_in_kept, scope_kept}
 use Rattle.jn_laws.specs.LawsOfWritten.{TypeWellFormed, Shallow}
 use Rattle.jn_laws.proofs.WrittenTypes.{of_role, of_value}
 use Rattle.jn_rules.specs.Plans.{OfType}
@@ -82,6 +82,14 @@ last_among (y ∷ xs) x = later (last_among xs x)
 
 pub scope_there : (p : Program) (old new : List Ty) (at : Place) → Stands p old at → Keeps old new → scope_in new at.scope ≡ scope_of (site_of at)
 scope_there p old new at s k = scope_kept at.scope s.known k ∙ s.scope
+
+pub stands_kept : (p : Program) (old new : List Ty) (at : Place) → Stands p old at → Keeps old new → Stands p new at
+stands_kept p old new at s k = record {
+  fits = s.fits;
+  numbered = s.numbered;
+  known = scope_in_kept at.scope s.known k;
+  scope = scope_there p old new at s k;
+}
 
 pub scope_fits : (p : Program) (old new : List Ty) (at : Place) → Stands p old at → Keeps old new → ScopeFits (scope_in new at.scope)
 scope_fits p old new at s k = subst ScopeFits (sym (scope_there p old new at s k)) (record {

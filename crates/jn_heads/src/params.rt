@@ -176,6 +176,8 @@ pub fn header_of(
 ) -> Result<Header, CheckFault>
     requires { IsReady p.now t.old masks.now }
     ensures told { Told (Gives p.now (header_typed (record { class = class.now; method = m.now }))) (header_in pool.new) result }
+    ensures stands { IfOk result (λ h. Stands p.now pool.new h.at) }
+    ensures within { IfOk result (λ h. IsIn (record { class = class.now; method = m.now }) h.at) }
     ensures number { IfOk result (λ h. InPool pool.new h.result) }
     ensures keeps { Keeps pool.old pool.new }
     ensures kept { t.new ≡ t.old }
