@@ -9,7 +9,7 @@ use Rattle.jn_code.specs.declared.image.Image.{Image}
 use Rattle.jn_code.specs.declared.fault.ImageFault.{ImageFault}
 use Rattle.jn_code.specs.Machine as code
 use Rattle.jn_code.specs.Machine.{mach}
-use Rattle.jn_exec.specs.Images.{valid_image_of}
+use Rattle.jn_exec.specs.Images.{valid_image_of, IsMachineFor}
 use Rattle.jn_exec.specs.Lines.{fault_line}
 use Rattle.jn_machine.specs.Machines.{MachineState}
 use Rattle.jn_drive.specs.declared.halt.Halt.{Halt}
@@ -24,7 +24,7 @@ use Rattle.jn_drive.specs.Reading.{most_read}
 use Rattle.jn_drive.specs.Reply.{Reply, told, JobReply, ReplyBy, SourceReply, ImageReply, RunReply}
 use Rattle.jn_drive.specs.Seen.{Seen, IsSource, IsLeft}
 use Rattle.jn_drive.specs.Answer.{Answer, Answers, reply_of}
-use Rattle.jn_drive.specs.Exec.{HasRead, IsMachineFor, Loads}
+use Rattle.jn_drive.specs.Exec.{HasRead, Loads}
 use Rattle.jn_drive.proofs.Running.{Comes}
 
 -- ---- sources
@@ -72,5 +72,5 @@ pub machine_runs : (job : Job) (before after : Seen) (m : MachineState) (a : Rep
     → RunReply (mach m.image m.arena m.depth job.steps) a → Comes job before after a
 machine_runs job before after m a is (bytes, read, for) run =
     let bounds : RunReply (mach m.image job.arena job.depth job.steps) a
-          = subst (λ (n : ℕ). RunReply (mach m.image n job.depth job.steps) a) for.arena (subst (λ (d : ℕ). RunReply (mach m.image m.arena d job.steps) a) for.depth run) in
+          = subst (λ (n : ℕ). RunReply (mach m.image n job.depth job.steps) a) for.arena_is (subst (λ (d : ℕ). RunReply (mach m.image m.arena d job.steps) a) for.depth_is run) in
     has_read job before after bytes a is read (subst (λ (r : Result Image ImageFault). ImageReply job r a) (sym for.image) bounds)

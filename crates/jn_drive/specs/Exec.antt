@@ -10,7 +10,7 @@ use Rattle.jn_code.specs.Machine as code
 use Rattle.jn_machine.specs.Machines.{MachineState}
 use Rattle.jn_machine.specs.declared.run.Halt.{Halt as RunHalt}
 use Rattle.jn_machine.specs.declared.run.Halt.TheVariants as ends
-use Rattle.jn_exec.specs.Images.{valid_image_of}
+use Rattle.jn_exec.specs.Images.{valid_image_of, IsMachineFor}
 use Rattle.jn_exec.specs.Lines.{fault_line}
 use Rattle.jn_drive.specs.declared.halt.Halt.{Halt}
 use Rattle.jn_drive.specs.declared.halt.Halt.TheVariants as halt
@@ -33,18 +33,11 @@ pub record HasRead (job : Job) (files : Option Files) (rest' : Option (List ℕ)
   pub reads : faults' ≡ faults
   pub left : IsLeft files (drop (most_read job.kind) bytes) rest'
 
--- A fresh machine for the valid image, with the job's bounds.
-pub record IsMachineFor (job : Job) (bytes : List ℕ) (m : MachineState) : Type 0 where
-  pub image : valid_image_of bytes ≡ Ok m.image
-  pub arena : m.arena ≡ job.arena
-  pub depth : m.depth ≡ job.depth
-  pub fresh : m.fresh ≡ true
-
 -- The machine for the image that the file's bytes spell, or the line of what is wrong with them; or the file couldn't be
 -- read, or memory ran out.
 abbrev pub Loads : Job → Option Files → Option (List ℕ) → ℕ → ℕ → Result MachineState Halt → Type 0
 Loads job files rest' faults faults' (Ok m) =
-    (bytes : List ℕ) × HasRead job files rest' faults faults' bytes × IsMachineFor job bytes m
+    (bytes : List ℕ) × HasRead job files rest' faults faults' bytes × IsMachineFor bytes job.arena job.depth m
 Loads job files rest' faults faults' (Err (halt.BadImage line)) =
     (bytes : List ℕ) × HasRead job files rest' faults faults' bytes × ((f : ImageFault) × (valid_image_of bytes ≡ Err f) × (line ≡ fault_line f))
 Loads job files rest' faults faults' (Err halt.Unread) = Rose faults faults' ⊎ Lacks files job.file

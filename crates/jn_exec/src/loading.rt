@@ -3,7 +3,7 @@ ghost use Rattle.jn_code.specs.declared.image.Image.{Image as AnImage};
 ghost use Rattle.jn_code.specs.Spells.{Spells};
 ghost use Rattle.std.specs.Prelude.{◌<◌, get_or};
 ghost use Rattle.jn_code.specs.Valid.{IsValid};
-ghost use Rattle.jn_exec.specs.Images.{valid_image_of, IsFaultOf};
+ghost use Rattle.jn_exec.specs.Images.{valid_image_of, IsMachineFor, IsFaultOf};
 
 use jn_code::{Image, ImageFault};
 use jn_imagefile::read_image;
@@ -19,7 +19,7 @@ pub fn load(
     arena: u32,
     depth: u32,
 ) -> Result<Machine, ImageFault>
-    ensures machine { IfOk result (λ m. (valid_image_of bytes.now ≡ Ok m.image) × (m ≡ record { image = m.image; arena = arena; depth = depth; fresh = true })) }
+    ensures machine { IfOk result (IsMachineFor bytes.now arena depth) }
     ensures fault { IfErr result (λ f. IsFaultOf bytes.now f) }
 {
     let image = read_image(alloc, bytes)?;
