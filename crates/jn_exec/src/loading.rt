@@ -13,20 +13,19 @@ use std::alloc::Global;
 
 /// The fresh machine for the valid image that the bytes spell, with that many cells and at most that many frames beside the
 /// first; or the first fault: that of the bytes, then that of the image. Memory may come at any bytes.
-pub fn load(
-    alloc: Global,
-    bytes: &[u8],
-    arena: u32,
-    depth: u32,
-) -> Result<Machine, ImageFault>
+pub fn load(alloc: Global, bytes: &[u8], arena: u32, depth: u32) -> Result<Machine, ImageFault>
     ensures machine { IfOk result (IsMachineFor bytes.now arena depth) }
     ensures fault { IfErr result (λ f. IsFaultOf bytes.now f) }
 {
-    let image = read_image(alloc, bytes)?;
-    let good = verify(alloc, image)?;
-    match Machine::make(alloc, good, arena, depth) {
-        Ok(machine) => Ok(machine),
-        Err(_) => Err(ImageFault::Memory),
+    match read_image(alloc, bytes) {
+        Err(fault) => Err(fault),
+        Ok(image) => match verify(alloc, image) {
+            Err(fault) => Err(fault),
+            Ok(good) => match Machine::make(alloc, good, arena, depth) {
+                Ok(machine) => Ok(machine),
+                Err(_) => Err(ImageFault::Memory),
+            },
+        },
     }
 }
 
