@@ -6,3 +6,6 @@ pub mod Reading
 pub mod Running
 pub mod ShownAgain
 pub mod Wording
+mod Coming
+mod Ending
+mod OneReply

@@ -1,20 +1,68 @@
--- What a job does, from what its file's bytes come to and how that is delivered.
-use Rattle.std.proofs.Common.{◌≡◌, ◌∙◌, ℕ, ◌≤◌, ◌⊎◌, inl, inr, List, sym, ap, subst, refl, Ok, Err, Some, None, arith}
+-- What a job does, from what it replies and how that is delivered.
+use Rattle.std.proofs.Common.{◌≡◌, ◌≢◌, ◌∙◌, ℕ, ◌≤◌, ◌⊎◌, inl, inr, List, drop, sym, ap, subst, refl, Result, Ok, Err, Some, None, arith}
 use Rattle.std.specs.declared.option.Option.{Option}
 use Rattle.std.proofs.lemmas.Option.{same_Some}
+use Rattle.jn_base.specs.declared.tree.Program.{Program}
+use Rattle.jn_code.specs.declared.image.Image.{Image}
+use Rattle.jn_code.specs.declared.fault.ImageFault.{ImageFault}
+use Rattle.jn_code.specs.Machine as code
+use Rattle.jn_exec.specs.Images.{valid_image_of}
 use Rattle.jn_io.specs.Told.{Files, Lacks}
 use Rattle.jn_drive.specs.declared.status.Status.{Status}
 use Rattle.jn_drive.specs.declared.status.Status.TheVariants as statuses
-use Rattle.jn_drive.specs.declared.halt.Halt.TheVariants as halt
 use Rattle.jn_drive.specs.declared.words.JobKind.{JobKind}
-use Rattle.jn_drive.specs.Meaning.{output_of}
-use Rattle.jn_drive.specs.Reply.{Reply, JobReply, TreeReply, refused_reply, unread_reply, memory_reply, output_reply}
-use Rattle.jn_drive.specs.Seen.{Seen, SinkSeen, IsSource, IsToldSource, IsQuiet, IsCut, IsDelivered}
-use Rattle.jn_drive.specs.Answer.{Answer, Answers, IsOnlyReply, reply_of}
-use Rattle.jn_drive.specs.Job.{Does, Replies, MayReply, IsUnread, Gives, Cuts, GivesUnlessMemory, IsOfJobs}
+use Rattle.jn_drive.specs.declared.words.JobKind.TheVariants as kinds
+use Rattle.jn_drive.specs.declared.words.SourceJob.{SourceJob}
+use Rattle.jn_drive.specs.declared.words.SourceJob.TheVariants as sources
+use Rattle.jn_drive.specs.Words.{Job}
+use Rattle.jn_drive.specs.Reading.{most_read}
+use Rattle.jn_drive.specs.Reply.{Reply, JobReply, ReplyBy, ImageReply, RunReply, IsToldAs, SourceReply, TreeReply, unread_reply, memory_reply}
+use Rattle.jn_drive.specs.Seen.{Seen, SinkSeen, IsSource, IsToldSource, IsLeft, IsQuiet, IsCut, IsDelivered}
+use Rattle.jn_drive.specs.Job.{Does, Replies, MayReply, IsUnread, IsOfReply, Gives, Cuts, GivesUnlessMemory, GivesSome}
 
-abbrev Ans : JobKind → List ℕ → Seen → Seen → Answer → Type 0
-Ans kind file before after a = Answers kind before.store.files file before.store.read_faults after.store.read_faults a
+-- What a call replies: a reply to the bytes that were read; or that the file couldn't be read, or that memory ran out.
+pub data Comes (job : Job) (before after : Seen) (a : Reply) : Type 0 where
+  to_bytes : (bytes : List ℕ) → IsSource before.store.files job.file bytes → after.store.read_faults ≡ before.store.read_faults → IsLeft before.store.files (drop (most_read job.kind) bytes) after.store.rest → JobReply job bytes a → Comes job before after a
+  unread : IsUnread job.file before after → a ≡ unread_reply → Comes job before after a
+  no_memory : after.store.read_faults ≡ before.store.read_faults → a ≡ memory_reply → Comes job before after a
+
+-- ---- the statuses of replies
+
+status_is : (s t : Status) → s ≡ t → IsOfReply t → IsOfReply s
+status_is s t e is = subst IsOfReply (sym e) is
+
+tree_status : (p : Program) (kind : SourceJob) (r : Reply) → TreeReply p kind r → IsOfReply r.status
+tree_status p kind r TreeReply.shown = tt
+tree_status p kind r (TreeReply.ran is) = tt
+tree_status p kind r (TreeReply.not_taken not) = tt
+tree_status p kind r (TreeReply.passed is) = tt
+tree_status p kind r (TreeReply.not_passed f by) = tt
+
+source_status : (kind : SourceJob) (bytes : List ℕ) (r : Reply) → SourceReply kind bytes r → IsOfReply r.status
+source_status kind bytes r (SourceReply.refused f by e) = status_is r.status statuses.Refused (ap (λ (x : Reply). x.status) e) tt
+source_status kind bytes r (SourceReply.to_tree p is tree) = tree_status p kind r tree
+
+end_status : (outcome : Option code.Halt) (s : Status) (line : List ℕ) → IsToldAs outcome s line → IsOfReply s
+end_status (Some code.Done) s line t = status_is s statuses.Done t.0 tt
+end_status (Some code.Null) s line t = status_is s statuses.Null t.0 tt
+end_status (Some code.Zero) s line t = status_is s statuses.Zero t.0 tt
+end_status (Some code.Arena) s line t = status_is s statuses.Arena t.0 tt
+end_status (Some code.Depth) s line t = status_is s statuses.Depth t.0 tt
+end_status (Some code.Stuck) s line t = absurd t
+end_status None s line t = status_is s statuses.Steps t.0 tt
+
+image_status : (job : Job) (image : Result Image ImageFault) (r : Reply) → ImageReply job image r → IsOfReply r.status
+image_status job (Ok i) r is = end_status _ r.status r.line is.ended
+image_status job (Err f) r is = status_is r.status statuses.BadImage (ap (λ (x : Reply). x.status) is) tt
+
+reply_status : (kind : JobKind) (job : Job) (bytes : List ℕ) (r : Reply) → ReplyBy kind job bytes r → IsOfReply r.status
+reply_status (kinds.OnSource kind) job bytes r is = source_status kind bytes r is
+reply_status kinds.Exec job bytes r is = image_status job (valid_image_of bytes) r is
+
+job_status : (job : Job) (bytes : List ℕ) (r : Reply) → JobReply job bytes r → IsOfReply r.status
+job_status job bytes r is = reply_status job.kind job bytes r is
+
+-- ---- told files
 
 -- The bytes that are told are those that were read.
 told_same : (files : Option Files) (file bytes told : List ℕ) → IsSource files file bytes → IsToldSource files file told → bytes ≡ told
@@ -30,24 +78,21 @@ told_there : (files : Option Files) (file bytes : List ℕ) → IsToldSource fil
 told_there None file bytes there = absurd there
 told_there (Some files) file bytes there = there
 
-once_told : (kind : JobKind) (files : Option Files) (file bytes told : List ℕ) (a r : Reply) → IsSource files file bytes → IsOnlyReply kind bytes a → IsToldSource files file told → JobReply kind told r → (a ≡ r) ⊎ (a ≡ memory_reply)
-once_told kind files file bytes told a r source only there is = inl (only.only r (subst (λ (bs : List ℕ). JobReply kind bs r) (sym (told_same files file bytes told source there)) is))
-
--- What the answer is where the bytes are told and no read fails.
-settled : (kind : JobKind) (file : List ℕ) (before after : Seen) (a : Answer) → Ans kind file before after a → (told : List ℕ) (r : Reply) → IsToldSource before.store.files file told → JobReply kind told r → IsQuiet before after
-    → (reply_of a ≡ r) ⊎ (reply_of a ≡ memory_reply)
-settled kind file before after (Ok output) ans told r there is quiet = once_told kind _ _ ans.1.0 told (output_reply output) r ans.1.1 ans.1.2 there is
-settled kind file before after (Err (halt.Refused line)) ans told r there is quiet = once_told kind _ _ ans.1.0 told (refused_reply line) r ans.1.1 ans.1.2 there is
-settled kind file before after (Err halt.Unread) ans told r there is quiet =
-    elim ans [ inl rose ↦ absurd (quiet.reads rose) | inr lacks ↦ not_there before.store.files file told (told_there before.store.files file told there) lacks ]
-settled kind file before after (Err halt.Memory) ans told r there is quiet = inr refl
+-- What is replied where the bytes are told and no read fails.
+settled : (job : Job) (before after : Seen) (a : Reply) → Comes job before after a → (told : List ℕ) → IsToldSource before.store.files job.file told → IsQuiet before after → JobReply job told a ⊎ (a ≡ memory_reply)
+settled job before after a (Comes.to_bytes bytes source reads left is_reply) told there quiet =
+    inl (subst (λ (bs : List ℕ). JobReply job bs a) (told_same before.store.files job.file bytes told source there) is_reply)
+settled job before after a (Comes.unread u e) told there quiet =
+    elim u [ inl rose ↦ absurd (quiet.reads rose) | inr lacks ↦ not_there before.store.files job.file told (told_there before.store.files job.file told there) lacks ]
+settled job before after a (Comes.no_memory reads e) told there quiet = inr e
 
 -- What it is where the file isn't there.
-lacking : (kind : JobKind) (file : List ℕ) (before after : Seen) (a : Answer) → Ans kind file before after a → Lacks before.store.files file → (reply_of a ≡ unread_reply) ⊎ (reply_of a ≡ memory_reply)
-lacking kind file before after (Ok output) ans lacks = not_there before.store.files file ans.1.0 ans.1.1 lacks
-lacking kind file before after (Err (halt.Refused line)) ans lacks = not_there before.store.files file ans.1.0 ans.1.1 lacks
-lacking kind file before after (Err halt.Unread) ans lacks = inl refl
-lacking kind file before after (Err halt.Memory) ans lacks = inr refl
+lacking : (job : Job) (before after : Seen) (a : Reply) → Comes job before after a → Lacks before.store.files job.file → (a ≡ unread_reply) ⊎ (a ≡ memory_reply)
+lacking job before after a (Comes.to_bytes bytes source reads left is_reply) lacks = not_there before.store.files job.file bytes source lacks
+lacking job before after a (Comes.unread u e) lacks = inl e
+lacking job before after a (Comes.no_memory reads e) lacks = inr e
+
+-- ---- what was delivered
 
 -- A reply that was given whole, by an equal one.
 given_as : (before after : Seen) (a b : Reply) (s : Status) → a ≡ b → Gives a before after s → Gives b before after s
@@ -66,99 +111,95 @@ cut_is : (before after : Seen) (r : Reply) (s : Status) → Cuts r before after 
 cut_is before after r s (IsCut.at_output is rose some none) = is
 cut_is before after r s (IsCut.at_line is all rose some) = is
 
-quietly : (before after : Seen) (a b : Reply) (s : Status) → IsDelivered a before.out after.out before.err after.err s → IsQuiet before after → (a ≡ b) ⊎ (a ≡ memory_reply) → GivesUnlessMemory b before after s
+abbrev Del : Reply → Seen → Seen → Status → Type 0
+Del a before after s = IsDelivered a before.out after.out before.err after.err s
+
+quietly : (before after : Seen) (a b : Reply) (s : Status) → Del a before after s → IsQuiet before after → (a ≡ b) ⊎ (a ≡ memory_reply) → GivesUnlessMemory b before after s
 quietly before after a b s (inl g) quiet e = one_of before after a b s e g
 quietly before after a b s (inr cut) quiet e = not_cut before after a s cut quiet
 
--- The reply to the bytes that were read.
-replied : (kind : JobKind) (file bytes : List ℕ) (before after : Seen) (r : Reply) → IsSource before.store.files file bytes → after.store.read_faults ≡ before.store.read_faults → IsOnlyReply kind bytes r → Replies kind file before after r
-replied kind file bytes before after r source reads only = record { bytes = bytes; source = source; reads = reads; is = only.is }
+some_given : (P : Reply → Type 0) (before after : Seen) (a : Reply) (s : Status) → P a ⊎ (a ≡ memory_reply) → Gives a before after s → GivesSome P before after s
+some_given P before after a s (inl is) g = inl (a, is, g)
+some_given P before after a s (inr e) g = inr (given_as before after a memory_reply s e g)
 
--- The answer is one that the job may reply.
-may : (kind : JobKind) (file : List ℕ) (before after : Seen) (a : Answer) → Ans kind file before after a → MayReply kind file before after (reply_of a)
-may kind file before after (Ok output) ans = MayReply.to_bytes (replied kind file ans.1.0 before after (output_reply output) ans.1.1 ans.0 ans.1.2)
-may kind file before after (Err (halt.Refused line)) ans = MayReply.to_bytes (replied kind file ans.1.0 before after (refused_reply line) ans.1.1 ans.0 ans.1.2)
-may kind file before after (Err halt.Unread) ans = MayReply.unread ans refl
-may kind file before after (Err halt.Memory) ans = MayReply.no_memory refl
+some_quietly : (P : Reply → Type 0) (before after : Seen) (a : Reply) (s : Status) → Del a before after s → IsQuiet before after → P a ⊎ (a ≡ memory_reply) → GivesSome P before after s
+some_quietly P before after a s (inl g) quiet is = some_given P before after a s is g
+some_quietly P before after a s (inr cut) quiet is = not_cut before after a s cut quiet
 
-abbrev Del : Answer → Seen → Seen → Status → Type 0
-Del a before after s = IsDelivered (reply_of a) before.out after.out before.err after.err s
+-- ---- each status, with what it says
 
--- Each status, with what it says.
-ended_done : (kind : JobKind) (file : List ℕ) (before after : Seen) (a : Answer) (s : Status) → Ans kind file before after a → Del a before after s → s ≡ statuses.Done
-    → (output : List ℕ) × Replies kind file before after (output_reply output) × Gives (output_reply output) before after s
-ended_done kind file before after a s ans (inr cut) e = let is = cut_is before after (reply_of a) s cut in absurd (cc)
-ended_done kind file before after (Ok output) s ans (inl g) e = (output, replied kind file ans.1.0 before after (output_reply output) ans.1.1 ans.0 ans.1.2, g)
-ended_done kind file before after (Err (halt.Refused line)) s ans (inl g) e = let is = g.status in absurd (cc)
-ended_done kind file before after (Err halt.Unread) s ans (inl g) e = let is = g.status in absurd (cc)
-ended_done kind file before after (Err halt.Memory) s ans (inl g) e = let is = g.status in absurd (cc)
+-- the status of a reply that was given is that of the reply
+not_of : {P : Type 0} (s : Status) (a : Reply) → s ≡ a.status → IsOfReply a.status → (IsOfReply s → ⊥) → P
+not_of s a e is not = absurd (not (subst IsOfReply (sym e) is))
 
-ended_refused : (kind : JobKind) (file : List ℕ) (before after : Seen) (a : Answer) (s : Status) → Ans kind file before after a → Del a before after s → s ≡ statuses.Refused
-    → (line : List ℕ) × Replies kind file before after (refused_reply line) × Gives (refused_reply line) before after s
-ended_refused kind file before after a s ans (inr cut) e = let is = cut_is before after (reply_of a) s cut in absurd (cc)
-ended_refused kind file before after (Ok output) s ans (inl g) e = let is = g.status in absurd (cc)
-ended_refused kind file before after (Err (halt.Refused line)) s ans (inl g) e = (line, replied kind file ans.1.0 before after (refused_reply line) ans.1.1 ans.0 ans.1.2, g)
-ended_refused kind file before after (Err halt.Unread) s ans (inl g) e = let is = g.status in absurd (cc)
-ended_refused kind file before after (Err halt.Memory) s ans (inl g) e = let is = g.status in absurd (cc)
+unread_is : (s : Status) (a : Reply) → s ≡ a.status → a ≡ unread_reply → s ≡ statuses.ReadFault
+unread_is s a e is = e ∙ ap (λ (x : Reply). x.status) is
 
-ended_unread : (kind : JobKind) (file : List ℕ) (before after : Seen) (a : Answer) (s : Status) → Ans kind file before after a → Del a before after s → s ≡ statuses.ReadFault → IsUnread file before after × Gives unread_reply before after s
-ended_unread kind file before after a s ans (inr cut) e = let is = cut_is before after (reply_of a) s cut in absurd (cc)
-ended_unread kind file before after (Ok output) s ans (inl g) e = let is = g.status in absurd (cc)
-ended_unread kind file before after (Err (halt.Refused line)) s ans (inl g) e = let is = g.status in absurd (cc)
-ended_unread kind file before after (Err halt.Unread) s ans (inl g) e = (ans, g)
-ended_unread kind file before after (Err halt.Memory) s ans (inl g) e = let is = g.status in absurd (cc)
+memory_is : (s : Status) (a : Reply) → s ≡ a.status → a ≡ memory_reply → s ≡ statuses.Memory
+memory_is s a e is = e ∙ ap (λ (x : Reply). x.status) is
 
-ended_cut : (kind : JobKind) (file : List ℕ) (before after : Seen) (a : Answer) (s : Status) → Ans kind file before after a → Del a before after s → s ≡ statuses.WriteFault → (reply : Reply) × MayReply kind file before after reply × Cuts reply before after s
-ended_cut kind file before after a s ans (inr cut) e = (reply_of a, may kind file before after a ans, cut)
-ended_cut kind file before after (Ok output) s ans (inl g) e = let is = g.status in absurd (cc)
-ended_cut kind file before after (Err (halt.Refused line)) s ans (inl g) e = let is = g.status in absurd (cc)
-ended_cut kind file before after (Err halt.Unread) s ans (inl g) e = let is = g.status in absurd (cc)
-ended_cut kind file before after (Err halt.Memory) s ans (inl g) e = let is = g.status in absurd (cc)
+named_by : (job : Job) (bytes : List ℕ) (before after : Seen) (a : Reply) → IsSource before.store.files job.file bytes → after.store.read_faults ≡ before.store.read_faults → IsLeft before.store.files (drop (most_read job.kind) bytes) after.store.rest → JobReply job bytes a → Replies job before after a
+named_by job bytes before after a source reads left is_reply = record { bytes = bytes; source = source; reads = reads; left = left; is = is_reply }
 
-ended_memory : (kind : JobKind) (file : List ℕ) (before after : Seen) (a : Answer) (s : Status) → Ans kind file before after a → Del a before after s → s ≡ statuses.Memory → Gives memory_reply before after s × (after.store.read_faults ≡ before.store.read_faults)
-ended_memory kind file before after a s ans (inr cut) e = let is = cut_is before after (reply_of a) s cut in absurd (cc)
-ended_memory kind file before after (Ok output) s ans (inl g) e = let is = g.status in absurd (cc)
-ended_memory kind file before after (Err (halt.Refused line)) s ans (inl g) e = let is = g.status in absurd (cc)
-ended_memory kind file before after (Err halt.Unread) s ans (inl g) e = let is = g.status in absurd (cc)
-ended_memory kind file before after (Err halt.Memory) s ans (inl g) e = (g, ans)
+ended_replied : (job : Job) (before after : Seen) (a : Reply) (s : Status) → Comes job before after a → Del a before after s → IsOfReply s → (reply : Reply) × Replies job before after reply × Gives reply before after s
+ended_replied job before after a s comes (inr cut) of = absurd (subst IsOfReply (cut_is before after a s cut) of)
+ended_replied job before after a s (Comes.to_bytes bytes source reads left is_reply) (inl g) of = (a, named_by job bytes before after a source reads left is_reply, g)
+ended_replied job before after a s (Comes.unread u e) (inl g) of = absurd (subst IsOfReply (unread_is s a g.status e) of)
+ended_replied job before after a s (Comes.no_memory reads e) (inl g) of = absurd (subst IsOfReply (memory_is s a g.status e) of)
 
-status_is : (s t : Status) → s ≡ t → IsOfJobs t → IsOfJobs s
-status_is s t e is = subst IsOfJobs (sym e) is
+ended_unread : (job : Job) (before after : Seen) (a : Reply) (s : Status) → Comes job before after a → Del a before after s → s ≡ statuses.ReadFault → IsUnread job.file before after × Gives unread_reply before after s
+ended_unread job before after a s comes (inr cut) e = let is = cut_is before after a s cut in absurd (cc)
+ended_unread job before after a s (Comes.to_bytes bytes source reads left is_reply) (inl g) e = not_of s a g.status (job_status job bytes a is_reply) (λ of. absurd (subst IsOfReply e of))
+ended_unread job before after a s (Comes.unread u is) (inl g) e = (u, given_as before after a unread_reply s is g)
+ended_unread job before after a s (Comes.no_memory reads is) (inl g) e = let m = memory_is s a g.status is in absurd (cc)
 
-ended_only : (before after : Seen) (a : Answer) (s : Status) → Del a before after s → IsOfJobs s
-ended_only before after a s (inr cut) = status_is s statuses.WriteFault (cut_is before after (reply_of a) s cut) tt
-ended_only before after (Ok output) s (inl g) = status_is s statuses.Done g.status tt
-ended_only before after (Err (halt.Refused line)) s (inl g) = status_is s statuses.Refused g.status tt
-ended_only before after (Err halt.Unread) s (inl g) = status_is s statuses.ReadFault g.status tt
-ended_only before after (Err halt.Memory) s (inl g) = status_is s statuses.Memory g.status tt
+may : (job : Job) (before after : Seen) (a : Reply) → Comes job before after a → MayReply job before after a
+may job before after a (Comes.to_bytes bytes source reads left is_reply) = MayReply.to_bytes (named_by job bytes before after a source reads left is_reply)
+may job before after a (Comes.unread u e) = MayReply.unread u e
+may job before after a (Comes.no_memory reads e) = MayReply.no_memory e
+
+ended_cut : (job : Job) (before after : Seen) (a : Reply) (s : Status) → Comes job before after a → Del a before after s → s ≡ statuses.WriteFault → (reply : Reply) × MayReply job before after reply × Cuts reply before after s
+ended_cut job before after a s comes (inr cut) e = (a, may job before after a comes, cut)
+ended_cut job before after a s (Comes.to_bytes bytes source reads left is_reply) (inl g) e = not_of s a g.status (job_status job bytes a is_reply) (λ of. absurd (subst IsOfReply e of))
+ended_cut job before after a s (Comes.unread u is) (inl g) e = let m = unread_is s a g.status is in absurd (cc)
+ended_cut job before after a s (Comes.no_memory reads is) (inl g) e = let m = memory_is s a g.status is in absurd (cc)
+
+ended_memory : (job : Job) (before after : Seen) (a : Reply) (s : Status) → Comes job before after a → Del a before after s → s ≡ statuses.Memory → Gives memory_reply before after s × (after.store.read_faults ≡ before.store.read_faults)
+ended_memory job before after a s comes (inr cut) e = let is = cut_is before after a s cut in absurd (cc)
+ended_memory job before after a s (Comes.to_bytes bytes source reads left is_reply) (inl g) e = not_of s a g.status (job_status job bytes a is_reply) (λ of. absurd (subst IsOfReply e of))
+ended_memory job before after a s (Comes.unread u is) (inl g) e = let m = unread_is s a g.status is in absurd (cc)
+ended_memory job before after a s (Comes.no_memory reads is) (inl g) e = (given_as before after a memory_reply s is g, reads)
+
+not_usage : (job : Job) (before after : Seen) (a : Reply) (s : Status) → Comes job before after a → Del a before after s → s ≢ statuses.Usage
+not_usage job before after a s comes (inr cut) e = let is = cut_is before after a s cut in absurd (cc)
+not_usage job before after a s (Comes.to_bytes bytes source reads left is_reply) (inl g) e = not_of s a g.status (job_status job bytes a is_reply) (λ of. absurd (subst IsOfReply e of))
+not_usage job before after a s (Comes.unread u is) (inl g) e = let m = unread_is s a g.status is in absurd (cc)
+not_usage job before after a s (Comes.no_memory reads is) (inl g) e = let m = memory_is s a g.status is in absurd (cc)
 
 -- No count of an output falls.
-out_later : (before after : Seen) (r : Reply) (s : Status) → IsDelivered r before.out after.out before.err after.err s → before.out.faults ≤ after.out.faults
+out_later : (before after : Seen) (r : Reply) (s : Status) → Del r before after s → before.out.faults ≤ after.out.faults
 out_later before after r s (inl g) = let same = g.output.faults in omega arith
 out_later before after r s (inr (IsCut.at_output is rose some none)) = some.later
 out_later before after r s (inr (IsCut.at_line is all rose some)) = let same = all.faults in omega arith
 
-err_later : (before after : Seen) (r : Reply) (s : Status) → IsDelivered r before.out after.out before.err after.err s → before.err.faults ≤ after.err.faults
+err_later : (before after : Seen) (r : Reply) (s : Status) → Del r before after s → before.err.faults ≤ after.err.faults
 err_later before after r s (inl g) = let same = g.line.faults in omega arith
 err_later before after r s (inr (IsCut.at_output is rose some none)) = let same : after.err.faults ≡ before.err.faults = ap (λ (k : SinkSeen). k.faults) none in omega arith
 err_later before after r s (inr (IsCut.at_line is all rose some)) = some.later
 
-pub does : (kind : JobKind) (file : List ℕ) (before after : Seen) (a : Answer) (s : Status) → Ans kind file before after a → Del a before after s → after.store.files ≡ before.store.files → after.store.save_faults ≡ before.store.save_faults
-    → before.store.read_faults ≤ after.store.read_faults → Does kind file before after s
-does kind file before after a s ans del files saves later = record {
-  done = ended_done kind file before after a s ans del;
-  refused = ended_refused kind file before after a s ans del;
-  read_fault = ended_unread kind file before after a s ans del;
-  write_fault = ended_cut kind file before after a s ans del;
-  memory = ended_memory kind file before after a s ans del;
-  only = ended_only before after a s del;
-  exactly = λ told r there is quiet. quietly before after (reply_of a) r s del quiet (settled kind file before after a ans told r there is quiet);
-  missing = λ lacks quiet. quietly before after (reply_of a) unread_reply s del quiet (lacking kind file before after a ans lacks);
-  headline = λ told p is_run there spells plain quiet. quietly before after (reply_of a) (output_reply (output_of p)) s del quiet
-      (settled kind file before after a ans told (output_reply (output_of p)) there (subst (λ (k : JobKind). JobReply k told (output_reply (output_of p))) (sym is_run) (JobReply.to_tree p spells (TreeReply.ran plain))) quiet);
+pub does : (job : Job) (before after : Seen) (a : Reply) (s : Status) → Comes job before after a → Del a before after s → after.store.files ≡ before.store.files → after.store.save_faults ≡ before.store.save_faults
+    → before.store.read_faults ≤ after.store.read_faults → Does job before after s
+does job before after a s comes del files saves later = record {
+  replied = ended_replied job before after a s comes del;
+  read_fault = ended_unread job before after a s comes del;
+  write_fault = ended_cut job before after a s comes del;
+  memory = ended_memory job before after a s comes del;
+  usage = not_usage job before after a s comes del;
+  exactly = λ told there quiet. some_quietly (JobReply job told) before after a s del quiet (settled job before after a comes told there quiet);
+  missing = λ lacks quiet. quietly before after a unread_reply s del quiet (lacking job before after a comes lacks);
   files = files;
   saves = saves;
   reads_later = later;
-  out_later = out_later before after (reply_of a) s del;
-  err_later = err_later before after (reply_of a) s del;
+  out_later = out_later before after a s del;
+  err_later = err_later before after a s del;
 }

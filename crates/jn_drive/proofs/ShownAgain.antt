@@ -6,8 +6,8 @@ use Rattle.jn_printer.specs.DeclText.{program_text}
 use Rattle.jn_printer.specs.WayBack.{SpellsWithin}
 use Rattle.jn_printer.proofs.TheWayBack.{way_back}
 use Rattle.jn_printer.proofs.TextUnseen.{same_text}
-use Rattle.jn_drive.specs.declared.words.JobKind.TheVariants as kinds
-use Rattle.jn_drive.specs.Reply.{JobReply, TreeReply, output_reply}
+use Rattle.jn_drive.specs.declared.words.SourceJob.TheVariants as sources
+use Rattle.jn_drive.specs.Reply.{SourceReply, TreeReply, output_reply}
 use Rattle.jn_drive.specs.Again.{IsShownAgain}
 use Rattle.jn_round_trip.proofs.Bridge.{within_is_text}
 
@@ -18,6 +18,6 @@ shown_again p bytes is short =
       spelled = back.spelled;
       same = back.same;
       is_text = text;
-      reply = JobReply.to_tree back.spelled text
-          (subst (λ (t : List ℕ). TreeReply back.spelled kinds.Show (output_reply t)) (same_text back.spelled p back.same) TreeReply.shown);
+      reply = SourceReply.to_tree back.spelled text
+          (subst (λ (t : List ℕ). TreeReply back.spelled sources.Show (output_reply t)) (same_text back.spelled p back.same) TreeReply.shown);
     }

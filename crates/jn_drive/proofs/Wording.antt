@@ -9,19 +9,20 @@ use Rattle.jn_drive.specs.declared.status.Status.{Status}
 use Rattle.jn_drive.specs.declared.status.Status.TheVariants as statuses
 use Rattle.jn_drive.specs.declared.halt.Halt.TheVariants as halt
 use Rattle.jn_drive.specs.declared.words.JobKind.{JobKind}
+use Rattle.jn_drive.specs.declared.words.Named.{Named}
 use Rattle.jn_drive.specs.Reply.{told, memory_reply}
 use Rattle.jn_drive.specs.Seen.{Seen, SinkSeen, TookAll, IsPut, IsCut, IsDelivered}
-use Rattle.jn_drive.specs.Words.{Job, kind_here, here, job_of}
+use Rattle.jn_drive.specs.Words.{Job, kind_here, with_kind, here, job_of}
 use Rattle.jn_drive.specs.Job.{DoesJob, Misused}
-use Rattle.jn_drive.proofs.Running.{does}
+use Rattle.jn_drive.proofs.Running.{Comes, does}
 
 -- ---- the job of the words
 
-pub job_named : (ws : List (List ℕ)) (j : words.Job) (kind : JobKind) → words.job_of ws ≡ Some j → Some kind ≡ kind_here j.kind → job_of ws ≡ Some (kind, j.file)
-job_named ws j kind is known = ap (option_and_then here) is ∙ ap (option_map (λ k. (k, j.file))) (sym known)
+pub job_named : (ws : List (List ℕ)) (j : words.Job) (kind : JobKind) → words.job_of ws ≡ Some j → Some kind ≡ kind_here j.kind → job_of ws ≡ Some (with_kind j kind)
+job_named ws j kind is known = ap (option_and_then here) is ∙ ap (option_map (with_kind j)) (sym known)
 
 pub not_here : (ws : List (List ℕ)) (j : words.Job) → words.job_of ws ≡ Some j → None ≡ kind_here j.kind → job_of ws ≡ None
-not_here ws j is none = ap (option_and_then here) is ∙ ap (option_map (λ k. (k, j.file))) (sym none)
+not_here ws j is none = ap (option_and_then here) is ∙ ap (option_map (with_kind j)) (sym none)
 
 -- ---- what is put on `err` alone
 
@@ -64,5 +65,5 @@ out_of_memory before err s (IsPut.cut is rose some) = record {
 -- There was no memory to read the words.
 pub words_unread : (job : Option Job) (before : Seen) (err : SinkSeen) (s : Status) → IsPut statuses.Memory memory_reply.line before.err err s → DoesJob job before (with_err before err) s
 words_unread None before err s put = out_of_memory before err s put
-words_unread (Some (kind, file)) before err s put =
-    does kind file before (with_err before err) (Err halt.Memory) s refl (line_put statuses.Memory memory_reply.line before err s put) refl refl (omega arith)
+words_unread (Some job) before err s put =
+    does job before (with_err before err) memory_reply s (Comes.no_memory refl refl) (line_put statuses.Memory memory_reply.line before err s put) refl refl (omega arith)

@@ -1,20 +1,15 @@
 -- What a call of `top` does, job by job: the cause of each status, and what the files and the outputs
 -- then are.
-use Rattle.std.specs.Prelude.{◌≡◌, ◌≢◌, ℕ, ◌≤◌, ◌⊎◌, List, ⊤, Some, None}
+use Rattle.std.specs.Prelude.{◌≡◌, ◌≢◌, ℕ, ◌≤◌, ◌⊎◌, List, drop, ⊤, Some, None}
 use Rattle.std.specs.declared.option.Option.{Option}
-use Rattle.jn_base.specs.declared.tree.Program.{Program}
 use Rattle.jn_io.specs.Causes.{Rose}
 use Rattle.jn_io.specs.Told.{Lacks}
-use Rattle.jn_base.specs.Spelling.{IsTextOf}
-use Rattle.jn_drive.specs.declared.words.JobKind.{JobKind}
-use Rattle.jn_drive.specs.declared.words.JobKind.TheVariants as kinds
 use Rattle.jn_drive.specs.declared.status.Status.{Status}
 use Rattle.jn_drive.specs.declared.status.Status.TheVariants as statuses
-use Rattle.jn_drive.specs.Meaning.{output_of}
-use Rattle.jn_drive.specs.Plain.{IsPlain}
 use Rattle.jn_drive.specs.Words.{Job}
-use Rattle.jn_drive.specs.Reply.{Reply, JobReply, usage_reply, refused_reply, unread_reply, memory_reply, output_reply}
-use Rattle.jn_drive.specs.Seen.{Seen, IsSource, IsToldSource, IsQuiet, IsGiven, IsCut}
+use Rattle.jn_drive.specs.Reply.{Reply, JobReply, usage_reply, unread_reply, memory_reply}
+use Rattle.jn_drive.specs.Seen.{Seen, IsSource, IsToldSource, IsLeft, IsQuiet, IsGiven, IsCut}
+use Rattle.jn_drive.specs.Reading.{most_read}
 
 -- The reply was given whole, in a call from `before` to `after`.
 abbrev pub Gives : Reply → Seen → Seen → Status → Type 0
@@ -28,54 +23,56 @@ Cuts reply before after s = IsCut reply before.out after.out before.err after.er
 abbrev pub GivesUnlessMemory : Reply → Seen → Seen → Status → Type 0
 GivesUnlessMemory reply before after s = Gives reply before after s ⊎ Gives memory_reply before after s
 
+-- One of these replies was given whole, or that memory ran out was told, with nothing on `out`.
+abbrev pub GivesSome : (Reply → Type 0) → Seen → Seen → Status → Type 0
+GivesSome P before after s = ((reply : Reply) × P reply × Gives reply before after s) ⊎ Gives memory_reply before after s
+
 -- A read failed in the call, or the file isn't there.
 abbrev pub IsUnread : List ℕ → Seen → Seen → Type 0
 IsUnread file before after = Rose before.store.read_faults after.store.read_faults ⊎ Lacks before.store.files file
 
--- The bytes of the file were read without a fault, and this is the job's reply to them.
-pub record Replies (kind : JobKind) (file : List ℕ) (before after : Seen) (reply : Reply) : Type 0 where
+-- The bytes of the file were read without a fault, and no more of them than the job reads at most; and this is the job's
+-- reply to them.
+pub record Replies (job : Job) (before after : Seen) (reply : Reply) : Type 0 where
   pub bytes : List ℕ
-  pub source : IsSource before.store.files file bytes
+  pub source : IsSource before.store.files job.file bytes
   pub reads : after.store.read_faults ≡ before.store.read_faults
-  pub is : JobReply kind bytes reply
+  pub left : IsLeft before.store.files (drop (most_read job.kind) bytes) after.store.rest
+  pub is : JobReply job bytes reply
 
 -- What the job may have begun to reply: what it replies to the bytes, or that the file can't be read,
 -- or that memory ran out.
-pub data MayReply (kind : JobKind) (file : List ℕ) (before after : Seen) (reply : Reply) : Type 0 where
-  to_bytes : Replies kind file before after reply → MayReply kind file before after reply
-  unread : IsUnread file before after → reply ≡ unread_reply → MayReply kind file before after reply
-  no_memory : reply ≡ memory_reply → MayReply kind file before after reply
+pub data MayReply (job : Job) (before after : Seen) (reply : Reply) : Type 0 where
+  to_bytes : Replies job before after reply → MayReply job before after reply
+  unread : IsUnread job.file before after → reply ≡ unread_reply → MayReply job before after reply
+  no_memory : reply ≡ memory_reply → MayReply job before after reply
 
--- The statuses of the jobs that there are.
-abbrev pub IsOfJobs : Status → Type 0
-IsOfJobs statuses.Done = ⊤
-IsOfJobs statuses.Refused = ⊤
-IsOfJobs statuses.ReadFault = ⊤
-IsOfJobs statuses.WriteFault = ⊤
-IsOfJobs statuses.Memory = ⊤
-IsOfJobs _ = ⊥
+-- The statuses that are replies to the bytes of a file.
+abbrev pub IsOfReply : Status → Type 0
+IsOfReply statuses.Usage = ⊥
+IsOfReply statuses.ReadFault = ⊥
+IsOfReply statuses.WriteFault = ⊥
+IsOfReply statuses.Memory = ⊥
+IsOfReply _ = ⊤
 
 -- A job on a file.
-pub record Does (kind : JobKind) (file : List ℕ) (before after : Seen) (s : Status) : Type 0 where
-  -- Done: the reply to the bytes was given, with its output on `out`; `err` took nothing, and no count rose.
-  pub done : s ≡ statuses.Done → (output : List ℕ) × Replies kind file before after (output_reply output) × Gives (output_reply output) before after s
-  -- Refused: the reply to the bytes was given, with its line on `err`; `out` took nothing, and no count rose.
-  pub refused : s ≡ statuses.Refused → (line : List ℕ) × Replies kind file before after (refused_reply line) × Gives (refused_reply line) before after s
+pub record Does (job : Job) (before after : Seen) (s : Status) : Type 0 where
+  -- Done, Refused, BadImage, Null, Zero, Arena, Depth, Steps: the reply to the bytes has this status, and was given whole,
+  -- its output on `out` and its line on `err`. No count rose.
+  pub replied : IsOfReply s → (reply : Reply) × Replies job before after reply × Gives reply before after s
   -- ReadFault: only where a read failed or the file isn't there. `out` took nothing.
-  pub read_fault : s ≡ statuses.ReadFault → IsUnread file before after × Gives unread_reply before after s
+  pub read_fault : s ≡ statuses.ReadFault → IsUnread job.file before after × Gives unread_reply before after s
   -- WriteFault: only where an output failed. Both took a prefix of what may be replied.
-  pub write_fault : s ≡ statuses.WriteFault → (reply : Reply) × MayReply kind file before after reply × Cuts reply before after s
+  pub write_fault : s ≡ statuses.WriteFault → (reply : Reply) × MayReply job before after reply × Cuts reply before after s
   -- Memory: `out` took nothing, and no count rose.
   pub memory : s ≡ statuses.Memory → Gives memory_reply before after s × (after.store.read_faults ≡ before.store.read_faults)
-  -- No other status.
-  pub only : IsOfJobs s
-  -- Where the bytes are told and no count rises, the reply to them is given: each status comes exactly where it is theirs.
-  pub exactly : (bytes : List ℕ) (reply : Reply) → IsToldSource before.store.files file bytes → JobReply kind bytes reply → IsQuiet before after → GivesUnlessMemory reply before after s
+  -- The words are a job.
+  pub usage : s ≢ statuses.Usage
+  -- Where the bytes are told and no count rises, a reply to them is given, or Memory. A job has one reply to some bytes, so
+  -- each status comes exactly where it is theirs.
+  pub exactly : (bytes : List ℕ) → IsToldSource before.store.files job.file bytes → IsQuiet before after → GivesSome (JobReply job bytes) before after s
   -- Where the told files lack the file and no count rises, it is ReadFault.
-  pub missing : Lacks before.store.files file → IsQuiet before after → GivesUnlessMemory unread_reply before after s
-  -- The headline for the plain form: of told bytes that spell a plain program the output of `run` is the program's.
-  pub headline : (bytes : List ℕ) (p : Program) → kind ≡ kinds.Run → IsToldSource before.store.files file bytes → IsTextOf p bytes → IsPlain p → IsQuiet before after
-      → GivesUnlessMemory (output_reply (output_of p)) before after s
+  pub missing : Lacks before.store.files job.file → IsQuiet before after → GivesUnlessMemory unread_reply before after s
   -- No file changes, and nothing is saved.
   pub files : after.store.files ≡ before.store.files
   pub saves : after.store.save_faults ≡ before.store.save_faults
@@ -101,4 +98,4 @@ pub record Misused (before after : Seen) (s : Status) : Type 0 where
 -- By the job that the words are.
 abbrev pub DoesJob : Option Job → Seen → Seen → Status → Type 0
 DoesJob None before after s = Misused before after s
-DoesJob (Some (kind, file)) before after s = Does kind file before after s
+DoesJob (Some job) before after s = Does job before after s

@@ -12,6 +12,7 @@ use Rattle.jn_drive.specs.Reply.{Reply}
 
 pub record StoreSeen : Type 0 where
   pub files : Option Files
+  pub rest : Option (List ℕ)
   pub read_faults : ℕ
   pub save_faults : ℕ
 
@@ -33,6 +34,11 @@ IsSource (Some files) file bytes = get files file ≡ Some bytes
 abbrev pub IsToldSource : Option Files → List ℕ → List ℕ → Type 0
 IsToldSource None file bytes = ⊥
 IsToldSource (Some files) file bytes = get files file ≡ Some bytes
+
+-- What is left to be read, where the files are told.
+abbrev pub IsLeft : Option Files → List ℕ → Option (List ℕ) → Type 0
+IsLeft None left rest = ⊤
+IsLeft (Some files) left rest = rest ≡ Some left
 
 -- No count rose in the call. (Nothing is saved in it.)
 pub record IsQuiet (before after : Seen) : Type 0 where

@@ -1,26 +1,46 @@
 -- Which words are a job that there is. A word is its bytes.
-use Rattle.std.specs.Prelude.{List, ℕ, Some, None, option_map, option_and_then}
+use Rattle.std.specs.Prelude.{List, ℕ, Some, None, option_map, option_and_then, string_bytes}
 use Rattle.std.specs.declared.option.Option.{Option}
 use Rattle.jn_jobs.specs.Jobs as words
 use Rattle.jn_jobs.specs.declared.JobKind.{JobKind as WordKind}
 use Rattle.jn_jobs.specs.declared.JobKind.TheVariants as word
 use Rattle.jn_drive.specs.declared.words.JobKind.{JobKind}
 use Rattle.jn_drive.specs.declared.words.JobKind.TheVariants as kinds
+use Rattle.jn_drive.specs.declared.words.SourceJob.TheVariants as sources
+use Rattle.jn_drive.specs.declared.words.Named.{Named}
 
--- The jobs that there are: `show`, `run` and `check`. The others are no jobs until they come.
+-- The jobs that there are: `show`, `run` and `check` on a source, and `exec`. The others are no jobs until they come.
 abbrev pub kind_here : WordKind → Option JobKind
-kind_here word.Show = Some kinds.Show
-kind_here word.Run = Some kinds.Run
-kind_here word.Check = Some kinds.Check
+kind_here word.Show = Some (kinds.OnSource sources.Show)
+kind_here word.Run = Some (kinds.OnSource sources.Run)
+kind_here word.Check = Some (kinds.OnSource sources.Check)
+kind_here word.Exec = Some kinds.Exec
 kind_here other = None
 
--- A job, and the file that it is done on.
-abbrev pub Job : Type 0
-Job = JobKind × List ℕ
+-- A job: the file that it is done on, and the bounds of a run.
+pub record Job : Type 0 where
+  pub kind : JobKind
+  pub file : List ℕ
+  pub arena : ℕ
+  pub depth : ℕ
+  pub steps : ℕ
+
+abbrev pub with_kind : words.Job → JobKind → Job
+with_kind job kind = record { kind = kind; file = job.file; arena = job.arena; depth = job.depth; steps = job.steps }
 
 abbrev pub here : words.Job → Option Job
-here job = option_map (λ kind. (kind, job.file)) (kind_here job.kind)
+here job = option_map (with_kind job) (kind_here job.kind)
 
 -- The job of the words: `show a.j` is the job Show on a.j, and `build a.j a.img` is none yet.
 abbrev pub job_of : List (List ℕ) → Option Job
 job_of ws = option_and_then here (words.job_of ws)
+
+-- the job that was made of the words
+abbrev pub named : Named → Job
+named n = record {
+  kind = n.kind;
+  file = string_bytes n.words.file;
+  arena = n.words.arena;
+  depth = n.words.depth;
+  steps = n.words.steps;
+}

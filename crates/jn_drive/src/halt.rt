@@ -12,6 +12,8 @@ use std::alloc::AllocError;
 pub enum Halt {
     /// The source is refused, with this line.
     Refused(Items<u8>),
+    /// The bytes spell no valid image, as this line tells.
+    BadImage(Items<u8>),
     /// The file isn't there, or couldn't be read.
     Unread,
     /// Memory ran out.
@@ -40,6 +42,7 @@ pub fn status_of(halt: &Halt) -> Status
 {
     match halt {
         Halt::Refused(_) => Status::Refused,
+        Halt::BadImage(_) => Status::BadImage,
         Halt::Unread => Status::ReadFault,
         Halt::Memory => Status::Memory,
     }
@@ -51,6 +54,7 @@ pub fn line_of(halt: &Halt) -> &[u8]
 {
     match halt {
         Halt::Refused(line) => line.as_slice(),
+        Halt::BadImage(line) => line.as_slice(),
         Halt::Unread => b"fault: read\n",
         Halt::Memory => b"fault: memory\n",
     }

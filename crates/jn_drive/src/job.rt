@@ -2,19 +2,22 @@ ghost use Rattle.std.specs.Prelude.{◌≡◌, ◌≤◌, IfOk, None, option_cop
 ghost use Rattle.jn_base.specs.WithinLimits.{IsWithinLimits};
 ghost use Rattle.jn_heads.specs.Told.{Told, itself};
 ghost use Rattle.jn_drive.specs.Reply.{OutsideVerdict};
-ghost use Rattle.jn_drive.specs.declared.words.JobKind.TheVariants.{Check};
+ghost use Rattle.jn_drive.specs.declared.words.SourceJob.TheVariants.{Check};
+ghost use Rattle.jn_drive.specs.declared.words.JobKind.TheVariants.{OnSource};
+ghost use Rattle.jn_drive.specs.Words.{named};
 ghost use Rattle.jn_drive.specs.Meaning.{output_of};
 ghost use Rattle.jn_drive.specs.Answer.{AnswersTree, IsRefusedBy, IsOfFault, IsNotTaken, Judges, Answers, too_long_refusal};
 ghost use Rattle.jn_drive.specs.Job.{Does};
 
 use crate::code::code_of;
+use crate::exec::exec;
 use crate::halt::Halt;
 use crate::machine::run_code;
 use crate::plain::is_plain;
 use crate::put::deliver;
-use crate::read::read_source;
+use crate::read::read_file;
 use crate::status::Status;
-use crate::words::JobKind;
+use crate::words::{JobKind, Named, SourceJob};
 use jn_base::refusal::{Refusal, Rule};
 use jn_base::tree::{Place, Program};
 use jn_header::{CheckFault, check_headers, check_names};
@@ -35,22 +38,22 @@ const LIMIT: usize = 1_048_576;
 /// The file is read whole first, or its first 1,048,577 bytes.
 fn answer<S: Store>(
     alloc: Global,
-    kind: JobKind,
+    kind: SourceJob,
     file: &str,
     store: &mut S,
 ) -> Result<Items<u8>, Halt>
-    ensures answer { Answers kind (S.files store.old) file.now
+    ensures answer { Answers kind 1048577 (S.files store.old) file.now (S.rest store.new)
         (S.read_faults store.old) (S.read_faults store.new) result }
     ensures files { S.files store.new ≡ S.files store.old }
     ensures saves { S.save_faults store.new ≡ S.save_faults store.old }
     ensures later { S.read_faults store.old ≤ S.read_faults store.new }
 {
-    let source = read_source(alloc, file, store)?;
+    let source = read_file(alloc, file, LIMIT + 1, store)?;
     judge(alloc, kind, source.as_slice())
 }
 
 /// What the bytes of a source come to.
-fn judge(alloc: Global, kind: JobKind, source: &[u8]) -> Result<Items<u8>, Halt>
+fn judge(alloc: Global, kind: SourceJob, source: &[u8]) -> Result<Items<u8>, Halt>
     ensures { Judges kind source.now result }
 {
     if source.len() > LIMIT {
@@ -96,15 +99,15 @@ fn refused(alloc: Global, program: Option<&Program>, refusal: &Refusal) -> Halt
 }
 
 /// What a tree comes to.
-fn answer_tree(alloc: Global, kind: JobKind, program: &Program) -> Result<Items<u8>, Halt>
+fn answer_tree(alloc: Global, kind: SourceJob, program: &Program) -> Result<Items<u8>, Halt>
     requires { IsWithinLimits program.now }
     ensures { AnswersTree program.now kind result }
 {
     match kind {
-        JobKind::Show => Ok(Items::from_vec(print_program(alloc, program)?)),
-        JobKind::Run if is_plain(program) => Ok(output(alloc, program)?),
-        JobKind::Run => Err(not_taken(alloc)),
-        JobKind::Check => checked(alloc, program),
+        SourceJob::Show => Ok(Items::from_vec(print_program(alloc, program)?)),
+        SourceJob::Run if is_plain(program) => Ok(output(alloc, program)?),
+        SourceJob::Run => Err(not_taken(alloc)),
+        SourceJob::Check => checked(alloc, program),
     }
 }
 
@@ -158,19 +161,21 @@ fn output(alloc: Global, program: &Program) -> Result<Items<u8>, AllocError>
     Ok(Items::from_vec(bytes))
 }
 
-/// A job on a file. Its reply is made first, and then put.
-pub fn do_job<S: Store, O: Sink, E: Sink>(
+/// A job on a source. Its reply is made first, and then put.
+fn on_source<S: Store, O: Sink, E: Sink>(
     alloc: Global,
-    kind: JobKind,
-    file: &str,
+    kind: SourceJob,
+    job: &Named,
     store: &mut S,
     out: &mut O,
     err: &mut E,
 ) -> Status
-    ensures { Does kind file.now
+    requires { job.now.kind ≡ OnSource kind }
+    ensures { Does (named job.now)
         (record {
           store = record {
             files = S.files store.old;
+            rest = S.rest store.old;
             read_faults = S.read_faults store.old;
             save_faults = S.save_faults store.old;
           };
@@ -180,6 +185,7 @@ pub fn do_job<S: Store, O: Sink, E: Sink>(
         (record {
           store = record {
             files = S.files store.new;
+            rest = S.rest store.new;
             read_faults = S.read_faults store.new;
             save_faults = S.save_faults store.new;
           };
@@ -188,6 +194,43 @@ pub fn do_job<S: Store, O: Sink, E: Sink>(
         })
         result }
 {
-    let answer = answer(alloc, kind, file, store);
+    let answer = answer(alloc, kind, job.words.file.as_str(), store);
     deliver(answer, out, err)
+}
+
+/// A job on a file.
+pub fn do_job<S: Store, O: Sink, E: Sink>(
+    alloc: Global,
+    job: &Named,
+    store: &mut S,
+    out: &mut O,
+    err: &mut E,
+) -> Status
+    ensures { Does (named job.now)
+        (record {
+          store = record {
+            files = S.files store.old;
+            rest = S.rest store.old;
+            read_faults = S.read_faults store.old;
+            save_faults = S.save_faults store.old;
+          };
+          out = record { taken = O.taken out.old; faults = O.faults out.old };
+          err = record { taken = E.taken err.old; faults = E.faults err.old };
+        })
+        (record {
+          store = record {
+            files = S.files store.new;
+            rest = S.rest store.new;
+            read_faults = S.read_faults store.new;
+            save_faults = S.save_faults store.new;
+          };
+          out = record { taken = O.taken out.new; faults = O.faults out.new };
+          err = record { taken = E.taken err.new; faults = E.faults err.new };
+        })
+        result }
+{
+    match job.kind {
+        JobKind::OnSource(kind) => on_source(alloc, kind, job, store, out, err),
+        JobKind::Exec => exec(alloc, job, store, out, err),
+    }
 }

@@ -2,6 +2,7 @@
 #![tactic(auto)]
 
 mod code;
+mod exec;
 mod halt;
 mod job;
 pub mod laws;
@@ -25,9 +26,9 @@ pub use status::Status;
 use std::alloc::Global;
 
 /// Does the job that the words are: `show FILE` puts the canonical text of the program that the file
-/// spells on `out`, `run FILE` runs it and puts what it prints, and `check FILE` puts nothing. A source that
+/// spells on `out`, `run FILE` runs it and puts what it prints, `check FILE` puts nothing, and `exec FILE` runs an image. A source that
 /// spells none is refused by a line on `err`, and by `check` one that breaks a rule outside its bodies. The options
-/// `--arena`, `--depth` and `--steps` may come with each job. All other words are answered by the usage line.
+/// `--arena`, `--depth` and `--steps` may come with each job, and bound what `exec` runs. All other words are answered by the usage line.
 ///
 /// `DoesJob` in specs/Job.antt says for each status when it comes, and what the files and the outputs
 /// then are.
@@ -45,6 +46,7 @@ pub fn top<S: Store, O: Sink, E: Sink>(
         (record {
           store = record {
             files = S.files store.old;
+            rest = S.rest store.old;
             read_faults = S.read_faults store.old;
             save_faults = S.save_faults store.old;
           };
@@ -54,6 +56,7 @@ pub fn top<S: Store, O: Sink, E: Sink>(
         (record {
           store = record {
             files = S.files store.new;
+            rest = S.rest store.new;
             read_faults = S.read_faults store.new;
             save_faults = S.save_faults store.new;
           };
@@ -63,7 +66,7 @@ pub fn top<S: Store, O: Sink, E: Sink>(
         result }
 {
     match job_in(alloc, words) {
-        Ok(job) => do_job(alloc, job.kind, job.words.file.as_str(), store, out, err),
+        Ok(job) => do_job(alloc, &job, store, out, err),
         Err(WordsFault::Usage) => misuse(err),
         Err(WordsFault::Memory) => no_memory(err),
     }

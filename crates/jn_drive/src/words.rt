@@ -1,18 +1,27 @@
 ghost use Rattle.std.specs.Prelude.{◌≡◌, IfErr, IfOk, None, Some, map, string_bytes};
-ghost use Rattle.jn_drive.specs.Words.{job_of, kind_here};
+ghost use Rattle.jn_drive.specs.Words.{job_of, kind_here, named};
 
 use jn_jobs::{JobWords, WordsFault, job};
 use std::alloc::Global;
 
-/// The jobs that there are.
+/// What is done with a source.
 #[derive(Clone, Copy, Debug, PartialEq, Eq)]
-pub enum JobKind {
+pub enum SourceJob {
     /// Puts the canonical text of a program.
     Show,
     /// Runs a program.
     Run,
     /// Tells what is refused of a program.
     Check,
+}
+
+/// The jobs that there are.
+#[derive(Clone, Copy, Debug, PartialEq, Eq)]
+pub enum JobKind {
+    /// One on a source.
+    OnSource(SourceJob),
+    /// Runs an image.
+    Exec,
 }
 
 /// A job that there is, and its words.
@@ -25,7 +34,7 @@ pub struct Named {
 /// The job that the words are. Usage comes exactly where they are none that there is; Memory may come at any words.
 #[tactic(auto, using(crate::proofs::Wording::job_named, crate::proofs::Wording::not_here))]
 pub fn job_in(alloc: Global, words: &[String]) -> Result<Named, WordsFault>
-    ensures ok { IfOk result (λ n. job_of (map string_bytes words.now) ≡ Some (n.kind, string_bytes n.words.file)) }
+    ensures ok { IfOk result (λ n. job_of (map string_bytes words.now) ≡ Some (named n)) }
     ensures usage { IfErr result (λ e. e ≡ WordsFault.Usage → job_of (map string_bytes words.now) ≡ None) }
 {
     let words = job(alloc, words)?;
@@ -40,9 +49,10 @@ fn kind_here(kind: jn_jobs::JobKind) -> Option<JobKind>
     ensures { result ≡ kind_here kind }
 {
     match kind {
-        jn_jobs::JobKind::Show => Some(JobKind::Show),
-        jn_jobs::JobKind::Run => Some(JobKind::Run),
-        jn_jobs::JobKind::Check => Some(JobKind::Check),
+        jn_jobs::JobKind::Show => Some(JobKind::OnSource(SourceJob::Show)),
+        jn_jobs::JobKind::Run => Some(JobKind::OnSource(SourceJob::Run)),
+        jn_jobs::JobKind::Check => Some(JobKind::OnSource(SourceJob::Check)),
+        jn_jobs::JobKind::Exec => Some(JobKind::Exec),
         _ => None,
     }
 }

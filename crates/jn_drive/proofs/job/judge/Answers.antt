@@ -11,7 +11,7 @@ pub answer_tree-requires : goal.answer_tree-requires
 answer_tree-requires c = within_limits _ _ c.in-Ok.ensures.found
 
 pub returns-in-Ok : goal.returns-in-Ok
-returns-in-Ok c = spelled _ _ _ c.in-Ok.ensures.found (λ q is. c.in-Ok.ensures.only q is) _ c.answer_tree.ensures
+returns-in-Ok c = spelled _ _ _ c.in-Ok.ensures.found _ c.answer_tree.ensures
 
 pub returns-in-Err : goal.returns-in-Err
-returns-in-Err c = fault_judged _ _ _ c.unparsed.result c.unparsed.ensures c.in-Err.ensures.refused c.in-Err.ensures.only_refused
+returns-in-Err c = fault_judged _ _ _ c.unparsed.result c.unparsed.ensures c.in-Err.ensures.refused

@@ -1,0 +1,120 @@
+-- A job has one reply to some bytes.
+use Rattle.std.proofs.Common.{take, drop, min, ◌≡◌, ◌∙◌, ℕ, ◌≤◌, ◌<◌, ◌+◌, ◌⊎◌, inl, inr, List, [], ◌∷◌, ◌++◌, length, sym, ap, subst, refl, append-nil, length-append, Ok, Err, None, Some, arith, Bool, nat_lt, true, false, Result}
+use Rattle.std.proofs.lemmas.Bool.{ltb-true, ltb-false}
+use Rattle.std.proofs.lemmas.List.{take_all, length-take}
+use Rattle.std.specs.declared.option.Option.{Option}
+use Rattle.jn_base.specs.declared.tree.Program.{Program}
+use Rattle.jn_base.specs.declared.refusal.Refusal.{Refusal}
+use Rattle.jn_base.specs.Spelling.{IsTextOf, IsTextRefused, greatest_source}
+use Rattle.jn_base.specs.Duplicates.{duplicates, IsFirstDuplicate}
+use Rattle.jn_base.specs.ProgramNames.{IsNamed}
+use Rattle.jn_base.specs.WithinLimits.{IsWithinLimits}
+use Rattle.jn_heads.specs.declared.fault.CheckFault.{CheckFault}
+use Rattle.jn_heads.specs.declared.fault.CheckFault.TheVariants as check_fault
+use Rattle.jn_heads.specs.Told.{Told, itself}
+use Rattle.jn_header.specs.Check.{NamesVerdict}
+use Rattle.jn_header.specs.Judged.{nothing}
+use Rattle.jn_laws.proofs.PlacesAside.{programs_within_limits}
+use Rattle.jn_rules.specs.Plans.{Nothing}
+use Rattle.jn_rules.specs.Verdict.{HeadersVerdict}
+use Rattle.jn_rule_laws.proofs.Verdicts.{one_headers}
+use Rattle.jn_words.specs.Line.{line_of}
+use Rattle.jn_sources.specs.OneVerdict.{OneTextVerdict}
+use Rattle.jn_sources.proofs.Answered.{one_verdict}
+use Rattle.jn_steps.specs.Runs.{Report}
+use Rattle.jn_code.specs.declared.image.Image.{Image}
+use Rattle.jn_code.specs.declared.fault.ImageFault.{ImageFault}
+use Rattle.jn_code.specs.Machine as code
+use Rattle.jn_code.specs.Machine.{mach}
+use Rattle.jn_exec.specs.Images.{valid_image_of}
+use Rattle.jn_drive.specs.declared.status.Status.{Status}
+use Rattle.jn_drive.specs.declared.words.JobKind.{JobKind}
+use Rattle.jn_drive.specs.declared.words.JobKind.TheVariants as kinds
+use Rattle.jn_drive.specs.Words.{Job}
+use Rattle.jn_parser.specs.declared.fault.ParseFault.{ParseFault}
+use Rattle.jn_parser.specs.declared.fault.ParseFault.TheVariants as parse_fault
+use Rattle.jn_parser.specs.Parsing.{IfRefused, IsRefused}
+use Rattle.jn_drive.specs.declared.halt.Halt.{Halt}
+use Rattle.jn_drive.specs.declared.halt.Halt.TheVariants as halt
+use Rattle.jn_drive.specs.declared.words.SourceJob.{SourceJob}
+use Rattle.jn_drive.specs.declared.words.SourceJob.TheVariants as sources
+use Rattle.jn_printer.specs.DeclText.{program_text}
+use Rattle.jn_drive.specs.Meaning.{output_of}
+use Rattle.jn_drive.specs.Plain.{IsPlain}
+use Rattle.jn_drive.specs.Reply.{Reply, OutsidePasses, OutsideRefuses, TreeReply, SourceReply, JobReply, ReplyBy, ImageReply, RunReply, IsToldAs, refused_reply}
+use Rattle.jn_base.proofs.SpelledNames.{spelled_is_named}
+
+
+not_once : {p : Program} {r : Refusal} → IsFirstDuplicate p r → duplicates p ≡ [] → ⊥
+not_once {p} {r} d e = clash (sym d.is ∙ e) where
+  clash : r ∷ d.others ≡ [] → ⊥
+  clash h = cc h
+
+same_twice : (p : Program) (r s : Refusal) → IsFirstDuplicate p r → IsFirstDuplicate p s → r ≡ s
+same_twice p r s c d = same (sym c.is ∙ d.is) where
+  same : r ∷ c.others ≡ s ∷ d.others → r ≡ s
+  same e = cc e
+
+outside_not_both : (p : Program) → IsNamed p → (r : Refusal) → OutsideRefuses p r → OutsidePasses p → ⊥
+outside_not_both p named r (OutsideRefuses.twice d) o = not_once d o.once
+outside_not_both p named r (OutsideRefuses.headers e h) o = clash ((one_headers p e named).one (Err r) (Ok tt) h o.headers) where
+  clash : (let a : Result Nothing Refusal = Err r in a ≡ Ok tt) → ⊥
+  clash k = cc k
+
+outside_once : (p : Program) → IsNamed p → (r s : Refusal) → OutsideRefuses p r → OutsideRefuses p s → r ≡ s
+outside_once p named r s (OutsideRefuses.twice c) (OutsideRefuses.twice d) = same_twice p r s c d
+outside_once p named r s (OutsideRefuses.twice c) (OutsideRefuses.headers e h) = absurd (not_once c e)
+outside_once p named r s (OutsideRefuses.headers e h) (OutsideRefuses.twice d) = absurd (not_once d e)
+outside_once p named r s (OutsideRefuses.headers e h) (OutsideRefuses.headers f k) = same ((one_headers p e named).one (Err r) (Err s) h k) where
+  same : (let a : Result Nothing Refusal = Err r in a ≡ Err s) → r ≡ s
+  same g = cc g
+
+-- A tree has one reply.
+tree_once : (p : Program) → IsNamed p → (kind : SourceJob) (a b : Reply) → TreeReply p kind a → TreeReply p kind b → a ≡ b
+tree_once p named kind a b TreeReply.shown TreeReply.shown = refl
+tree_once p named kind a b (TreeReply.ran is) (TreeReply.ran is') = refl
+tree_once p named kind a b (TreeReply.ran is) (TreeReply.not_taken not) = absurd (not is)
+tree_once p named kind a b (TreeReply.not_taken not) (TreeReply.ran is) = absurd (not is)
+tree_once p named kind a b (TreeReply.not_taken not) (TreeReply.not_taken not') = refl
+tree_once p named kind a b (TreeReply.passed is) (TreeReply.passed is') = refl
+tree_once p named kind a b (TreeReply.passed is) (TreeReply.not_passed r by) = absurd (outside_not_both p named r by is)
+tree_once p named kind a b (TreeReply.not_passed r by) (TreeReply.passed is) = absurd (outside_not_both p named r by is)
+tree_once p named kind a b (TreeReply.not_passed r by) (TreeReply.not_passed s by') =
+    ap (λ (x : Refusal). refused_reply (line_of (Some p) x)) (outside_once p named r s by by')
+
+
+source_once : (kind : SourceJob) (bytes : List ℕ) (a b : Reply) → OneTextVerdict bytes → SourceReply kind bytes a → SourceReply kind bytes b → a ≡ b
+source_once kind bytes a b one (SourceReply.refused r by e) (SourceReply.refused s by' e') = e ∙ ap (λ (x : Refusal). refused_reply (line_of None x)) (one.refusal r s by by') ∙ sym e'
+source_once kind bytes a b one (SourceReply.refused r by e) (SourceReply.to_tree p is tree) = absurd (one.not_both p r is by)
+source_once kind bytes a b one (SourceReply.to_tree p is tree) (SourceReply.refused r by e) = absurd (one.not_both p r is by)
+source_once kind bytes a b one (SourceReply.to_tree p is tree) (SourceReply.to_tree q is' tree') =
+    tree_once p (spelled_is_named p bytes is.spelled) kind a b tree (subst (λ (t : Program). TreeReply t kind b) (sym (one.program p q is is')) tree')
+
+-- a run is told in one way
+end_once : (outcome : Option code.Halt) (s t : Status) (line line' : List ℕ) → IsToldAs outcome s line → IsToldAs outcome t line' → (s ≡ t) × (line ≡ line')
+end_once (Some code.Done) s t line line' a b = (a.0 ∙ sym b.0, a.1 ∙ sym b.1)
+end_once (Some code.Null) s t line line' a b = (a.0 ∙ sym b.0, a.1 ∙ sym b.1)
+end_once (Some code.Zero) s t line line' a b = (a.0 ∙ sym b.0, a.1 ∙ sym b.1)
+end_once (Some code.Arena) s t line line' a b = (a.0 ∙ sym b.0, a.1 ∙ sym b.1)
+end_once (Some code.Depth) s t line line' a b = (a.0 ∙ sym b.0, a.1 ∙ sym b.1)
+end_once (Some code.Stuck) s t line line' a b = absurd a
+end_once None s t line line' a b = (a.0 ∙ sym b.0, a.1 ∙ sym b.1)
+
+same_reply : (a b : Reply) → a.output ≡ b.output → a.line ≡ b.line → a.status ≡ b.status → a ≡ b
+same_reply a b o l s i = record { output = o i; line = l i; status = s i }
+
+run_once : (r : Report code.Halt) (a b : Reply) → RunReply r a → RunReply r b → a ≡ b
+run_once r a b x y =
+    let e = end_once r.outcome a.status b.status a.line b.line x.ended y.ended in same_reply a b (x.output ∙ sym y.output) e.1 e.0
+
+image_once : (job : Job) (image : Result Image ImageFault) (a b : Reply) → ImageReply job image a → ImageReply job image b → a ≡ b
+image_once job (Ok i) a b x y = run_once (mach i job.arena job.depth job.steps) a b x y
+image_once job (Err f) a b x y = x ∙ sym y
+
+
+reply_once : (kind : JobKind) (job : Job) (bytes : List ℕ) (a b : Reply) → ReplyBy kind job bytes a → ReplyBy kind job bytes b → a ≡ b
+reply_once (kinds.OnSource kind) job bytes a b x y = source_once kind bytes a b (one_verdict bytes) x y
+reply_once kinds.Exec job bytes a b x y = image_once job (valid_image_of bytes) a b x y
+
+pub one_reply : (job : Job) (bytes : List ℕ) (a b : Reply) → JobReply job bytes a → JobReply job bytes b → a ≡ b
+one_reply job bytes a b x y = reply_once job.kind job bytes a b x y
