@@ -75,7 +75,7 @@ pub machine_runs : (job : Job) (before after : Seen) (m : MachineState) (a : Rep
     → RunReply (mach m.image m.arena m.depth job.steps) a → Comes job before after a
 machine_runs job before after m a is (bytes, read, for) run =
     let bounds : RunReply (mach m.image job.arena job.depth job.steps) a
-          = subst (λ (n : ℕ). RunReply (mach m.image n job.depth job.steps) a) for.arena_is (subst (λ (d : ℕ). RunReply (mach m.image m.arena d job.steps) a) for.depth_is run) in
+    = subst (λ (n : ℕ). RunReply (mach m.image n job.depth job.steps) a) for.arena_is (subst (λ (d : ℕ). RunReply (mach m.image m.arena d job.steps) a) for.depth_is run) in
     has_read job before after bytes a is read (subst (λ (r : Result Image ImageFault). ImageReply job r a) (sym for.image) bounds)
 
 -- ---- loading
@@ -102,12 +102,16 @@ all_read job files bytes rest' f f' is source left same = record {
 
 pub machine_loaded : (job : Job) (files : Option Files) (front : List ℕ) (rest' : Option (List ℕ)) (f f' : ℕ) (m : MachineState) → job.kind ≡ kinds.Exec → ReadsFile 134217729 files job.file rest' f f' (Ok front) → IsMachineFor front job.arena job.depth m
     → Loads job files rest' f f' (Ok m)
-machine_loaded job files front rest' f f' m is (same, (bytes, source, part, left)) for = (bytes, all_read job files bytes rest' f f' is source left same, record {
-      image = sym (front_same bytes front part) ∙ for.image;
-      arena_is = for.arena_is;
-      depth_is = for.depth_is;
-      fresh = for.fresh;
-    })
+machine_loaded job files front rest' f f' m is (same, (bytes, source, part, left)) for = (
+  bytes,
+  all_read job files bytes rest' f f' is source left same,
+  record {
+    image = sym (front_same bytes front part) ∙ for.image;
+    arena_is = for.arena_is;
+    depth_is = for.depth_is;
+    fresh = for.fresh;
+  },
+)
 
 pub fault_loaded : (job : Job) (files : Option Files) (front : List ℕ) (rest' : Option (List ℕ)) (f f' : ℕ) (e : ImageFault) (h : Halt) → job.kind ≡ kinds.Exec → ReadsFile 134217729 files job.file rest' f f' (Ok front) → IsFaultOf front e → IsBadImage e h
     → Loads job files rest' f f' (Err h)

@@ -38,12 +38,15 @@ line_told r outcome wanted line out out' err err' s c t (IsPut.cut is rose some)
     (ended_reply r wanted line, run_reply r outcome wanted line c.came t, inr (IsCut.at_line is (took_all r outcome out out' c) rose some))
 
 done_told : (r : Report code.Halt) (out out' err err' : SinkSeen) (s : Status) → CameTo r (Some code.Done) out.taken out'.taken out.faults out'.faults → s ≡ statuses.Done → err' ≡ err → Tells r out out' err err' s
-done_told r out out' err err' s c is same =
-    (ended_reply r statuses.Done [], run_reply r (Some code.Done) statuses.Done [] c.came (refl, refl), inl (record {
-      status = is;
-      output = took_all r (Some code.Done) out out' c;
-      line = record { taken = ap (λ (k : SinkSeen). k.taken) same ∙ append_nothing err.taken; faults = ap (λ (k : SinkSeen). k.faults) same };
-    }))
+done_told r out out' err err' s c is same = (
+  ended_reply r statuses.Done [],
+  run_reply r (Some code.Done) statuses.Done [] c.came (refl, refl),
+  inl (record {
+    status = is;
+    output = took_all r (Some code.Done) out out' c;
+    line = record { taken = ap (λ (k : SinkSeen). k.taken) same ∙ append_nothing err.taken; faults = ap (λ (k : SinkSeen). k.faults) same };
+  }),
+)
 
 -- each run but a stuck one has a reply
 reply_for : (r : Report code.Halt) (outcome : Option code.Halt) → r.outcome ≡ outcome → outcome ≢ Some code.Stuck → (reply : Reply) × RunReply r reply

@@ -44,7 +44,6 @@ use Rattle.jn_drive.specs.Plain.{IsPlain}
 use Rattle.jn_drive.specs.Reply.{Reply, OutsidePasses, OutsideRefuses, TreeReply, SourceReply, JobReply, ReplyBy, ImageReply, RunReply, IsToldAs, refused_reply}
 use Rattle.jn_base.proofs.SpelledNames.{spelled_is_named}
 
-
 not_once : {p : Program} {r : Refusal} → IsFirstDuplicate p r → duplicates p ≡ [] → ⊥
 not_once {p} {r} d e = clash (sym d.is ∙ e) where
   clash : r ∷ d.others ≡ [] → ⊥
@@ -82,7 +81,6 @@ tree_once p named kind a b (TreeReply.not_passed r by) (TreeReply.passed is) = a
 tree_once p named kind a b (TreeReply.not_passed r by) (TreeReply.not_passed s by') =
     ap (λ (x : Refusal). refused_reply (line_of (Some p) x)) (outside_once p named r s by by')
 
-
 source_once : (kind : SourceJob) (bytes : List ℕ) (a b : Reply) → OneTextVerdict bytes → SourceReply kind bytes a → SourceReply kind bytes b → a ≡ b
 source_once kind bytes a b one (SourceReply.refused r by e) (SourceReply.refused s by' e') = e ∙ ap (λ (x : Refusal). refused_reply (line_of None x)) (one.refusal r s by by') ∙ sym e'
 source_once kind bytes a b one (SourceReply.refused r by e) (SourceReply.to_tree p is tree) = absurd (one.not_both p r is by)
@@ -110,7 +108,6 @@ run_once r a b x y =
 image_once : (job : Job) (image : Result Image ImageFault) (a b : Reply) → ImageReply job image a → ImageReply job image b → a ≡ b
 image_once job (Ok i) a b x y = run_once (mach i job.arena job.depth job.steps) a b x y
 image_once job (Err f) a b x y = x ∙ sym y
-
 
 reply_once : (kind : JobKind) (job : Job) (bytes : List ℕ) (a b : Reply) → ReplyBy kind job bytes a → ReplyBy kind job bytes b → a ≡ b
 reply_once (kinds.OnSource kind) job bytes a b x y = source_once kind bytes a b (one_verdict bytes) x y
