@@ -1,0 +1,9 @@
+use Rattle.jn_expr.specs.Envs.{parts}
+use Rattle.rows_exprs.proofs.Parts.{parts_with, first_scope}
+use Rattle.rows_exprs.proofs.typing.typed_behind.Goals as goal
+
+pub value_of-requires-clause-parts : goal.value_of-requires-clause-parts
+value_of-requires-clause-parts c = parts_with c.args.p.now (parts c.args.env.now) _ c.requires.parts
+
+pub value_of-requires-clause-scope : goal.value_of-requires-clause-scope
+value_of-requires-clause-scope c = first_scope c.args.p.now c.args.env.now.pool c.args.at c.requires.stands
