@@ -6,6 +6,7 @@ use Rattle.jn_base.specs.declared.tree.Kind.TheVariants as kind
 use Rattle.jn_base.specs.declared.tree.Program.{Program}
 use Rattle.jn_base.specs.declared.path.Path.{Path as ShownPath}
 use Rattle.jn_base.specs.Paths.{Path, shown}
+use Rattle.jn_base.specs.Universe.{InUniverse}
 use Rattle.jn_table.specs.declared.class.ClassId.{ClassId}
 use Rattle.jn_table.specs.declared.class.Row.{Row}
 use Rattle.jn_table.specs.declared.table.Table.{Table}
@@ -73,3 +74,16 @@ path_read known ks id q e h = ap path_in (ap (λ (xs : List ShownPath). slice_ge
 -- a number whose row is filled stands for a path
 pub filled_number : (t : Table) (id : ClassId) → id.0 < length t.rows.items → length t.rows.items ≡ length t.known.items → IsNumber t.known.items id (path_at t.known.items id)
 filled_number t id l e = let r = at_within t.known.items id.0 (omega (arith, l, e)) in number_of t.known.items id r.0 r.1
+
+-- and is in the universe
+pub filled_universe : (p : Program) (t : Table) (id : ClassId) → IsFilled p t → id.0 < length t.rows.items → InUniverse p (path_at t.known.items id)
+filled_universe p t id f l = numbered_known p t (path_at t.known.items id) id f (filled_number t id l t.paired)
+
+-- the number of a class has a row
+pub class_filled : (p : Program) (t : Table) (id : ClassId) → IsClass p (path_at t.known.items id) → id.0 < length t.rows.items
+class_filled p t id c = let l = within t.known.items id.0 _ (class_number p t.known.items id c) in omega (arith, l, t.paired)
+  where
+    within : {X : Type 0} (xs : List X) (i : ℕ) (x : X) → slice_get xs i ≡ Some x → i < length xs
+    within [] i x e = absurd (cc)
+    within (y ∷ xs) zero x e = omega arith
+    within (y ∷ xs) (suc i) x e = let l = within xs i x e in omega (arith, l)

@@ -21,3 +21,7 @@ pub mod Calls
 pub mod Results
 pub mod Targets
 pub mod Receivers
+pub mod NewObjects
+pub mod Begins
+pub mod Ends
+pub mod Supers

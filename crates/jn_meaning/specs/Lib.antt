@@ -17,3 +17,6 @@ pub mod Params
 pub mod Calling
 pub mod Leaving
 pub mod Viewing
+pub mod Creating
+pub mod Opening
+pub mod Running

@@ -54,7 +54,7 @@ fn is_null(v: Value) -> bool
 }
 
 /// Whether the variable is a path, and the value is null.
-fn is_null_path(var: &Var, v: Value) -> bool
+pub fn is_null_path(var: &Var, v: Value) -> bool
     ensures { (known : List ShownPath) → result ≡ is_null_path (bound_to var.now (value_of known v)) }
 {
     if !var.fixed {

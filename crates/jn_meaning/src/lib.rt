@@ -6,8 +6,10 @@
 
 mod act;
 mod binding;
+mod bounds;
 mod calling;
 mod classes;
+mod creating;
 mod did;
 mod doing;
 mod fault;
@@ -27,6 +29,7 @@ mod pile;
 mod plain;
 mod seen;
 mod settling;
+mod starting;
 mod terms;
 mod typing;
 mod value;
