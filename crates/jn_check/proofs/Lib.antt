@@ -1,0 +1,5 @@
+pub mod Masking
+pub mod Agreeing
+pub mod Standing
+pub mod Telling
+pub mod TypeLaws
