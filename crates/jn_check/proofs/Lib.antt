@@ -3,3 +3,5 @@ pub mod Agreeing
 pub mod Standing
 pub mod Telling
 pub mod TypeLaws
+pub mod SimpleLaws
+pub mod KeptLaws

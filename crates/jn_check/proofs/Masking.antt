@@ -1,5 +1,5 @@
 -- The masks without a field's, those of two ends, and the binds of a scope with them.
-use Rattle.std.proofs.Common.{◌≡◌, ◌<◌, ◌≤◌, ◌+◌, ◌^◌, ◌&&◌, ℕ, List, [], ◌∷◌, ◌++◌, length, take, drop, map, reverse, get_or, slice_get, Bool, true, false, cond, nat_eq, Some, All, refl, sym, ap, ◌∙◌, subst, ◌↔◌, ◌⊎◌, inl, inr, arith, eqb-true, Result, Ok, Err, IfOk}
+use Rattle.std.proofs.Common.{◌≡◌, ◌<◌, ◌≤◌, ◌+◌, ◌^◌, ◌&&◌, ℕ, List, [], ◌∷◌, ◌++◌, length, take, drop, map, reverse, get_or, slice_get, Bool, true, false, cond, nat_eq, Some, All, refl, sym, ap, ◌∙◌, subst, ◌↔◌, ◌⊎◌, inl, inr, arith, eqb-true, zero, suc, bit_or, Result, Ok, Err, IfOk}
 use Rattle.std.proofs.lemmas.Bool.{cases_lt}
 use Rattle.std.proofs.lemmas.Option.{slice_get-get_or, slice_get_within}
 use Rattle.std.proofs.lemmas.List.{reverse-append, map-append, take-append-drop}
@@ -25,6 +25,7 @@ use Rattle.jn_rules.specs.Stmts.{remasked, with_masks, joined_type, joined}
 use Rattle.jn_rules.proofs.PlanLaws.{then_notes}
 use Rattle.jn_expr.proofs.Scopes.{one_more, next_front, whole_front}
 use Rattle.jn_expr.specs.Passing.{Shows}
+use Rattle.jn_masks.proofs.Bits.{joined as joined_of, joined_words}
 use Rattle.jn_check.specs.Masks.{IsWithoutAt, remasked_bind, TypeJoins}
 
 -- ---- the masks without a field's
@@ -110,18 +111,41 @@ module _ (p : Program) (t u : Ty) (m n : Masks) (c : is_class t ≡ true) (d : i
   of_both : (k : Masks) → MasksOf (InEither m n) k → MasksOf (InEither (masks_of t) (masks_of u)) k
   of_both k h = subst (λ (x : Masks). MasksOf (InEither x (masks_of u)) k) e (subst (λ (y : Masks). MasksOf (InEither m y) k) f h)
 
-  pub same_class : m ≡ n → length m.0 ≡ 4 → All (λ w. w < 2 ^ 64) m.0 → TypeJoins p t u t
-  same_class same words wide =
-      class_joins p t u t m c d (of_both m (either_same m n same words wide)) (sym (ap (λ (x : Masks). remasked x t) e ∙ remasked_own t))
+  pub both_class : (k : Masks) → MasksOf (InEither m n) k → (v : Ty) → v ≡ remasked k t → TypeJoins p t u v
+  both_class k h v is = class_joins p t u v k c d (of_both k h) is
 
-  pub both_class : (k : Masks) → ((j : ℕ) → HasMask k j ↔ (HasMask m j ⊎ HasMask n j)) → length k.0 ≡ 4 → All (λ w. w < 2 ^ 64) k.0 → (v : Ty) → v ≡ remasked k t → TypeJoins p t u v
-  both_class k has words wide v is = class_joins p t u v k c d (of_both k (record { words = words; wide = wide; each = λ i l. has i })) is
+  -- where the masks of both are those of the first
+  pub same_class : (k : Masks) → MasksOf (InEither m n) k → m ≡ k → TypeJoins p t u t
+  same_class k h same = both_class k h t (sym (ap (λ (x : Masks). remasked x t) (sym same ∙ e) ∙ remasked_own t))
 
-pub both_shown : {E : Type 0} (t u : Ty) (m n : Masks) → is_class t ≡ true → is_class u ≡ true → m ≡ masks_of t → n ≡ masks_of u → (k : Masks)
-    → ((j : ℕ) → HasMask k j ↔ (HasMask m j ⊎ HasMask n j)) → length k.0 ≡ 4 → All (λ w. w < 2 ^ 64) k.0 → (pool : List Ty) (r : Result TyId E)
-    → IfOk r (λ v. Shows pool v (remasked k t)) → IfOk r (λ v. (p : Program) → TypeJoins p t u (shown pool v))
-both_shown t u m n c d e f k has words wide pool (Ok v) h = λ p. both_class p t u m n c d e f k has words wide (shown pool v) h.shows
-both_shown t u m n c d e f k has words wide pool (Err x) h = tt
+pub both_shown : {E : Type 0} (t u : Ty) (m n : Masks) → is_class t ≡ true → is_class u ≡ true → m ≡ masks_of t → n ≡ masks_of u → (k : Masks) → MasksOf (InEither m n) k
+    → (pool : List Ty) (r : Result TyId E) → IfOk r (λ v. Shows pool v (remasked k t)) → IfOk r (λ v. (p : Program) → TypeJoins p t u (shown pool v))
+both_shown t u m n c d e f k has pool (Ok v) h = λ p. both_class p t u m n c d e f k has (shown pool v) h.shows
+both_shown t u m n c d e f k has pool (Err x) h = tt
+
+-- the masks of both, word by word
+module _ (m n : Masks) (a b c d : ℕ) (ea : a ≡ bit_or (get_or m.0 0 0) (get_or n.0 0 0)) (eb : b ≡ bit_or (get_or m.0 1 0) (get_or n.0 1 0)) (ec : c ≡ bit_or (get_or m.0 2 0) (get_or n.0 2 0))
+    (ed : d ≡ bit_or (get_or m.0 3 0) (get_or n.0 3 0)) (la : a < 2 ^ 64) (lb : b < 2 ^ 64) (lc : c < 2 ^ 64) (ld : d < 2 ^ 64) where
+  wide_words : (k e : ℕ) → k < 4 → get_or (a ∷ b ∷ c ∷ d ∷ []) k e < 2 ^ 64
+  wide_words zero e h = la
+  wide_words (suc zero) e h = lb
+  wide_words (suc (suc zero)) e h = lc
+  wide_words (suc (suc (suc zero))) e h = ld
+  wide_words (suc (suc (suc (suc k)))) e h = absurd (omega arith)
+
+  same_words : joined_words m.0 n.0 ≡ a ∷ b ∷ c ∷ d ∷ []
+  same_words =
+      sym (ap (λ (x : ℕ). x ∷ b ∷ c ∷ d ∷ []) ea
+      ∙ (ap (λ (x : ℕ). bit_or (get_or m.0 0 0) (get_or n.0 0 0) ∷ x ∷ c ∷ d ∷ []) eb
+      ∙ (ap (λ (x : ℕ). bit_or (get_or m.0 0 0) (get_or n.0 0 0) ∷ bit_or (get_or m.0 1 0) (get_or n.0 1 0) ∷ x ∷ d ∷ []) ec
+      ∙ ap (λ (x : ℕ). bit_or (get_or m.0 0 0) (get_or n.0 0 0) ∷ bit_or (get_or m.0 1 0) (get_or n.0 1 0) ∷ bit_or (get_or m.0 2 0) (get_or n.0 2 0) ∷ x ∷ []) ed)))
+
+  pub both_words : length m.0 ≡ 4 → length n.0 ≡ 4 → MasksOf (InEither m n) (record { 0 = a ∷ b ∷ c ∷ d ∷ [] })
+  both_words lm ln = record {
+    words = refl;
+    wide = wide_words;
+    each = λ j l. subst (λ (ws : List ℕ). (let r : Masks = record { 0 = ws } in HasMask r j) ↔ InEither m n j) same_words (joined_of m.0 n.0 j lm ln);
+  }
 
 -- ---- the binds of a scope with other masks
 
