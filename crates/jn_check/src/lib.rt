@@ -1,4 +1,4 @@
-//! Statements: conditions, calls and `print`; the types of locals; and binds with other masks, or with those of two ends.
+//! Statements: conditions, calls, `print` and `return`; the types of locals; and binds with other masks, or with those of two ends.
 //!
 //! The other statements, whole bodies and the verdict of a program aren't here yet.
 #![tactic(auto)]
@@ -11,6 +11,6 @@ mod types;
 
 pub use exprs::{check_below, type_alone};
 pub use masks::{joined, with_masks};
-pub use simple::{check_call, check_condition, check_print};
+pub use simple::{check_call, check_condition, check_print, check_return};
 pub use state::Locals;
 pub use types::local_type;
