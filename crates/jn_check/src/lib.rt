@@ -1,4 +1,5 @@
-//! Statements: conditions, calls, `print` and `return`; the types of locals; and binds with other masks, or with those of two ends.
+//! Statements: conditions, calls, `print` and `return`; the types of locals; and binds with other masks, or with those
+//! of two ends.
 //!
 //! The other statements, whole bodies and the verdict of a program aren't here yet.
 #![tactic(auto)]
