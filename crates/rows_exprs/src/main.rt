@@ -3,6 +3,7 @@
 #![tactic(auto)]
 
 mod ask;
+mod depth;
 mod shown;
 mod typing;
 

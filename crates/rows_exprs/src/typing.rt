@@ -8,13 +8,14 @@ ghost use Rattle.jn_heads.specs.Places.{Stands};
 ghost use Rattle.jn_expr.specs.Envs.{ArePartsOf, parts};
 ghost use Rattle.rows_exprs.specs.Parting.{HasParts};
 
+use crate::depth::is_shallow;
 use crate::shown::{Answer, put_type, refusal_text};
 use jn_base::names::{Resolved, Vars};
 use jn_base::path::Path;
 use jn_base::tree::{Expr, Method, Name, Program, Stmt, Text};
 use jn_expr::{Env, method_at, value_of};
 use jn_header::{CheckFault, Headers, check_headers, check_names};
-use jn_heads::{Place as At, header_of, is_shallow};
+use jn_heads::{Place as At, header_of};
 use jn_intern::{Pool, TyId};
 use jn_names::Bound;
 use jn_parser::{ParseFault, parse};
