@@ -1,2 +1,11 @@
+pub mod CountLaws
+pub mod Counts
+pub mod Entries
+pub mod Fewer
+pub mod FieldClasses
+pub mod FieldCounts
+pub mod Granted
+pub mod GroupLaws
 pub mod Joining
+pub mod Painting
 pub mod Starting

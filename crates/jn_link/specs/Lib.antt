@@ -1,2 +1,4 @@
+pub mod Groups
 pub mod Joined
+pub mod LawsOfCounts
 pub mod Start

@@ -1,9 +1,11 @@
 //! The whole image of a program: rows, selectors, groups, texts and codes, joined.
 #![tactic(auto)]
 
+pub mod groups;
 mod law;
 pub mod lists;
 mod start;
 
-pub use law::{joined_are_images, joined_stand, lowered_have_shapes};
+pub use law::{entries_are_few, joined_are_images, joined_stand, lowered_have_shapes, selectors_are_few};
+pub use law::verdict_grants_rows;
 pub use start::start_code;
