@@ -15,7 +15,8 @@ verdict_grants_rows = granted.granted
 pub selectors_are_few : SelectorsAreFew
 selectors_are_few p bytes text ok names are only = record {
   methods = methods_short p names.methods names.fields only are.method_once;
-  fields = few_fields p names.methods names.fields only (granted.own_type p bytes text ok) (granted.once p bytes text ok)
+  fields = few_fields p names.methods names.fields only (granted.own_type p bytes text ok)
+      (granted.once p bytes text ok)
       are.field_once;
   shapes = shapes_in_form p names.methods names.fields only (λ b c.
       (granted.within p bytes text ok).limits.params b.class b.method.name.name b.method (declared p b c));

@@ -47,7 +47,8 @@ found R ys x y c r = record {
   is = r;
 }
 
-mapped_total : {A B : Type 0} (f : A → B) (g : B → ℕ) (xs : List A) → total (map g (map f xs)) ≡ total (map (λ (x : A). g (f x)) xs)
+mapped_total : {A B : Type 0} (f : A → B) (g : B → ℕ) (xs : List A)
+    → total (map g (map f xs)) ≡ total (map (λ (x : A). g (f x)) xs)
 mapped_total f g [] = refl
 mapped_total f g (x ∷ xs) = let h = mapped_total f g xs in omega (arith, h)
 
@@ -74,7 +75,8 @@ module _ (p : Program) (methods : List MethodSel) (fields : List FieldSel) (only
       omega (arith, params, long)
 
   -- they take no more than one for each body
-  pub methods_short : IsOnce methods → total (map shape_bytes (map sel_shape methods)) ≤ total (map head_bytes (bodies_of p))
+  pub methods_short : IsOnce methods → total (map shape_bytes (map sel_shape methods)) ≤ total (map head_bytes
+      (bodies_of p))
   methods_short once =
       let sum = mapped_total sel_shape shape_bytes methods in
       let less = sums_to_less OfBody (λ (x : MethodSel). shape_bytes x.shape) head_bytes same_body sel_bytes methods
@@ -101,13 +103,18 @@ module _ (p : Program) (methods : List MethodSel) (fields : List FieldSel) (only
       → All ShapeInForm (map sel_shape methods)
   shapes_in_form few = All-map ShapeInForm sel_shape methods (λ k d l. in_form (get_or methods k d)
       (only.of_body (get_or methods k d) (k, l, get_or_default methods k (get_or methods k d) d l))) where
-    in_form : (x : MethodSel) → (b : Body) × Contains (bodies_of p) b × OfBody x b → ShapeInForm x.shape
-    in_form x (b, c, e) =
-        let most = few b c in
-        let long = length-map b.method.params param_kind in
-        let good : ShapeInForm (shape_of b.method) =
-        record { count = omega (arith, most, long); params = kinds_given b.method.params; result = result_given b.method.result } in
-        subst (λ (z : MethodSel). ShapeInForm z.shape) (sym e) good
+        in_form : (x : MethodSel) → (b : Body) × Contains (bodies_of p) b × OfBody x b → ShapeInForm x.shape
+        in_form x (b, c, e) =
+            let most = few b c in
+            let long = length-map b.method.params param_kind in
+            let good : ShapeInForm (shape_of b.method) =
+            record {
+              count = omega (arith, most, long);
+              params = kinds_given b.method.params;
+              result =
+                  result_given b.method.result;
+            } in
+            subst (λ (z : MethodSel). ShapeInForm z.shape) (sym e) good
 
 -- ---- fields
 
@@ -130,46 +137,50 @@ module _ (p : Program) (methods : List MethodSel) (fields : List FieldSel) (only
     of_field : (x : FieldSel) → Contains fields x → (g : AtField) × OfField x g
     of_field x c =
         let w = only.of_field x c in
-        let t = type_of w.0 w.1 in
-        (w.0, record {
-          named = w.2;
-          among = w.1;
-          kind = w.3 t.0 (subst (λ (N : Name). FieldTypeIs p w.0.class N w.0.field.ty t.0) (sym w.2) t.1)
-              (subst (λ (N : Name). FieldType p w.0.class N t.0) (sym w.2) t.2);
-        })
+        let t = type_of w.0 w.1 in (
+          w.0,
+          record {
+            named = w.2;
+            among = w.1;
+            kind = w.3 t.0 (subst (λ (N : Name). FieldTypeIs p w.0.class N w.0.field.ty t.0) (sym w.2) t.1)
+                (subst (λ (N : Name). FieldType p w.0.class N t.0) (sym w.2) t.2);
+          },
+        )
 
     one_field : FoundOnceIn p → (x y : FieldSel) (g : AtField) → OfField x g → OfField y g → x ≡ y
     one_field once x y g a b =
         let t = type_of g a.among in
         let u = type_of g b.among in
         let same : t.0 ≡ u.0 = once.field g.class g.field.name.name t.0 u.0 t.2 u.2 in
-        let kind : x.kind ≡ y.kind = kinds_one u.0 x.kind y.kind (subst (λ (v : Ty). FieldKind v x.kind) same a.kind) b.kind in
+        let kind : x.kind ≡ y.kind = kinds_one u.0 x.kind y.kind
+        (subst (λ (v : Ty). FieldKind v x.kind) same a.kind) b.kind in
         ap (λ (N : Name). record { name = N; kind = x.kind }) (a.named ∙ sym b.named)
         ∙ ap (λ (k : ℕ). record { name = y.name; kind = k }) kind
 
     pub few_fields : FoundOnceIn p → IsOnce fields → length fields ≤ fields_of p
     few_fields once apart =
         let less = no_more OfField (one_field once) fields (declared_fields p) apart
-        (λ j x at. let w = of_field x (in_list fields j x at) in found OfField (declared_fields p) x w.0 w.1.among w.1) in
+        (λ j x at. let w = of_field x (in_list fields j x at) in
+        found OfField (declared_fields p) x w.0 w.1.among w.1) in
         let same = fields_counted p in
         omega (arith, less, same)
 
     pub kinds_in_form : All IsFieldKind (map sel_kind fields)
     kinds_in_form = All-map IsFieldKind sel_kind fields (λ k d l. in_form (get_or fields k d)
         (of_field (get_or fields k d) (k, l, get_or_default fields k (get_or fields k d) d l))) where
-      plainly : (t : Ty) → IsFieldKind (kind_of_type t)
-      plainly ty.Int = (omega arith, omega arith)
-      plainly ty.Bool = (omega arith, omega arith)
-      plainly ty.Null = (omega arith, omega arith)
-      plainly ty.Void = (omega arith, omega arith)
-      plainly (ty.Class xs m) = (omega arith, omega arith)
+          plainly : (t : Ty) → IsFieldKind (kind_of_type t)
+          plainly ty.Int = (omega arith, omega arith)
+          plainly ty.Bool = (omega arith, omega arith)
+          plainly ty.Null = (omega arith, omega arith)
+          plainly ty.Void = (omega arith, omega arith)
+          plainly (ty.Class xs m) = (omega arith, omega arith)
 
-      by_kind : (t : Ty) (k : ℕ) → FieldKind t k → IsFieldKind k
-      by_kind t k (plain u e) = subst IsFieldKind (sym e) (plainly t)
-      by_kind t k (hanging h e) = (omega (arith, e), omega (arith, e))
+          by_kind : (t : Ty) (k : ℕ) → FieldKind t k → IsFieldKind k
+          by_kind t k (plain u e) = subst IsFieldKind (sym e) (plainly t)
+          by_kind t k (hanging h e) = (omega (arith, e), omega (arith, e))
 
-      in_form : (x : FieldSel) → (g : AtField) × OfField x g → IsFieldKind x.kind
-      in_form x (g, w) = by_kind (type_of g w.among).0 x.kind w.kind
+          in_form : (x : FieldSel) → (g : AtField) × OfField x g → IsFieldKind x.kind
+          in_form x (g, w) = by_kind (type_of g w.among).0 x.kind w.kind
 
 -- ---- bodies and texts
 
@@ -198,7 +209,8 @@ module _ (p : Program) (bytes : List ℕ) (spells : SourceSpells p bytes) (short
   text_below (x ∷ ts) t c = by_place (in_cons x ts t c) (λ d. text_below ts t d) where
     by_place : (x ≡ t) ⊎ Contains ts t → (Contains ts t → 4 + length t.bytes ≤ total (map takes ts))
         → 4 + length t.bytes ≤ takes x + total (map takes ts)
-    by_place (inl e) again = let h : length x.bytes ≡ length t.bytes = ap (λ (y : Text). length y.bytes) e in omega (arith, h)
+    by_place (inl e) again = let h : length x.bytes ≡ length t.bytes = ap (λ (y : Text). length y.bytes) e in
+        omega (arith, h)
     by_place (inr d) again = let h = again d in omega (arith, h)
 
   texts_below : (ts : List Text) → length ts ≤ total (map takes ts)

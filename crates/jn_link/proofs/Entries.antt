@@ -144,14 +144,15 @@ module _ (n : Naming) (R : Path) where
 
   row_long : (r : ClassRow) → length (row_entries r) ≡ entries r
   row_long r =
-      length-append (map of_members r.members) (map of_methods r.methods ++ (map of_fields r.fields ++ map of_others r.others))
+      length-append (map of_members r.members) (map of_methods r.methods ++
+      (map of_fields r.fields ++ map of_others r.others))
       ∙ both (length-map r.members of_members)
       (length-append (map of_methods r.methods) (map of_fields r.fields ++ map of_others r.others)
       ∙ both (length-map r.methods of_methods)
       (length-append (map of_fields r.fields) (map of_others r.others)
       ∙ both (length-map r.fields of_fields) (length-map r.others of_others))) where
-    both : {a b c d : ℕ} → a ≡ b → c ≡ d → a + c ≡ b + d
-    both e f = omega (arith, e, f)
+        both : {a b c d : ℕ} → a ≡ b → c ≡ d → a + c ≡ b + d
+        both e f = omega (arith, e, f)
 
 -- ---- the rows of a program
 
@@ -237,7 +238,8 @@ module _ (p : Program) (t : Table) (m : Members) (g : Groups) (s : Slots) (names
       member_alone d e a b i =
           let name : d.name ≡ e.name = ap (λ (x : Entry). (name_in x).0) i in
           let class : d.class ≡ e.class =
-          value_same (λ (x : MemberEntry). x.name) (λ (x : MemberEntry). x.class) r.members good.in_form.members d e a b name in
+          value_same (λ (x : MemberEntry). x.name)
+          (λ (x : MemberEntry). x.class) r.members good.in_form.members d e a b name in
           ap (λ (k : ℕ). record { name = k; class = d.class }) name
           ∙ ap (λ (k : ℕ). record { name = e.name; class = k }) class
 
@@ -246,7 +248,8 @@ module _ (p : Program) (t : Table) (m : Members) (g : Groups) (s : Slots) (names
       method_alone d e a b i =
           let x = method_at d a in
           let y = method_at e b in
-          let names_same : method_named (slice_get n.methods d.selector) ≡ method_named (slice_get n.methods e.selector) =
+          let names_same : method_named (slice_get n.methods d.selector) ≡ method_named
+          (slice_get n.methods e.selector) =
           ap name_in i in
           let name : x.sel.name ≡ y.sel.name = sym (method_name d a) ∙ (names_same ∙ method_name e b) in
           let mine : IsBody p R y.sel.name x.body = subst (λ (N : Name). IsBody p R N x.body) name x.least in
@@ -260,7 +263,8 @@ module _ (p : Program) (t : Table) (m : Members) (g : Groups) (s : Slots) (names
           let selector : d.selector ≡ e.selector =
           asked.selectors.method_once d.selector e.selector y.sel (x.selector ∙ ap Some sel) y.selector in
           let code : d.code ≡ e.code =
-          value_same (λ (z : MethodEntry). z.selector) (λ (z : MethodEntry). z.code) r.methods good.in_form.methods d e a b selector in
+          value_same (λ (z : MethodEntry). z.selector)
+          (λ (z : MethodEntry). z.code) r.methods good.in_form.methods d e a b selector in
           ap (λ (k : ℕ). record { selector = k; code = d.code }) selector
           ∙ ap (λ (k : ℕ). record { selector = e.selector; code = k }) code
 
@@ -273,7 +277,8 @@ module _ (p : Program) (t : Table) (m : Members) (g : Groups) (s : Slots) (names
           ap name_in i in
           let name : x.sel.name ≡ y.sel.name = sym (field_name d a) ∙ (names_same ∙ field_name e b) in
           let type : x.type ≡ y.type =
-          asked.typed.once.field R y.sel.name x.type y.type (subst (λ (N : Name). FieldType p R N x.type) name x.is) y.is in
+          asked.typed.once.field R y.sel.name x.type y.type
+          (subst (λ (N : Name). FieldType p R N x.type) name x.is) y.is in
           let kind : x.sel.kind ≡ y.sel.kind =
           one_kind y.type x.sel.kind y.sel.kind (subst (λ (u : Ty). FieldKind u x.sel.kind) type x.kind) y.kind in
           let sel : x.sel ≡ y.sel =
@@ -282,7 +287,8 @@ module _ (p : Program) (t : Table) (m : Members) (g : Groups) (s : Slots) (names
           let selector : d.selector ≡ e.selector =
           asked.selectors.field_once d.selector e.selector y.sel (x.selector ∙ ap Some sel) y.selector in
           let slot : d.slot ≡ e.slot =
-          value_same (λ (z : FieldEntry). z.selector) (λ (z : FieldEntry). z.slot) r.fields good.in_form.fields d e a b selector in
+          value_same (λ (z : FieldEntry). z.selector)
+          (λ (z : FieldEntry). z.slot) r.fields good.in_form.fields d e a b selector in
           ap (λ (k : ℕ). record { selector = k; slot = d.slot }) selector
           ∙ ap (λ (k : ℕ). record { selector = e.selector; slot = k }) slot
 
@@ -302,7 +308,8 @@ module _ (p : Program) (t : Table) (m : Members) (g : Groups) (s : Slots) (names
           let number : d.family ≡ e.family =
           one_class d.family e.family (y.family ∷ []) (x.number ∙ ap (λ (Y : Name). Some (Y ∷ [])) family) y.number in
           let class : d.class ≡ e.class =
-          value_same (λ (z : OtherEntry). z.family) (λ (z : OtherEntry). z.class) r.others good.in_form.others d e a b number in
+          value_same (λ (z : OtherEntry). z.family)
+          (λ (z : OtherEntry). z.class) r.others good.in_form.others d e a b number in
           ap (λ (k : ℕ). record { family = k; class = d.class }) number
           ∙ ap (λ (k : ℕ). record { family = e.family; class = k }) class
 
@@ -333,31 +340,35 @@ module _ (p : Program) (t : Table) (m : Members) (g : Groups) (s : Slots) (names
 
       from_last : (x : Entry) → Contains (map (of_fields n R) r.fields ++ map (of_others n R) r.others) x
           → Of x × (2 ≤ list_of x)
-      from_last x c = by_part (Contains-append_cases (map (of_fields n R) r.fields) (map (of_others n R) r.others) x c) where
-        by_part : Contains (map (of_fields n R) r.fields) x ⊎ Contains (map (of_others n R) r.others) x
-            → Of x × (2 ≤ list_of x)
-        by_part (inl h) = let w = from_fields x h in let e = w.1 in (w.0, omega (arith, e))
-        by_part (inr h) = let w = from_others x h in let e = w.1 in (w.0, omega (arith, e))
+      from_last x c = by_part (Contains-append_cases (map (of_fields n R) r.fields)
+          (map (of_others n R) r.others) x c) where
+            by_part : Contains (map (of_fields n R) r.fields) x ⊎ Contains (map (of_others n R) r.others) x
+                → Of x × (2 ≤ list_of x)
+            by_part (inl h) = let w = from_fields x h in let e = w.1 in (w.0, omega (arith, e))
+            by_part (inr h) = let w = from_others x h in let e = w.1 in (w.0, omega (arith, e))
 
       from_behind : (x : Entry)
-          → Contains (map (of_methods n R) r.methods ++ (map (of_fields n R) r.fields ++ map (of_others n R) r.others)) x
+          → Contains (map (of_methods n R) r.methods ++
+          (map (of_fields n R) r.fields ++ map (of_others n R) r.others)) x
           → Of x × (1 ≤ list_of x)
       from_behind x c =
-          by_part (Contains-append_cases (map (of_methods n R) r.methods) (map (of_fields n R) r.fields ++ map (of_others n R) r.others) x c) where
-        by_part : Contains (map (of_methods n R) r.methods) x
-            ⊎ Contains (map (of_fields n R) r.fields ++ map (of_others n R) r.others) x → Of x × (1 ≤ list_of x)
-        by_part (inl h) = let w = from_methods x h in let e = w.1 in (w.0, omega (arith, e))
-        by_part (inr h) = let w = from_last x h in let e = w.1 in (w.0, omega (arith, e))
+          by_part (Contains-append_cases (map (of_methods n R) r.methods)
+          (map (of_fields n R) r.fields ++ map (of_others n R) r.others) x c) where
+            by_part : Contains (map (of_methods n R) r.methods) x
+                ⊎ Contains (map (of_fields n R) r.fields ++ map (of_others n R) r.others) x → Of x × (1 ≤ list_of x)
+            by_part (inl h) = let w = from_methods x h in let e = w.1 in (w.0, omega (arith, e))
+            by_part (inr h) = let w = from_last x h in let e = w.1 in (w.0, omega (arith, e))
 
       row_are : (x : Entry) → Contains (row_entries n R r) x → Of x
       row_are x c =
           by_part (Contains-append_cases (map (of_members n R) r.members)
           (map (of_methods n R) r.methods ++ (map (of_fields n R) r.fields ++ map (of_others n R) r.others)) x c) where
-        by_part : Contains (map (of_members n R) r.members) x
-            ⊎ Contains (map (of_methods n R) r.methods ++ (map (of_fields n R) r.fields ++ map (of_others n R) r.others)) x
-            → Of x
-        by_part (inl h) = (from_members x h).0
-        by_part (inr h) = (from_behind x h).0
+            by_part : Contains (map (of_members n R) r.members) x
+                ⊎ Contains (map (of_methods n R) r.methods ++
+                (map (of_fields n R) r.fields ++ map (of_others n R) r.others)) x
+                → Of x
+            by_part (inl h) = (from_members x h).0
+            by_part (inr h) = (from_behind x h).0
 
       row_once : EachOnce (row_entries n R r)
       row_once =
@@ -391,13 +402,13 @@ module _ (p : Program) (t : Table) (m : Members) (g : Groups) (s : Slots) (names
     all_are (R ∷ cs) [] each x c = elim each [ ]
     all_are (R ∷ cs) (r ∷ rs) (more good each) x c =
         by_part (Contains-append_cases (row_entries n R r) (all_in cs rs) x c) (λ h. all_are cs rs each x h) where
-      by_part : Contains (row_entries n R r) x ⊎ Contains (all_in cs rs) x
-          → (Contains (all_in cs rs) x → IsEntry p x × Contains cs (path_of x))
-          → IsEntry p x × Contains (R ∷ cs) (path_of x)
-      by_part (inl h) again =
-          let w = row_are R r good x h in
-          (w.0, subst (Contains (R ∷ cs)) (sym w.1) (first R cs))
-      by_part (inr h) again = let w = again h in (w.0, later R cs (path_of x) w.1)
+          by_part : Contains (row_entries n R r) x ⊎ Contains (all_in cs rs) x
+              → (Contains (all_in cs rs) x → IsEntry p x × Contains cs (path_of x))
+              → IsEntry p x × Contains (R ∷ cs) (path_of x)
+          by_part (inl h) again =
+              let w = row_are R r good x h in
+              (w.0, subst (Contains (R ∷ cs)) (sym w.1) (first R cs))
+          by_part (inr h) again = let w = again h in (w.0, later R cs (path_of x) w.1)
 
     all_once : (cs : List Path) (rs : List ClassRow) → EachOnce cs → Each Good cs rs → EachOnce (all_in cs rs)
     all_once [] [] o none = tt
@@ -419,10 +430,11 @@ module _ (p : Program) (t : Table) (m : Members) (g : Groups) (s : Slots) (names
 
     once_each : {A : Type 0} (xs : List A) → IsOnce xs → EachOnce xs
     once_each [] o = tt
-    once_each (x ∷ xs) o =
-        ((λ c. let e = o zero (suc c.0) x refl
-        (slice_get_read xs (length xs) c.0 x refl c.1 (sym c.2)) in omega (arith, e)),
-        once_each xs (λ i j y a b. let e : suc i ≡ suc j = o (suc i) (suc j) y a b in omega (arith, e)))
+    once_each (x ∷ xs) o = (
+      (λ c. let e = o zero (suc c.0) x refl
+          (slice_get_read xs (length xs) c.0 x refl c.1 (sym c.2)) in omega (arith, e)),
+      once_each xs (λ i j y a b. let e : suc i ≡ suc j = o (suc i) (suc j) y a b in omega (arith, e)),
+    )
 
     record Rest (R : Path) (r : ClassRow) : Type 0 where
       in_form : RowInForm r

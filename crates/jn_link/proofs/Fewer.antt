@@ -124,9 +124,9 @@ pub each_joined : {A : Type 0} (xs ys : List A) → EachOnce xs → EachOnce ys
 each_joined [] ys a b c = b
 each_joined (x ∷ xs) ys (n, a) b c =
     ((λ h. by_part (Contains-append_cases xs ys x h)), each_joined xs ys a b (λ z d e. c z (later x xs z d) e)) where
-  by_part : Contains xs x ⊎ Contains ys x → ⊥
-  by_part (inl h) = n h
-  by_part (inr h) = c x (first x xs) h
+      by_part : Contains xs x ⊎ Contains ys x → ⊥
+      by_part (inl h) = n h
+      by_part (inr h) = c x (first x xs) h
 
 -- a thing of a mapped list
 pub from_mapped : {A B : Type 0} (f : A → B) (xs : List A) (y : B) → Contains (map f xs) y
@@ -142,8 +142,9 @@ from_mapped {A} {B} f (x ∷ xs) y c = by_place (in_cons (f x) (map f xs) y c) (
 pub each_mapped : {A B : Type 0} (f : A → B) (xs : List A) → EachOnce xs
     → ((x y : A) → Contains xs x → Contains xs y → f x ≡ f y → x ≡ y) → EachOnce (map f xs)
 each_mapped f [] o alone = tt
-each_mapped f (x ∷ xs) (n, o) alone =
-    ((λ c. let w = from_mapped f xs (f x) c in
-    let same = alone w.0 x (later x xs w.0 w.1) (first x xs) w.2 in
-    n (subst (Contains xs) same w.1)),
-    each_mapped f xs o (λ y z a b e. alone y z (later x xs y a) (later x xs z b) e))
+each_mapped f (x ∷ xs) (n, o) alone = (
+  (λ c. let w = from_mapped f xs (f x) c in
+      let same = alone w.0 x (later x xs w.0 w.1) (first x xs) w.2 in
+      n (subst (Contains xs) same w.1)),
+  each_mapped f xs o (λ y z a b e. alone y z (later x xs y a) (later x xs z b) e),
+)

@@ -37,23 +37,26 @@ of_inner a n _ _ (IsInner.inner o c {w = w} is es ss ms) =
 of_top : (w : List Part) (t : Decl) → IsTop w t → OfKind t
 of_top _ _ (IsTop.top o c {w = w} is es ss ms) = record { around = 1; level = 2; words = w; members = ms }
 
-in_inner : (t d : Decl) (ts : List Member) → Contains (nested (member.Inner t ∷ ts)) d → (t ≡ d) ⊎ Contains (nested ts) d
+in_inner : (t d : Decl) (ts : List Member) → Contains (nested (member.Inner t ∷ ts)) d → (t ≡ d)
+    ⊎ Contains (nested ts) d
 in_inner t d ts c =
-    in_cons t (nested ts) d (subst (λ (o : Member-F Member Decl). Contains (and_nested o (nested ts)) d) (outs-Inner t) c)
+    in_cons t (nested ts) d (subst (λ (o : Member-F Member Decl). Contains (and_nested o (nested ts)) d)
+    (outs-Inner t) c)
 
 nested_of : (k : Kind) (a n : ℕ) (w : List Part) (ms : List Member) → IsMembers k a n w ms → (d : Decl)
     → Contains (nested ms) d → OfKind d
 nested_of k a n _ _ IsMembers.no_member d c = absurd (in_none d c)
 nested_of k a n _ _ (IsMembers.then_member {v = v} {w = w} {ts = ts} (IsMember.declared {t = t} i) more) d c =
     by_place (in_inner t d ts c) (λ h. nested_of k a n w ts more d h) where
-  by_place : (t ≡ d) ⊎ Contains (nested ts) d → (Contains (nested ts) d → OfKind d) → OfKind d
-  by_place (inl e) again = subst OfKind e (of_inner a n v t i)
-  by_place (inr h) again = again h
+      by_place : (t ≡ d) ⊎ Contains (nested ts) d → (Contains (nested ts) d → OfKind d) → OfKind d
+      by_place (inl e) again = subst OfKind e (of_inner a n v t i)
+      by_place (inr h) again = again h
 nested_of k a n _ _ (IsMembers.then_member {w = w} {ts = ts} (IsMember.slot {x = x} p s {t = t} i) more) d c =
     nested_of _ a n w ts more d
     (subst (λ (o : Member-F Member Decl). Contains (and_nested o (nested ts)) d)
     (outs-Slot (record { ty = t; name = record { name = x; at = p } })) c)
-nested_of k a n _ _ (IsMembers.then_member {w = w} {ts = ts} (IsMember.method {x = x} p o c' b e {res = res} {ts = ps} {cs = cs} {ss = ss} r g u z) more) d c =
+nested_of k a n _ _ (IsMembers.then_member {w = w} {ts = ts}
+    (IsMember.method {x = x} p o c' b e {res = res} {ts = ps} {cs = cs} {ss = ss} r g u z) more) d c =
     nested_of _ a n w ts more d
     (subst (λ (o : Member-F Member Decl). Contains (and_nested o (nested ts)) d)
     (outs-Body (record { result = res; name = record { name = x; at = p }; params = ps; sharing = cs; body = ss })) c)
@@ -62,9 +65,9 @@ tops_of : (w : List Part) (ds : List Decl) → IsProgram w ds → (d : Decl) →
 tops_of _ _ IsProgram.no_top d c = absurd (in_none d c)
 tops_of _ _ (IsProgram.then_top {v = v} {w = w} {t = t} {ts = ts} i more) d c =
     by_place (in_cons t ts d c) (λ h. tops_of w ts more d h) where
-  by_place : (t ≡ d) ⊎ Contains ts d → (Contains ts d → OfKind d) → OfKind d
-  by_place (inl e) again = subst OfKind e (of_top v t i)
-  by_place (inr h) again = again h
+      by_place : (t ≡ d) ⊎ Contains ts d → (Contains ts d → OfKind d) → OfKind d
+      by_place (inl e) again = subst OfKind e (of_top v t i)
+      by_place (inr h) again = again h
 
 -- a field stands in the body of a class
 class_of : (k : Kind) (a n : ℕ) (w : List Part) (ms : List Member) → IsMembers k a n w ms → (f : Field)

@@ -32,7 +32,8 @@ opened : (m : Member) (f : Member-F Member Decl) → out-Member m ≡ f → (R :
 unfolding fields_of_decl fields_of_member
 opened m f e R =
     ap (λ (g : FieldsBy). g R) (fold_out-Member FieldsBy FieldsBy member_step decl_step m)
-    ∙ ap (λ (x : Member-F Member Decl). member_step (map-Member Member Decl FieldsBy FieldsBy fields_of_member fields_of_decl x) R) e
+    ∙ ap (λ (x : Member-F Member Decl). member_step
+    (map-Member Member Decl FieldsBy FieldsBy fields_of_member fields_of_decl x) R) e
 
 MemberCounted : Member → Type 0
 MemberCounted m = (R : Path) → length (fields_of_member m R) ≡ one_fields m

@@ -77,7 +77,8 @@ module _ (p : Program) (bytes : List ℕ) (text : IsTextOf p bytes) (ok : TreePa
   pub least_body : (V : Path) (m : Name) → IsClass p V → HasMethod p m V → ((b : Body) → IsBody p V m b → ⊥) → ⊥
   least_body V m class has none =
       let bad : BadMethod p V m =
-      no_least has (λ Q l. none (record { class = Q; method = l.among.method }) (record { least = l; at = l.among.at })) in
+      no_least has (λ Q l. none (record { class = Q; method = l.among.method })
+      (record { least = l; at = l.among.at })) in
       members.members V (record { class = class; bad = bad_method m bad })
 
   headers : HeadersOf p

@@ -65,19 +65,23 @@ record FoundEntry (es : List FieldEntry) (k m : ℕ) : Type 0 where
   slot : entry.slot ≡ m
 
 entry_found : (es : List FieldEntry) (k m : ℕ)
-    → option_map (λ (e : FieldEntry). e.slot) (find (λ (e : FieldEntry). nat_eq e.selector k) es) ≡ Some m → FoundEntry es k m
+    → option_map (λ (e : FieldEntry). e.slot) (find (λ (e : FieldEntry). nat_eq e.selector k) es) ≡ Some m
+    → FoundEntry es k m
 entry_found [] k m e = absurd (cc e)
 entry_found (x ∷ es) k m e = by_test (nat_eq x.selector k) refl (λ h. entry_found es k m h) where
   by_test : (b : Bool) → nat_eq x.selector k ≡ b
-      → (option_map (λ (y : FieldEntry). y.slot) (find (λ (y : FieldEntry). nat_eq y.selector k) es) ≡ Some m → FoundEntry es k m)
+      → (option_map (λ (y : FieldEntry). y.slot) (find (λ (y : FieldEntry). nat_eq y.selector k) es) ≡ Some m
+      → FoundEntry es k m)
       → FoundEntry (x ∷ es) k m
   by_test true t again =
       let h : Some x.slot ≡ Some m =
-      ap (λ (d : Bool). option_map (λ (y : FieldEntry). y.slot) (cond d (Some x) (find (λ (y : FieldEntry). nat_eq y.selector k) es))) (sym t) ∙ e in
+      ap (λ (d : Bool). option_map (λ (y : FieldEntry). y.slot)
+      (cond d (Some x) (find (λ (y : FieldEntry). nat_eq y.selector k) es))) (sym t) ∙ e in
       record { entry = x; among = first x es; selector = eqb-true x.selector k t; slot = cc h }
   by_test false t again =
       let w = again
-      (ap (λ (d : Bool). option_map (λ (y : FieldEntry). y.slot) (cond d (Some x) (find (λ (y : FieldEntry). nat_eq y.selector k) es))) (sym t) ∙ e) in
+      (ap (λ (d : Bool). option_map (λ (y : FieldEntry). y.slot)
+      (cond d (Some x) (find (λ (y : FieldEntry). nat_eq y.selector k) es))) (sym t) ∙ e) in
       record { entry = w.entry; among = later x es w.entry w.among; selector = w.selector; slot = w.slot }
 
 -- 4 counts as 3, and a type that hangs on `this` is that of a reference
@@ -104,13 +108,13 @@ size_moved p V G k r z = record {
   slots = z.slots;
   exact = λ s. (
     λ c. let w = (z.exact s).0 c in
-    record { view = w.view; related = laws.joined V G w.view r w.related; field = w.field; slot = w.slot },
+        record { view = w.view; related = laws.joined V G w.view r w.related; field = w.field; slot = w.slot },
     λ w. (z.exact s).1 (record {
       view = w.view;
       related = laws.joined G V w.view (laws.turned V G r) w.related;
       field = w.field;
       slot = w.slot;
-    })
+    }),
   );
   once = z.once;
   is = z.is;
@@ -120,7 +124,8 @@ size_moved p V G k r z = record {
 
 module _ (p : Program) (t : Table) (m : Members) (g : Groups) (s : Slots) (names : Selectors) (n : Naming)
     (asked : RowsAsked p t m g s names n) (rows : List ClassRow) (right : RowsRight p n s rows) (firsts kinds : List ℕ)
-    (listed : Each (λ (G : Path) (k : ℕ). IsAt t.known.items k G) n.groups firsts) (kinds_are : kinds ≡ map sel_kind n.fields)
+    (listed : Each (λ (G : Path) (k : ℕ). IsAt t.known.items k G) n.groups firsts)
+    (kinds_are : kinds ≡ map sel_kind n.fields)
     (groups : List Group) (made : AreGroupsFor s firsts kinds rows groups)
   where
     number : (k : ℕ) (R : Path) → slice_get n.classes k ≡ Some R → IsNumber t.known.items (record { 0 = k }) R
@@ -192,7 +197,8 @@ module _ (p : Program) (t : Table) (m : Members) (g : Groups) (s : Slots) (names
           → slice_get i.groups row.group ≡ Some x → length x.slots ≡ length w.blank.slots
       group_is V k row x r w at =
           let y = painted V row w in
-          let there : slice_get groups row.group ≡ Some x = subst (λ (gs : List Group). slice_get gs row.group ≡ Some x) its at in
+          let there : slice_get groups row.group ≡ Some x =
+          subst (λ (gs : List Group). slice_get gs row.group ≡ Some x) its at in
           let same : y.group ≡ x = same_some (slice_get groups row.group) y.group x y.at there in
           subst (λ (z : Group). length z.slots ≡ length w.blank.slots) same y.long
 
@@ -266,9 +272,9 @@ module _ (p : Program) (t : Table) (m : Members) (g : Groups) (s : Slots) (names
           kind_named q e =
               subst (λ (ks : List ℕ). slice_get ks q ≡ Some num.sel.kind) (sym kinds_are)
               (mapped n.fields q num.sel (ap (slice_get n.fields) e ∙ num.selector)) where
-            mapped : (xs : List FieldSel) (q : ℕ) (y : FieldSel) → slice_get xs q ≡ Some y
-                → slice_get (map sel_kind xs) q ≡ Some (sel_kind y)
-            mapped xs q y a = slice_get-map sel_kind xs q ∙ ap (option_map sel_kind) a
+                mapped : (xs : List FieldSel) (q : ℕ) (y : FieldSel) → slice_get xs q ≡ Some y
+                    → slice_get (map sel_kind xs) q ≡ Some (sel_kind y)
+                mapped xs q y a = slice_get-map sel_kind xs q ∙ ap (option_map sel_kind) a
 
           by_entry : IsGivenIn kinds rows row.group j x
           by_entry =

@@ -62,7 +62,8 @@ by_long : (o : Option ℕ) (slot : ℕ) (kinds : List ℕ) → length (painted_b
 by_long None slot kinds = refl
 by_long (Some k) slot kinds = length-set kinds slot (slot_kind k)
 
-pub painted_long : (names : List ℕ) (es : List FieldEntry) (kinds : List ℕ) → length (painted names es kinds) ≡ length kinds
+pub painted_long : (names : List ℕ) (es : List FieldEntry) (kinds : List ℕ)
+    → length (painted names es kinds) ≡ length kinds
 painted_long names [] kinds = refl
 painted_long names (e ∷ es) kinds =
     painted_long names es (painted_by (slice_get names e.selector) e.slot kinds)
@@ -85,7 +86,8 @@ kept_or_given names (e ∷ es) kinds m l = by_rest (kept_or_given names es next 
   Settled : Type 0
   Settled = (slice_get last m ≡ slice_get kinds m) ⊎ IsGiven names (e ∷ es) m last
 
-  by_kind : slice_get last m ≡ slice_get next m → ((k : ℕ) × (slice_get names e.selector ≡ Some k)) ⊎ (slice_get names e.selector ≡ None) → Settled
+  by_kind : slice_get last m ≡ slice_get next m → ((k : ℕ) × (slice_get names e.selector ≡ Some k))
+      ⊎ (slice_get names e.selector ≡ None) → Settled
   by_kind same (inr none) =
       inl (same ∙ ap (λ (o : Option ℕ). slice_get (painted_by o e.slot kinds) m) none)
   by_kind same (inl (k, named)) = by_slot (same_or_not e.slot m) where
@@ -115,32 +117,33 @@ pub entry_given : (names : List ℕ) (es : List FieldEntry) (kinds : List ℕ) (
 entry_given names [] kinds e k c named l = absurd (in_none e c)
 entry_given names (z ∷ es) kinds e k c named l =
     by_place (in_cons z es e c) (λ d. entry_given names es next e k d named (omega (arith, l, long))) where
-  next : List ℕ
-  next = painted_by (slice_get names z.selector) z.slot kinds
+      next : List ℕ
+      next = painted_by (slice_get names z.selector) z.slot kinds
 
-  last : List ℕ
-  last = painted names es next
+      last : List ℕ
+      last = painted names es next
 
-  long : length next ≡ length kinds
-  long = by_long (slice_get names z.selector) z.slot kinds
+      long : length next ≡ length kinds
+      long = by_long (slice_get names z.selector) z.slot kinds
 
-  by_kept : z ≡ e → (slice_get last e.slot ≡ slice_get next e.slot) ⊎ IsGiven names es e.slot last
-      → IsGiven names (z ∷ es) e.slot last
-  by_kept same (inr g) = given_later names z es e.slot last g
-  by_kept same (inl kept) = record {
-    entry = z;
-    among = first z es;
-    slot = ap (λ (x : FieldEntry). x.slot) same;
-    kind = k;
-    named = subst (λ (x : FieldEntry). slice_get names x.selector ≡ Some k) (sym same) named;
-    at = kept ∙ (ap (λ (x : FieldEntry). slice_get (painted_by (slice_get names x.selector) x.slot kinds) e.slot) same
-        ∙ (ap (λ (o : Option ℕ). slice_get (painted_by o e.slot kinds) e.slot) named
-        ∙ set_same kinds e.slot (slot_kind k) l));
-  }
+      by_kept : z ≡ e → (slice_get last e.slot ≡ slice_get next e.slot) ⊎ IsGiven names es e.slot last
+          → IsGiven names (z ∷ es) e.slot last
+      by_kept same (inr g) = given_later names z es e.slot last g
+      by_kept same (inl kept) = record {
+        entry = z;
+        among = first z es;
+        slot = ap (λ (x : FieldEntry). x.slot) same;
+        kind = k;
+        named = subst (λ (x : FieldEntry). slice_get names x.selector ≡ Some k) (sym same) named;
+        at = kept ∙ (ap (λ (x : FieldEntry). slice_get (painted_by (slice_get names x.selector) x.slot kinds) e.slot) same
+            ∙ (ap (λ (o : Option ℕ). slice_get (painted_by o e.slot kinds) e.slot) named
+            ∙ set_same kinds e.slot (slot_kind k) l));
+      }
 
-  by_place : (z ≡ e) ⊎ Contains es e → (Contains es e → IsGiven names es e.slot last) → IsGiven names (z ∷ es) e.slot last
-  by_place (inl same) again = by_kept same (kept_or_given names es next e.slot (omega (arith, l, long)))
-  by_place (inr d) again = given_later names z es e.slot last (again d)
+      by_place : (z ≡ e) ⊎ Contains es e → (Contains es e → IsGiven names es e.slot last)
+          → IsGiven names (z ∷ es) e.slot last
+      by_place (inl same) again = by_kept same (kept_or_given names es next e.slot (omega (arith, l, long)))
+      by_place (inr d) again = given_later names z es e.slot last (again d)
 
 -- ---- all groups
 
@@ -232,7 +235,8 @@ group_painted names (r ∷ rows) j old groups at = joined (group_painted names r
   now = after_row names r j old groups at
 
   by_now : (g : Group) (m : ℕ) → slice_get g.slots m ≡ slice_get now.group.slots m
-      → (slice_get now.group.slots m ≡ slice_get old.slots m) ⊎ ((r.group ≡ j) × IsGiven names r.fields m now.group.slots)
+      → (slice_get now.group.slots m ≡ slice_get old.slots m)
+      ⊎ ((r.group ≡ j) × IsGiven names r.fields m now.group.slots)
       → (slice_get g.slots m ≡ slice_get old.slots m) ⊎ IsGivenIn names (r ∷ rows) j m g
   by_now g m same (inl kept) = inl (same ∙ kept)
   by_now g m same (inr (e, x)) = inr (record {
@@ -274,47 +278,49 @@ row_given names [] j old groups at row among is e k c named l g there = absurd (
 row_given names (r ∷ rows) j old groups at row among is e k c named l g there =
     by_place (in_cons r rows row among)
     (λ d. row_given names rows j now.group next now.at row d is e k c named less g there) where
-  next : List Group
-  next = painted_in names r (slice_get groups r.group) groups
+      next : List Group
+      next = painted_in names r (slice_get groups r.group) groups
 
-  now : AfterRow names r j old groups
-  now = after_row names r j old groups at
+      now : AfterRow names r j old groups
+      now = after_row names r j old groups at
 
-  less : e.slot < length now.group.slots
-  less = let h = now.long in omega (arith, l, h)
+      less : e.slot < length now.group.slots
+      less = let h = now.long in omega (arith, l, h)
 
-  rest : IsPainted names rows j now.group (painted_rows names rows next)
-  rest = group_painted names rows j now.group next now.at
+      rest : IsPainted names rows j now.group (painted_rows names rows next)
+      rest = group_painted names rows j now.group next now.at
 
-  same_group : rest.group ≡ g
-  same_group = let h : Some rest.group ≡ Some g = sym rest.at ∙ there in cc h
+      same_group : rest.group ≡ g
+      same_group = let h : Some rest.group ≡ Some g = sym rest.at ∙ there in cc h
 
-  by_kept : IsGiven names r.fields e.slot now.group.slots → r.group ≡ j
-      → (slice_get rest.group.slots e.slot ≡ slice_get now.group.slots e.slot) ⊎ IsGivenIn names rows j e.slot rest.group
-      → IsGivenIn names (r ∷ rows) j e.slot g
-  by_kept mine here (inr x) = subst (IsGivenIn names (r ∷ rows) j e.slot) same_group (in_later names r rows j e.slot rest.group x)
-  by_kept mine here (inl kept) = subst (IsGivenIn names (r ∷ rows) j e.slot) same_group (record {
-    row = r;
-    among = first r rows;
-    group = here;
-    given = record {
-      entry = mine.entry;
-      among = mine.among;
-      slot = mine.slot;
-      kind = mine.kind;
-      named = mine.named;
-      at = kept ∙ mine.at;
-    };
-  })
+      by_kept : IsGiven names r.fields e.slot now.group.slots → r.group ≡ j
+          → (slice_get rest.group.slots e.slot ≡ slice_get now.group.slots e.slot)
+          ⊎ IsGivenIn names rows j e.slot rest.group
+          → IsGivenIn names (r ∷ rows) j e.slot g
+      by_kept mine here (inr x) = subst (IsGivenIn names (r ∷ rows) j e.slot) same_group
+          (in_later names r rows j e.slot rest.group x)
+      by_kept mine here (inl kept) = subst (IsGivenIn names (r ∷ rows) j e.slot) same_group (record {
+        row = r;
+        among = first r rows;
+        group = here;
+        given = record {
+          entry = mine.entry;
+          among = mine.among;
+          slot = mine.slot;
+          kind = mine.kind;
+          named = mine.named;
+          at = kept ∙ mine.at;
+        };
+      })
 
-  by_place : (r ≡ row) ⊎ Contains rows row → (Contains rows row → IsGivenIn names rows j e.slot g)
-      → IsGivenIn names (r ∷ rows) j e.slot g
-  by_place (inl same) again =
-      let here : r.group ≡ j = ap (λ (x : ClassRow). x.group) same ∙ is in
-      by_kept
-      (now.mine here e k (subst (λ (x : ClassRow). Contains x.fields e) (sym same) c) named l)
-      here (rest.kept_or_given e.slot less)
-  by_place (inr d) again = in_later names r rows j e.slot g (again d)
+      by_place : (r ≡ row) ⊎ Contains rows row → (Contains rows row → IsGivenIn names rows j e.slot g)
+          → IsGivenIn names (r ∷ rows) j e.slot g
+      by_place (inl same) again =
+          let here : r.group ≡ j = ap (λ (x : ClassRow). x.group) same ∙ is in
+          by_kept
+          (now.mine here e k (subst (λ (x : ClassRow). Contains x.fields e) (sym same) c) named l)
+          here (rest.kept_or_given e.slot less)
+      by_place (inr d) again = in_later names r rows j e.slot g (again d)
 
 -- ---- their form
 
@@ -325,17 +331,18 @@ painted_kinds : (names : List ℕ) → All IsFieldKind names → (es : List Fiel
     → All IsKind (painted names es kinds)
 painted_kinds names all [] kinds good = good
 painted_kinds names all (e ∷ es) kinds good =
-    painted_kinds names all es (painted_by (slice_get names e.selector) e.slot kinds) (by_named (some_here (slice_get names e.selector))) where
-  at_named : (xs : List ℕ) → All IsFieldKind xs → (i k : ℕ) → slice_get xs i ≡ Some k → IsFieldKind k
-  at_named xs every i k at =
-      All-contains IsFieldKind xs k every (i, slice_get_within xs i k at, get_or_from_slice_get xs i k k at)
+    painted_kinds names all es (painted_by (slice_get names e.selector) e.slot kinds)
+    (by_named (some_here (slice_get names e.selector))) where
+      at_named : (xs : List ℕ) → All IsFieldKind xs → (i k : ℕ) → slice_get xs i ≡ Some k → IsFieldKind k
+      at_named xs every i k at =
+          All-contains IsFieldKind xs k every (i, slice_get_within xs i k at, get_or_from_slice_get xs i k k at)
 
-  by_named : ((k : ℕ) × (slice_get names e.selector ≡ Some k)) ⊎ (slice_get names e.selector ≡ None)
-      → All IsKind (painted_by (slice_get names e.selector) e.slot kinds)
-  by_named (inr none) = subst (λ (o : Option ℕ). All IsKind (painted_by o e.slot kinds)) (sym none) good
-  by_named (inl (k, named)) =
-      subst (λ (o : Option ℕ). All IsKind (painted_by o e.slot kinds)) (sym named)
-      (All-set IsKind kinds e.slot (slot_kind k) (least_kind k (at_named names all e.selector k named)) good)
+      by_named : ((k : ℕ) × (slice_get names e.selector ≡ Some k)) ⊎ (slice_get names e.selector ≡ None)
+          → All IsKind (painted_by (slice_get names e.selector) e.slot kinds)
+      by_named (inr none) = subst (λ (o : Option ℕ). All IsKind (painted_by o e.slot kinds)) (sym none) good
+      by_named (inl (k, named)) =
+          subst (λ (o : Option ℕ). All IsKind (painted_by o e.slot kinds)) (sym named)
+          (All-set IsKind kinds e.slot (slot_kind k) (least_kind k (at_named names all e.selector k named)) good)
 
 pub painted_in_form : (names : List ℕ) → All IsFieldKind names → (rows : List ClassRow) (groups : List Group)
     → All GroupInForm groups → All GroupInForm (painted_rows names rows groups)
@@ -343,19 +350,19 @@ painted_in_form names all [] groups good = good
 painted_in_form names all (r ∷ rows) groups good =
     painted_in_form names all rows (painted_in names r (slice_get groups r.group) groups)
     (by_there (some_here (slice_get groups r.group))) where
-  by_there : ((g : Group) × (slice_get groups r.group ≡ Some g)) ⊎ (slice_get groups r.group ≡ None)
-      → All GroupInForm (painted_in names r (slice_get groups r.group) groups)
-  by_there (inr none) = subst (λ (o : Option Group). All GroupInForm (painted_in names r o groups)) (sym none) good
-  by_there (inl (g, is)) =
-      let old : GroupInForm g =
-      All-contains GroupInForm groups g good
-      (r.group, slice_get_within groups r.group g is, get_or_from_slice_get groups r.group g g is) in
-      let long = painted_long names r.fields g.slots in
-      let few = old.count in
-      let new : GroupInForm (record { slots = painted names r.fields g.slots }) =
-      record { count = omega (arith, long, few); slots = painted_kinds names all r.fields g.slots old.slots } in
-      subst (λ (o : Option Group). All GroupInForm (painted_in names r o groups)) (sym is)
-      (All-set GroupInForm groups r.group (record { slots = painted names r.fields g.slots }) new good)
+      by_there : ((g : Group) × (slice_get groups r.group ≡ Some g)) ⊎ (slice_get groups r.group ≡ None)
+          → All GroupInForm (painted_in names r (slice_get groups r.group) groups)
+      by_there (inr none) = subst (λ (o : Option Group). All GroupInForm (painted_in names r o groups)) (sym none) good
+      by_there (inl (g, is)) =
+          let old : GroupInForm g =
+          All-contains GroupInForm groups g good
+          (r.group, slice_get_within groups r.group g is, get_or_from_slice_get groups r.group g g is) in
+          let long = painted_long names r.fields g.slots in
+          let few = old.count in
+          let new : GroupInForm (record { slots = painted names r.fields g.slots }) =
+          record { count = omega (arith, long, few); slots = painted_kinds names all r.fields g.slots old.slots } in
+          subst (λ (o : Option Group). All GroupInForm (painted_in names r o groups)) (sym is)
+          (All-set GroupInForm groups r.group (record { slots = painted names r.fields g.slots }) new good)
 
 pub painted_rows_long : (names : List ℕ) (rows : List ClassRow) (groups : List Group)
     → length (painted_rows names rows groups) ≡ length groups
@@ -363,6 +370,6 @@ painted_rows_long names [] groups = refl
 painted_rows_long names (r ∷ rows) groups =
     painted_rows_long names rows (painted_in names r (slice_get groups r.group) groups)
     ∙ one_long (slice_get groups r.group) where
-  one_long : (o : Option Group) → length (painted_in names r o groups) ≡ length groups
-  one_long None = refl
-  one_long (Some g) = length-set groups r.group (record { slots = painted names r.fields g.slots })
+      one_long : (o : Option Group) → length (painted_in names r o groups) ≡ length groups
+      one_long None = refl
+      one_long (Some g) = length-set groups r.group (record { slots = painted names r.fields g.slots })

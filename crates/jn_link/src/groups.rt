@@ -19,8 +19,8 @@ fn blank(alloc: Global, slots: u16) -> Result<Group, AllocError>
     })
 }
 
-/// The number as that of a class. One above 65535, which no class of a program within the limits has, is refused for want
-/// of memory.
+/// The number as that of a class. One above 65535, which no class of a program within the limits has, is refused for
+/// want of memory.
 fn class_id(k: usize) -> Result<ClassId, AllocError>
     ensures { IfOk result (λ id. id.0 ≡ k) }
 {
@@ -80,7 +80,8 @@ fn paint(group: &mut Group, kinds: &[u8], entries: &[FieldEntry])
 
 /// The slots of the row's group have the kinds of the row's fields. A package has no group.
 fn paint_row(groups: &mut Vec<Group>, kinds: &[u8], row: &ClassRow)
-    ensures { groups.new.items ≡ painted_in kinds.now row.now (slice_get groups.old.items row.now.group) groups.old.items }
+    ensures { groups.new.items
+        ≡ painted_in kinds.now row.now (slice_get groups.old.items row.now.group) groups.old.items }
 {
     let at = row.group as usize;
     if at < groups.len() {

@@ -6,6 +6,8 @@ mod law;
 pub mod lists;
 mod start;
 
-pub use law::{entries_are_few, joined_are_images, joined_stand, lowered_have_shapes, selectors_are_few};
-pub use law::verdict_grants_rows;
+pub use law::{
+    entries_are_few, joined_are_images, joined_stand, lowered_have_shapes, selectors_are_few,
+    verdict_grants_rows,
+};
 pub use start::start_code;
