@@ -5,3 +5,7 @@ pub mod Telling
 pub mod TypeLaws
 pub mod SimpleLaws
 pub mod KeptLaws
+pub mod StmtSteps
+pub mod BlockSteps
+pub mod BodySteps
+pub mod Stopping

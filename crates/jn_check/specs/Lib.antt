@@ -1,2 +1,4 @@
 pub mod Masks
 pub mod States
+pub mod Blocks
+pub mod Bodies
