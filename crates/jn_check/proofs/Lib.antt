@@ -5,3 +5,6 @@ pub mod Telling
 pub mod TypeLaws
 pub mod SimpleLaws
 pub mod KeptLaws
+pub mod Mains
+pub mod Walking
+pub mod Verdicts

@@ -1,7 +1,7 @@
 -- The class with which a run begins: names by their spelling, least bodies, Main.
-use Rattle.std.proofs.Common.{◌≡◌, ◌↔◌, ◌<◌, ◌≤◌, ◌+◌, ◌⊎◌, inl, inr, ℕ, List, [], ◌∷◌, length, get_or, slice_get, Some, None, Bool, true, false, IsTrue, refl, sym, ap, ◌∙◌, subst, arith, reverse}
-use Rattle.std.specs.Prelude.{codes, Option}
-use Rattle.std.proofs.lemmas.Bool.{cases_lt}
+use Rattle.std.proofs.Common.{◌≡◌, ◌↔◌, ◌<◌, ◌≤◌, ◌+◌, ◌⊎◌, inl, inr, ℕ, List, [], ◌∷◌, length, get_or, slice_get, Some, None, Bool, true, false, not, IsTrue, refl, sym, ap, ◌∙◌, subst, arith, reverse}
+use Rattle.std.specs.Prelude.{codes, Result, Ok, Err, IfOk}
+use Rattle.std.proofs.lemmas.Bool.{cases_lt, false≢true}
 use Rattle.std.proofs.lemmas.Option.{slice_get_read, slice_get_within}
 use Rattle.std.proofs.lemmas.List.{reverse-reverse}
 use Rattle.jn_reach.proofs.Searches.{not_when}
@@ -12,18 +12,18 @@ use Rattle.jn_base.specs.declared.tree.Kind.TheVariants as kinds
 use Rattle.jn_base.specs.declared.tree.Program.{Program}
 use Rattle.jn_base.specs.Paths.{Path}
 use Rattle.jn_base.specs.Universe.{InUniverse}
-use Rattle.jn_base.specs.Members.{MethodAt, HasKind, Least}
+use Rattle.jn_base.specs.Members.{MethodAt, HasKind}
 use Rattle.jn_base.specs.TableRules.{DeclarationsPass}
 use Rattle.jn_base.specs.ProgramNames.{IsNamed}
 use Rattle.jn_sem.specs.Sharing.{IsClass}
 use Rattle.jn_sem.specs.Does.{Body, IsBody, IsSpelled}
-use Rattle.jn_sem.specs.LawsOfFinding.{IsOne, FoundOnceIn}
+use Rattle.jn_sem.specs.LawsOfFinding.{FoundOnceIn}
 use Rattle.jn_sem.proofs.FindingLaws.{finds_one_in}
-use Rattle.jn_rules.specs.Questions.{Answers, Finds}
+use Rattle.jn_rules.specs.Questions.{Answers}
 use Rattle.jn_rules.specs.Verdict.{HasMain}
 use Rattle.jn_expr.specs.Found.{LeastAt, MethodIs}
 use Rattle.jn_check.specs.declared.main_class.Form.{Form}
-use Rattle.jn_check.specs.Mains.{BeginsAt, HasNoParams, LooksSo, FormTold}
+use Rattle.jn_check.specs.Mains.{BeginsAt, HasNoParams, FormTold}
 
 -- ---- names by their spelling
 
@@ -76,7 +76,20 @@ looks_so p R Q path m x f least e at no_params void = record {
   void = void;
 }
 
+-- ---- tests that are turned round
+
+was_false : (b : Bool) → not b ≡ true → b ≡ false
+was_false true e = absurd (false≢true e)
+was_false false e = refl
+
+was_true : (b : Bool) → not b ≡ false → b ≡ true
+was_true true e = refl
+was_true false e = absurd (false≢true (sym e))
+
 -- ---- one body
+
+pub is_class : (p : Program) (R : Path) → InUniverse p R → HasKind p R kinds.Class → IsClass p R
+is_class p R at kind = record { universe = at; kind = kind }
 
 module _ (p : Program) (pass : DeclarationsPass p) (named : IsNamed p) where
   once : FoundOnceIn p
@@ -88,13 +101,10 @@ module _ (p : Program) (pass : DeclarationsPass p) (named : IsNamed p) where
   pub answers_form : (R : Path) (m : Name) (f : Form) → InUniverse p R → FormTold p R m (Some f) → Answers (HasNoParams p R m) f.no_params
   answers_form R m f at looks = of f.no_params looks.no_params where
     of : (t : Bool) → IsTrue t ↔ (looks.body.method.params ≡ []) → Answers (HasNoParams p R m) t
-    of true h b is = subst (λ (c : Body). c.method.params ≡ []) (once.body R m at looks.body b looks.is is) (h.0 refl)
-    of false h g = not_when refl h (g looks.body looks.is)
+    of true h = λ b is. subst (λ (c : Body). c.method.params ≡ []) (once.body R m at looks.body b looks.is is) (h.0 refl)
+    of false h = λ g. not_when refl h (g looks.body looks.is)
 
   module _ (C m : Name) (R : Path) (e : R ≡ C ∷ []) where
-    pub no_class : (told : Bool) → told ≡ false → IsTrue told ↔ HasKind p R kinds.Class → BeginsAt p C m → ⊥
-    no_class told f h b = not_when f h (subst (λ (P : Path). HasKind p P kinds.Class) (sym e) b.class.kind)
-
     pub no_body : FormTold p R m None → BeginsAt p C m → ⊥
     no_body none b = none b.body (subst (λ (P : Path). IsBody p P m b.body) (sym e) b.is)
 
@@ -102,14 +112,11 @@ module _ (p : Program) (pass : DeclarationsPass p) (named : IsNamed p) where
     same_body f looks b =
         once.body (C ∷ []) m b.class.universe looks.body b.body (subst (λ (P : Path). IsBody p P m looks.body) e looks.is) b.is
 
-    pub has_params : (f : Form) → FormTold p R m (Some f) → f.no_params ≡ false → BeginsAt p C m → ⊥
-    has_params f looks t b = not_when t looks.no_params (ap (λ (c : Body). c.method.params) (same_body f looks b) ∙ b.no_params)
+    pub has_params : (f : Form) → FormTold p R m (Some f) → not f.no_params ≡ true → BeginsAt p C m → ⊥
+    has_params f looks t b = not_when (was_false f.no_params t) looks.no_params (ap (λ (c : Body). c.method.params) (same_body f looks b) ∙ b.no_params)
 
-    pub has_result : (f : Form) → FormTold p R m (Some f) → f.void ≡ false → BeginsAt p C m → ⊥
-    has_result f looks t b = not_when t looks.void (ap (λ (c : Body). c.method.result) (same_body f looks b) ∙ b.void)
-
-    pub is_class : InUniverse p R → (told : Bool) → told ≡ true → IsTrue told ↔ HasKind p R kinds.Class → IsClass p R
-    is_class at told t h = record { universe = at; kind = h.0 t }
+    pub has_result : (f : Form) → FormTold p R m (Some f) → not f.void ≡ true → BeginsAt p C m → ⊥
+    has_result f looks t b = not_when (was_false f.void t) looks.void (ap (λ (c : Body). c.method.result) (same_body f looks b) ∙ b.void)
 
     pub begins : (f : Form) → IsClass p R → FormTold p R m (Some f) → f.no_params ≡ true → f.void ≡ true → (told : Bool) → Answers (HasNoParams p R C) told
         → Answers (BeginsAt p C m) told
@@ -121,18 +128,37 @@ module _ (p : Program) (pass : DeclarationsPass p) (named : IsNamed p) where
       void = looks.void.0 vd;
       constructor = subst (λ (P : Path). HasNoParams p P C) e h;
     }
-    begins f class looks np vd false h b = h (subst (λ (P : Path). HasNoParams p P C) (sym e) b.constructor)
+    begins f class looks np vd false h = λ b. h (subst (λ (P : Path). HasNoParams p P C) (sym e) b.constructor)
 
-  -- ---- Main
+    pub begins_told : (f : Form) → IsClass p R → FormTold p R m (Some f) → not f.no_params ≡ false → not f.void ≡ false → {E : Type 0} (r : Result Bool E)
+        → IfOk r (λ (told : Bool). Answers (HasNoParams p R C) told) → IfOk r (λ (told : Bool). Answers (BeginsAt p C m) told)
+    begins_told f class looks np vd (Ok told) h = begins f class looks (was_true f.no_params np) (was_true f.void vd) told h
+    begins_told f class looks np vd (Err e) h = tt
 
-  pub no_main_class : ((n : Name) → IsSpelled p (codes "Main") n → ⊥) → HasMain p → ⊥
-  no_main_class none h = none h.main_class h.class_spelled
+-- ---- Main
 
-  pub no_main_name : ((n : Name) → IsSpelled p (codes "main") n → ⊥) → HasMain p → ⊥
-  no_main_name none h = none h.main h.main_spelled
+pub no_main_class : (p : Program) → ((n : Name) → IsSpelled p (codes "Main") n → ⊥) → HasMain p → ⊥
+no_main_class p none h = none h.main_class h.class_spelled
 
-  pub main_told : (C m : Name) → IsSpelled p (codes "Main") C → IsSpelled p (codes "main") m → (told : Bool) → Answers (BeginsAt p C m) told → Answers (HasMain p) told
-  main_told C m c n true b = record {
+pub no_main_name : (p : Program) → ((n : Name) → IsSpelled p (codes "main") n → ⊥) → HasMain p → ⊥
+no_main_name p none h = none h.main h.main_spelled
+
+module _ (p : Program) (pass : DeclarationsPass p) (named : IsNamed p) (C m : Name) (c : IsSpelled p (codes "Main") C) (n : IsSpelled p (codes "main") m) where
+  begun : HasMain p → BeginsAt p C m
+  begun x =
+      let is_class_name : x.main_class ≡ C = (once p pass named).spelled (codes "Main") x.main_class C x.class_spelled c in
+      let is_name : x.main ≡ m = (once p pass named).spelled (codes "main") x.main m x.main_spelled n in
+      subst (λ (D : Name). BeginsAt p D m) is_class_name (subst (λ (k : Name). BeginsAt p x.main_class k) is_name (record {
+        class = x.class;
+        body = x.body;
+        is = x.is;
+        no_params = x.no_params;
+        void = x.void;
+        constructor = x.constructor;
+      }))
+
+  main_at : (told : Bool) → Answers (BeginsAt p C m) told → Answers (HasMain p) told
+  main_at true b = record {
     main_class = C;
     class_spelled = c;
     class = b.class;
@@ -144,19 +170,8 @@ module _ (p : Program) (pass : DeclarationsPass p) (named : IsNamed p) where
     void = b.void;
     constructor = b.constructor;
   }
-  main_told C m c n false h x = h begun where
-    is_class_name : x.main_class ≡ C
-    is_class_name = once.spelled (codes "Main") x.main_class C x.class_spelled c
+  main_at false h = λ x. h (begun x)
 
-    is_name : x.main ≡ m
-    is_name = once.spelled (codes "main") x.main m x.main_spelled n
-
-    begun : BeginsAt p C m
-    begun = subst (λ (D : Name). BeginsAt p D m) is_class_name (subst (λ (k : Name). BeginsAt p x.main_class k) is_name (record {
-      class = x.class;
-      body = x.body;
-      is = x.is;
-      no_params = x.no_params;
-      void = x.void;
-      constructor = x.constructor;
-    }))
+  pub main_told : {E : Type 0} (r : Result Bool E) → IfOk r (λ (told : Bool). Answers (BeginsAt p C m) told) → IfOk r (λ (told : Bool). Answers (HasMain p) told)
+  main_told (Ok told) h = main_at told h
+  main_told (Err e) h = tt

@@ -1,5 +1,5 @@
 -- The steps of the verdict of a program, put together.
-use Rattle.std.proofs.Common.{◌≡◌, [], ◌∷◌, ◌++◌, ◌×◌, List, Bool, true, false, refl, sym, ap, ◌∙◌, subst}
+use Rattle.std.proofs.Common.{◌≡◌, [], ◌++◌, List, sym, ap, ◌∙◌, subst}
 use Rattle.std.specs.Prelude.{Result, Ok, Err, IfOk}
 use Rattle.jn_reach.specs.Each.{Each}
 use Rattle.jn_base.specs.declared.tree.Program.{Program}
@@ -7,7 +7,6 @@ use Rattle.jn_base.specs.declared.names.Resolved.{Resolved}
 use Rattle.jn_base.specs.declared.refusal.Refusal.{Refusal}
 use Rattle.jn_base.specs.Duplicates.{duplicates}
 use Rattle.jn_base.specs.ProgramNames.{IsNamed}
-use Rattle.jn_base.specs.TableRules.{DeclarationsPass}
 use Rattle.jn_base.specs.WithinLimits.{IsWithinLimits}
 use Rattle.jn_laws.proofs.PlacesAside.{programs_within_limits}
 use Rattle.jn_table.specs.declared.table.Table.{Table}
@@ -20,10 +19,9 @@ use Rattle.jn_share.specs.Groups.{AreGroups}
 use Rattle.jn_share.specs.Slots.{AreSlots}
 use Rattle.jn_agree.specs.Rows.{bodies_of}
 use Rattle.jn_rules.specs.Plans.{Nothing}
-use Rattle.jn_rules.specs.Questions.{Answers}
 use Rattle.jn_rules.specs.Resolved.{IsResolved}
 use Rattle.jn_rules.specs.Stmts.{body_plan}
-use Rattle.jn_rules.specs.Verdict.{HeadersPass, HeadersVerdict, HasMain, no_main, BodiesPass, TreePasses, TreeRefuses, TreeVerdict}
+use Rattle.jn_rules.specs.Verdict.{HeadersPass, HeadersVerdict, BodiesPass, TreeRefuses, TreeVerdict}
 use Rattle.jn_rule_laws.proofs.Verdicts.{one_tree}
 use Rattle.jn_heads.specs.declared.fault.CheckFault.{CheckFault}
 use Rattle.jn_heads.specs.declared.fault.CheckFault.TheVariants.{Refused, Memory}
@@ -32,8 +30,7 @@ use Rattle.jn_header.specs.declared.judge.Headers.{Headers}
 use Rattle.jn_header.specs.Check.{NamesVerdict}
 use Rattle.jn_header.specs.Judged as judged
 use Rattle.jn_header.specs.Judged.{AreParts}
-use Rattle.jn_expr.specs.declared.env.Env.{Env}
-use Rattle.jn_expr.specs.Envs.{Parts, ArePartsOf, parts}
+use Rattle.jn_expr.specs.Envs.{Parts, ArePartsOf}
 use Rattle.jn_check.specs.declared.world.World.{World}
 use Rattle.jn_check.specs.Walk.{Known, KnownOr}
 use Rattle.jn_check.specs.Worlds.{IsWorld, WorldTold, HasParts, nothing}
@@ -56,10 +53,6 @@ are_parts p t h x limits once a e = record {
   masks = e.masks ∙ a.masks;
 }
 
--- no declaration and nothing of the class table is refused
-pub declarations : (p : Program) → BodiesPass p → DeclarationsPass p
-declarations p b = record { once = b.once; table = b.headers.limits.members.types.table }
-
 -- ---- what is refused
 
 pub names_told : (p : Program) (f : CheckFault) → Told {B = Nothing} (NamesVerdict p) itself (Err f) → WorldTold p (Err f)
@@ -75,10 +68,6 @@ pub bodies_told : (p : Program) (f : CheckFault) (before after : List Resolved) 
 bodies_told p (Refused r) before after once pass h = TreeRefuses.bodies once pass h
 bodies_told p Memory before after once pass h = tt
 
-pub main_told : (p : Program) (told : Bool) (r : Refusal) → BodiesPass p → told ≡ false → Answers (HasMain p) told → r ≡ no_main → TreeRefuses p r
-main_told p true r b e h k = absurd (cc e)
-main_told p false r b e h k = TreeRefuses.main b h k
-
 -- ---- what passes
 
 pub bodies_pass : (p : Program) (before after : List Resolved) → duplicates p ≡ [] → HeadersPass p → Known p (body_plan p) (bodies_of p) before after → BodiesPass p
@@ -87,20 +76,6 @@ bodies_pass p before after once pass h = record { once = once; headers = pass; b
 pub bodies_known : (p : Program) (before after : List Resolved) → before ≡ [] → Known p (body_plan p) (bodies_of p) before after → Each (IsResolved p) (bodies_of p) after
 bodies_known p before after e h =
     subst (λ (rs : List Resolved). Each (IsResolved p) (bodies_of p) rs) (sym (h.is ∙ ap (λ (rs : List Resolved). rs ++ h.more) e)) h.each
-
-pub main_there : (p : Program) (told : Bool) → told ≡ true → Answers (HasMain p) told → HasMain p
-main_there p true e h = h
-main_there p false e h = absurd (cc e)
-
-pub world_there : (p : Program) (env : Env) (bodies : List Resolved) (w : World) → ArePartsOf p (parts env) → Each (IsResolved p) (bodies_of p) bodies → w.table ≡ env.table
-    → w.members ≡ env.members → w.groups ≡ env.groups → w.slots ≡ env.slots → w.bodies.items ≡ bodies → IsWorld p w
-world_there p env bodies w a each t m g s b = record {
-  filled = subst (IsFilled p) (sym t) a.filled;
-  members = subst (λ (y : Members). IsMembersOf p w.table y) (sym m) (subst (λ (u : Table). IsMembersOf p u env.members) (sym t) a.members);
-  groups = subst (λ (y : Groups). AreGroups p w.table.known.items y) (sym g) (subst (λ (u : Table). AreGroups p u.known.items env.groups) (sym t) a.groups);
-  slots = subst (λ (y : Slots). AreSlots p w.table.known.items y) (sym s) (subst (λ (u : Table). AreSlots p u.known.items env.slots) (sym t) a.slots);
-  bodies = subst (λ (rs : List Resolved). Each (IsResolved p) (bodies_of p) rs) (sym b) each;
-}
 
 -- ---- the clauses of the check
 

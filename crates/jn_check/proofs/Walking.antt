@@ -1,6 +1,6 @@
 -- Going over the bodies of a program.
-use Rattle.std.proofs.Common.{◌≡◌, ◌<◌, ◌≤◌, ◌+◌, ℕ, List, [], ◌∷◌, ◌++◌, length, map, refl, sym, ap, ◌∙◌, subst, drop, get_or, append_assoc, Result, Ok, Err}
-use Rattle.std.proofs.lemmas.List.{append-nil}
+use Rattle.std.proofs.Common.{◌≡◌, ◌<◌, ◌≤◌, ◌+◌, ℕ, List, [], ◌∷◌, ◌++◌, length, map, refl, sym, ap, ◌∙◌, subst, reverse, drop, get_or, append_assoc, Result, Ok, Err}
+use Rattle.std.proofs.lemmas.List.{append-nil, reverse-reverse}
 use Rattle.std.proofs.Math.ListN.{drop_of_length-le}
 use Rattle.jn_reach.specs.Each.{Each, none, more}
 use Rattle.jn_base.specs.declared.tree.Decl.{Decl}
@@ -10,14 +10,14 @@ use Rattle.jn_base.specs.declared.tree.Member.{Member, out-Member, fold-Member}
 use Rattle.jn_base.specs.declared.tree.Member.TheOpen.{Member-F}
 use Rattle.jn_base.specs.declared.tree.Member.TheFolds.{map-Member, fold_out-Member, fold_out-Decl}
 use Rattle.jn_base.specs.declared.tree.Member.TheVariants as member
-use Rattle.jn_base.specs.declared.tree.Member.TheVariants.{outs-Inner, outs-Slot, outs-Body}
+use Rattle.jn_base.specs.declared.tree.Member.TheVariants.{outs-Slot}
 use Rattle.jn_base.specs.declared.tree.Program.{Program}
 use Rattle.jn_base.specs.declared.names.Resolved.{Resolved}
-use Rattle.jn_base.specs.Paths.{Path}
+use Rattle.jn_base.specs.declared.path.Path.{Path as ShownPath}
+use Rattle.jn_base.specs.Paths.{Path, shown}
 use Rattle.jn_sem.specs.Does.{Body}
 use Rattle.jn_agree.specs.Rows.{InOrder, of_member, one_by_one, of_decl, bodies_of}
 use Rattle.jn_rules.specs.Plans.{Plan, done, Nothing, in_turn}
-use Rattle.jn_rules.specs.Questions.{Gives}
 use Rattle.jn_rules.specs.Headers.{asked_at}
 use Rattle.jn_rules.specs.Stmts.{body_types, decl_bodies, body_plan}
 use Rattle.jn_rules.specs.Forms.{member_body, bodies_in}
@@ -27,7 +27,8 @@ use Rattle.jn_rules.proofs.FormLaws.{decl_forms}
 use Rattle.jn_heads.specs.declared.fault.CheckFault.{CheckFault}
 use Rattle.jn_heads.specs.declared.fault.CheckFault.TheVariants.{Refused, Memory}
 use Rattle.jn_heads.proofs.Lists.{at_get}
-use Rattle.jn_heads.proofs.Turns.{TurnsFrom, turns_start, turns_more, turns_fail, turns_done}
+use Rattle.jn_heads.proofs.Turns.{TurnsFrom, turns_more, turns_fail, turns_done}
+use Rattle.jn_expr.specs.Calling.{body_of}
 use Rattle.jn_check.specs.Bodies.{BodyTold}
 use Rattle.jn_check.specs.Walk.{plan_of_member, plan_of_decl, bodies_at, bodies_of_member, bodies_of_decl, gathered, Known, KnownOr}
 
@@ -86,13 +87,26 @@ known_same p x y bs cs before after r e k h =
 
 -- ---- one body
 
-pub body_known : (p : Program) (b : Body) (r : Resolved) (before after : List Resolved) → BodyTold p b (Ok r) → after ≡ before ++ r ∷ []
-    → Known p (body_types b) (b ∷ []) before after
-body_known p b r before after h e = record { gives = notes_give p (body_types b) h.marks tt h.noted; more = r ∷ []; is = e; each = more h none }
+module _ (p : Program) (R : Path) (m : Method) (x : ShownPath) (e : x ≡ shown R) where
+  -- the class of the body is the one that is kept
+  class_is : reverse x.names ≡ R
+  class_is = ap (λ (y : ShownPath). reverse y.names) e ∙ reverse-reverse R
 
-pub body_fails : (p : Program) (b : Body) (f : CheckFault) (before after : List Resolved) → BodyTold p b (Err f) → KnownOr p (body_types b) (b ∷ []) before after (Err f)
-body_fails p b (Refused r) before after h = h
-body_fails p b Memory before after h = tt
+  told_there : (r : Result Resolved CheckFault) → BodyTold p (body_of (reverse x.names) m) r → BodyTold p (body_of R m) r
+  told_there r h = subst (λ (Q : Path). BodyTold p (body_of Q m) r) class_is h
+
+  pub body_known : (r : Resolved) (before after : List Resolved) → BodyTold p (body_of (reverse x.names) m) (Ok r) → after ≡ before ++ r ∷ []
+      → Known p (body_types (body_of R m)) (body_of R m ∷ []) before after
+  body_known r before after h k =
+      let is : IsResolved p (body_of R m) r = told_there (Ok r) h in
+      record { gives = notes_give p (body_types (body_of R m)) is.marks tt is.noted; more = r ∷ []; is = k; each = more is none }
+
+  pub body_fails : (f : CheckFault) (before after : List Resolved) → BodyTold p (body_of (reverse x.names) m) (Err f)
+      → KnownOr p (body_types (body_of R m)) (body_of R m ∷ []) before after (Err f)
+  body_fails f before after h = of f (told_there (Err f) h) where
+    of : (g : CheckFault) → BodyTold p (body_of R m) (Err g) → KnownOr p (body_types (body_of R m)) (body_of R m ∷ []) before after (Err g)
+    of (Refused r) k = k
+    of Memory k = tt
 
 -- ---- a loop over members, or over declarations
 
@@ -111,9 +125,6 @@ pub record WalkFrom {A : Type 0} (p : Program) (plan : A → Plan Nothing) (bodi
   pub known : KnownFrom p bodies xs i before now
 
 module _ {A : Type 0} (p : Program) (plan : A → Plan Nothing) (bodies : A → List Body) (xs : List A) where
-  pub walk_start : (before : List Resolved) → WalkFrom p plan bodies xs 0 before before
-  walk_start before = record { turns = turns_start p plan xs; known = record { more = []; is = sym (append-nil before); all = λ ms h. h } }
-
   pub walk_more : (i : ℕ) (x : A) (before now after : List Resolved) → i < length xs → x ≡ get_or xs i x → WalkFrom p plan bodies xs i before now
       → Known p (plan x) (bodies x) now after → WalkFrom p plan bodies xs (i + 1) before after
   walk_more i x before now after l e so h = record {
@@ -147,18 +158,6 @@ module _ {A : Type 0} (p : Program) (plan : A → Plan Nothing) (bodies : A → 
   }
 
 -- ---- a member, a declaration, the whole program
-
-module _ (p : Program) (R : Path) (m : Member) (before after : List Resolved) (r : Result Nothing CheckFault) where
-  pub inner_told : (d : Decl) → m ≡ member.Inner d → KnownOr p (decl_bodies d R) (of_decl d R) before after r
-      → KnownOr p (plan_of_member R m) (bodies_of_member R m) before after r
-  inner_told d e h = known_same p _ _ _ _ before after r (sym (ap (plan_of_member R) e ∙ ap (member_body R) (outs-Inner d)))
-      (sym (ap (bodies_of_member R) e ∙ ap (bodies_at R) (outs-Inner d))) h
-
-  pub body_told : (x : Method) → m ≡ member.Body x
-      → KnownOr p (body_types (record { class = R; method = x })) (record { class = R; method = x } ∷ []) before after r
-      → KnownOr p (plan_of_member R m) (bodies_of_member R m) before after r
-  body_told x e h = known_same p _ _ _ _ before after r (sym (ap (plan_of_member R) e ∙ ap (member_body R) (outs-Body x)))
-      (sym (ap (bodies_of_member R) e ∙ ap (bodies_at R) (outs-Body x))) h
 
 pub slot_known : (p : Program) (R : Path) (m : Member) (out : List Resolved) (f : Field) → m ≡ member.Slot f
     → KnownOr p (plan_of_member R m) (bodies_of_member R m) out out (Ok tt)

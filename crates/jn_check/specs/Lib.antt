@@ -1,2 +1,6 @@
 pub mod Masks
 pub mod States
+pub mod Bodies
+pub mod Mains
+pub mod Walk
+pub mod Worlds

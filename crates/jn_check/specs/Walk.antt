@@ -42,14 +42,16 @@ gathered f [] = []
 gathered f (x ∷ xs) = f x ++ gathered f xs
 
 -- The bodies pass, and what they are known by stands behind what was there.
-pub record Known (p : Program) (plan : Plan Nothing) (bodies : List Body) (before after : List Resolved) : Type 0 where
+pub record Known (p : Program) (plan : Plan Nothing) (bodies : List Body) (before after : List Resolved)
+    : Type 0 where
   pub gives : Gives p plan (Ok tt)
   pub more : List Resolved
   pub is : after ≡ before ++ more
   pub each : Each (IsResolved p) bodies more
 
 -- That, or their first refusal. Of want of memory nothing is said.
-abbrev pub KnownOr : Program → Plan Nothing → List Body → List Resolved → List Resolved → Result Nothing CheckFault → Type 0
+abbrev pub KnownOr : Program → Plan Nothing → List Body → List Resolved → List Resolved → Result Nothing CheckFault
+    → Type 0
 KnownOr p plan bodies before after (Ok u) = Known p plan bodies before after
 KnownOr p plan bodies before after (Err (Refused r)) = Gives p plan (Err r)
 KnownOr p plan bodies before after (Err Memory) = Unit {0}

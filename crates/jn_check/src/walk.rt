@@ -5,9 +5,10 @@ ghost use Rattle.jn_rules.specs.Plans.{in_turn};
 ghost use Rattle.jn_rules.specs.Stmts.{body_types, decl_bodies, body_plan};
 ghost use Rattle.jn_agree.specs.Rows.{of_decl, bodies_of};
 ghost use Rattle.jn_expr.specs.Envs.{ArePartsOf, parts};
-ghost use Rattle.jn_check.specs.Walk.{KnownOr, gathered, plan_of_member, plan_of_decl, bodies_of_member, bodies_of_decl};
+ghost use Rattle.jn_check.specs.Walk.{KnownOr, gathered, plan_of_member, plan_of_decl};
+ghost use Rattle.jn_check.specs.Walk.{bodies_of_member, bodies_of_decl};
 
-use crate::bodies::check_body;
+use crate::body::check_body;
 use jn_base::names::Resolved;
 use jn_base::tree::{Decl, Member, Method, Program};
 use jn_expr::Env;
@@ -24,7 +25,7 @@ fn check_method(
     m: &Method,
     out: &mut Vec<Resolved>,
 ) -> Result<(), CheckFault>
-    requires parts { ArePartsOf p.now (parts env.old) }
+    requires { ArePartsOf p.now (parts env.old) }
     ensures told { KnownOr p.now (body_types (record { class = class.now; method = m.now }))
         (record { class = class.now; method = m.now } ∷ []) out.old.items out.new.items result }
     ensures parts { ArePartsOf p.now (parts env.new) }
@@ -50,7 +51,7 @@ fn check_member(
     m: &Member,
     out: &mut Vec<Resolved>,
 ) -> Result<(), CheckFault>
-    requires parts { ArePartsOf p.now (parts env.old) }
+    requires { ArePartsOf p.now (parts env.old) }
     ensures told { KnownOr p.now (plan_of_member class.now m.now) (bodies_of_member class.now m.now) out.old.items
         out.new.items result }
     ensures parts { ArePartsOf p.now (parts env.new) }
@@ -72,7 +73,7 @@ fn check_members(
     members: &[Member],
     out: &mut Vec<Resolved>,
 ) -> Result<(), CheckFault>
-    requires parts { ArePartsOf p.now (parts env.old) }
+    requires { ArePartsOf p.now (parts env.old) }
     ensures told { KnownOr p.now (in_turn (map (plan_of_member class.now) members.now))
         (gathered (bodies_of_member class.now) members.now) out.old.items out.new.items result }
     ensures parts { ArePartsOf p.now (parts env.new) }
@@ -96,7 +97,7 @@ fn check_decl(
     d: &Decl,
     out: &mut Vec<Resolved>,
 ) -> Result<(), CheckFault>
-    requires parts { ArePartsOf p.now (parts env.old) }
+    requires { ArePartsOf p.now (parts env.old) }
     ensures told { KnownOr p.now (decl_bodies d.now namespace.now) (of_decl d.now namespace.now) out.old.items
         out.new.items result }
     ensures parts { ArePartsOf p.now (parts env.new) }
@@ -115,7 +116,7 @@ fn check_decls(
     decls: &[Decl],
     out: &mut Vec<Resolved>,
 ) -> Result<(), CheckFault>
-    requires parts { ArePartsOf p.now (parts env.old) }
+    requires { ArePartsOf p.now (parts env.old) }
     ensures told { KnownOr p.now (in_turn (map (plan_of_decl namespace.now) decls.now))
         (gathered (bodies_of_decl namespace.now) decls.now) out.old.items out.new.items result }
     ensures parts { ArePartsOf p.now (parts env.new) }
@@ -137,7 +138,7 @@ pub fn check_bodies(
     env: &mut Env,
     out: &mut Vec<Resolved>,
 ) -> Result<(), CheckFault>
-    requires parts { ArePartsOf p.now (parts env.old) }
+    requires { ArePartsOf p.now (parts env.old) }
     ensures told { KnownOr p.now (body_plan p.now) (bodies_of p.now) out.old.items out.new.items result }
     ensures parts { ArePartsOf p.now (parts env.new) }
 {

@@ -57,12 +57,7 @@ fn no_marks(alloc: Global) -> Resolved {
 }
 
 /// What the check of bodies works with, before the first of them.
-fn env_with(
-    alloc: Global,
-    table: Table,
-    pool: Pool,
-    headers: Headers,
-) -> Result<Env, AllocError>
+fn env_with(alloc: Global, table: Table, pool: Pool, headers: Headers) -> Result<Env, AllocError>
     ensures { IfOk result (λ env. HasParts table headers (parts env)) }
 {
     let judge = Judge::new(alloc)?;

@@ -1,6 +1,6 @@
 use Rattle.std.specs.Prelude.{Err}
 use Rattle.jn_check.proofs.Verdicts.{names_told, verdict_told, verdict_only, verdict_parts}
-use Rattle.jn_check.proofs.check.check.Goals as goal
+use Rattle.jn_check.proofs.verdict.check.Goals as goal
 
 pub returns-in-Err-clause-told : goal.returns-in-Err-clause-told
 returns-in-Err-clause-told c = verdict_told c.args.p.now (Err c.in-Err.fault) (names_told c.args.p.now c.in-Err.fault c.in-Err.ensures.told)

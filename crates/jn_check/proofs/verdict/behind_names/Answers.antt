@@ -1,5 +1,5 @@
 use Rattle.jn_check.proofs.Verdicts.{named, headers_told}
-use Rattle.jn_check.proofs.check.behind_names.Goals as goal
+use Rattle.jn_check.proofs.verdict.behind_names.Goals as goal
 
 pub check_headers-requires-clause-table : goal.check_headers-requires-clause-table
 check_headers-requires-clause-table c = c.in_ok-table.ensures.table (named c.args.p.now c.requires.limits)

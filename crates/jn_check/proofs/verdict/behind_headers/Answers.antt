@@ -1,6 +1,6 @@
 use Rattle.jn_expr.specs.Envs.{parts}
 use Rattle.jn_check.proofs.Verdicts.{are_parts, bodies_told, bodies_pass, bodies_known}
-use Rattle.jn_check.proofs.check.behind_headers.Goals as goal
+use Rattle.jn_check.proofs.verdict.behind_headers.Goals as goal
 
 pub check_bodies-requires : goal.check_bodies-requires
 check_bodies-requires c =
