@@ -9,3 +9,6 @@ pub mod StmtSteps
 pub mod BlockSteps
 pub mod BodySteps
 pub mod Stopping
+pub mod Mains
+pub mod Walking
+pub mod Verdicts

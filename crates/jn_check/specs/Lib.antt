@@ -2,3 +2,6 @@ pub mod Masks
 pub mod States
 pub mod Blocks
 pub mod Bodies
+pub mod Mains
+pub mod Walk
+pub mod Worlds

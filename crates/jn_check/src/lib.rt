@@ -1,6 +1,8 @@
-//! Statements of all forms, and whole bodies: what a body refuses first, or the marks by which it is known.
+//! Statements, whole bodies, and the verdict of a program.
 //!
-//! The verdict of a program isn't here yet.
+//! `check_body` gives what a body refuses first, or the marks by which it is known. `check` gives the verdict of a
+//! program, with what it is known by where it passes: `check_bodies` goes over its bodies, and `has_main` tells whether
+//! it has a `main` to begin with.
 #![tactic(auto)]
 
 mod assign;
@@ -9,12 +11,16 @@ mod body;
 mod exprs;
 mod leaving;
 mod locals;
+mod main_class;
 mod masks;
 mod sets;
 mod simple;
 mod state;
 mod stops;
 mod types;
+mod verdict;
+mod walk;
+mod world;
 
 pub use blocks::check_stmts;
 pub use body::check_body;
@@ -24,3 +30,5 @@ pub use simple::{check_call, check_condition, check_print, check_return};
 pub use state::Locals;
 pub use stops::all_stop;
 pub use types::local_type;
+pub use verdict::check;
+pub use world::World;
