@@ -5,3 +5,6 @@ pub mod Telling
 pub mod TypeLaws
 pub mod SimpleLaws
 pub mod KeptLaws
+pub mod LocalLaws
+pub mod DropLaws
+pub mod SetLaws
