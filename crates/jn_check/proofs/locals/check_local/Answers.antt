@@ -1,11 +1,9 @@
-use Rattle.std.proofs.Common.{refl, ap, sym, subst}
+use Rattle.std.proofs.Common.{refl, rules}
 use Rattle.jn_intern.specs.Pools.{shown}
-use Rattle.jn_laws.specs.LawsOfWritten.{site_with}
-use Rattle.jn_rules.specs.Stmts.{local_with}
+use Rattle.jn_check.specs.States.{before_at}
 use Rattle.jn_expr.proofs.Scopes.{parts_stay, vars_stay}
 use Rattle.jn_check.proofs.Standing.{stays_but, but_more, before_again}
-use Rattle.jn_check.proofs.Telling.{told_fault}
-use Rattle.jn_check.proofs.LocalLaws.{with_type, whole_local, local_told, local_fault, local_after, there_kept}
+use Rattle.jn_check.proofs.LocalLaws.{with_type, local_told, local_fault, local_after, there_kept}
 use Rattle.jn_check.proofs.locals.check_local.Goals as goal
 
 pub local_type-requires-clause-fits : goal.local_type-requires-clause-fits
@@ -33,8 +31,8 @@ local_with-requires-clause-there c =
 pub returns-in-Err-clause-told : goal.returns-in-Err-clause-told
 returns-in-Err-clause-told c = λ t.
     local_fault c.args.p.now c.args.class.now c.args.m.now t c.args.fixed c.args.ty.now c.args.name.now c.args.e.now c.args.env.now c.args.x.now
-    (λ id. with_type c.args.p.now c.args.class.now c.args.m.now t c.args.fixed c.args.ty.now c.args.name.now c.args.e.now c.args.env.now c.args.x.now (shown c.local_type.new.env.pool id))
-    _ c.local_type.new.env.marks c.local_type.new.env.marks c.in-Err.fault
+    {C = Unit {0}} (λ id. with_type c.args.p.now c.args.class.now c.args.m.now t c.args.fixed c.args.ty.now c.args.name.now c.args.e.now c.args.env.now c.args.x.now (shown c.local_type.new.env.pool id))
+    (λ u. before_at c.args.env.now c.args.x.now) c.local_type.new.env.marks c.local_type.new.env.marks c.in-Err.fault
     (c.in-Err.ensures.told (with_type c.args.p.now c.args.class.now c.args.m.now t c.args.fixed c.args.ty.now c.args.name.now c.args.e.now c.args.env.now c.args.x.now))
 
 pub returns-in-Err-clause-stays : goal.returns-in-Err-clause-stays
