@@ -5,6 +5,9 @@ pub mod Telling
 pub mod TypeLaws
 pub mod SimpleLaws
 pub mod KeptLaws
+pub mod LocalLaws
+pub mod DropLaws
+pub mod SetLaws
 pub mod StmtSteps
 pub mod BlockSteps
 pub mod BodySteps

@@ -1,5 +1,6 @@
 pub mod Masks
 pub mod States
+pub mod Storing
 pub mod Blocks
 pub mod Bodies
 pub mod Mains

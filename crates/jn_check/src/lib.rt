@@ -8,6 +8,7 @@
 mod assign;
 mod blocks;
 mod body;
+mod dropping;
 mod exprs;
 mod leaving;
 mod locals;
@@ -22,10 +23,13 @@ mod verdict;
 mod walk;
 mod world;
 
+pub use assign::check_assign;
 pub use blocks::check_stmts;
 pub use body::check_body;
 pub use exprs::{check_below, type_alone};
+pub use locals::check_local;
 pub use masks::{joined, with_masks};
+pub use sets::check_set;
 pub use simple::{check_call, check_condition, check_print, check_return};
 pub use state::Locals;
 pub use stops::all_stop;
