@@ -41,7 +41,12 @@ pub fn copied_scope(alloc: Global, scope: &Scope) -> Result<Scope, AllocError>
 }
 
 /// The scope behind two ends that have the same paths: each path has the masks of both.
-pub fn joined_scope(alloc: Global, pool: &mut Pool, one: &Scope, other: &Scope) -> Result<Scope, AllocError>
+pub fn joined_scope(
+    alloc: Global,
+    pool: &mut Pool,
+    one: &Scope,
+    other: &Scope,
+) -> Result<Scope, AllocError>
     requires one { ScopeInPool pool.old one.now }
     requires other { ScopeInPool pool.old other.now }
     requires long { length one.now.binds.items ≡ length other.now.binds.items }

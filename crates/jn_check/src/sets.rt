@@ -19,7 +19,10 @@ use crate::exprs::check_below;
 use crate::state::Locals;
 use jn_base::refusal::Rule;
 use jn_base::tree::{Expr, Method, Named, Place, Program};
-use jn_expr::{Declared, Env, Value, field_of, is_class, note_member, of_receiver, path_of, put_in, refused, value_of};
+use jn_expr::{
+    Declared, Env, Value, field_of, is_class, note_member, of_receiver, path_of, put_in, refused,
+    value_of,
+};
 use jn_heads::CheckFault;
 use jn_intern::{Scope, TyId};
 use jn_names::Bound;
@@ -161,14 +164,7 @@ pub fn check_set(
     match stored(alloc, p, class, m, env, &mut x.scope, of, f, e) {
         Err(fault) => Err(fault),
         Ok(path) => {
-            drop_field(
-                alloc,
-                &mut env.pool,
-                &mut x.scope,
-                &env.masks,
-                path,
-                f.name,
-            )?;
+            drop_field(alloc, &mut env.pool, &mut x.scope, &env.masks, path, f.name)?;
             Ok(())
         }
     }

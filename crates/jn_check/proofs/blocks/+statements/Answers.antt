@@ -30,7 +30,9 @@ check_stmts-loop-s-init t c = record {
 pub check_stmts-check_stmt-requires : goal.check_stmts-check_stmt-requires
 check_stmts-check_stmt-requires t c =
     let M = stmt_below c.args.ss.now c.loop-s.s-index c.s-item.result c.loop-s-test.true c.s-item.is in (
-    omega (arith, M, c.decreases), (c.loop-s.invariant.parts, (c.loop-s.invariant.after.before, c.loop-s.invariant.stays.pool.has c.args.gives c.requires.number)))
+      omega (arith, M, c.decreases),
+      (c.loop-s.invariant.parts, (c.loop-s.invariant.after.before, c.loop-s.invariant.stays.pool.has c.args.gives c.requires.number)),
+    )
 
 pub check_stmts-returns-in-Err-clause-told : goal.check_stmts-returns-in-Err-clause-told
 check_stmts-returns-in-Err-clause-told t c = λ u sh.
@@ -145,11 +147,17 @@ pub check_first-returns-in-Err-clause-stays : goal.check_first-returns-in-Err-cl
 check_first-returns-in-Err-clause-stays t c = stays_but c.in-Err.ensures.stays
 
 pub check_first-check_block-requires : goal.check_first-check_block-requires
-check_first-check_block-requires t c =
-    (search rules, (parts_but c.requires.parts (stays_but c.in-Ok.ensures.stays),
-    ((back_kept c.args.p.now c.args.class.now c.args.m.now.name.name c.args.env.now c.args.x.now c.check_condition.new.env c.check_condition.new.x
-    c.requires.before c.in-Ok.ensures.stays.pool (vars_stay c.in-Ok.ensures.stays) c.in-Ok.ensures.kept).before,
-    c.in-Ok.ensures.stays.pool.has c.args.gives c.requires.number)))
+check_first-check_block-requires t c = (
+  search rules,
+  (
+    parts_but c.requires.parts (stays_but c.in-Ok.ensures.stays),
+    (
+      (back_kept c.args.p.now c.args.class.now c.args.m.now.name.name c.args.env.now c.args.x.now c.check_condition.new.env c.check_condition.new.x
+          c.requires.before c.in-Ok.ensures.stays.pool (vars_stay c.in-Ok.ensures.stays) c.in-Ok.ensures.kept).before,
+      c.in-Ok.ensures.stays.pool.has c.args.gives c.requires.number,
+    ),
+  ),
+)
 
 pub check_first-returns-in-Err-check_block-clause-stays : goal.check_first-returns-in-Err-check_block-clause-stays
 check_first-returns-in-Err-check_block-clause-stays t c = but_more (stays_but c.in-Ok.ensures.stays) c.in-Err-check_block.ensures.stays
@@ -223,11 +231,17 @@ pub check_while-returns-in-Err-clause-stays : goal.check_while-returns-in-Err-cl
 check_while-returns-in-Err-clause-stays t c = stays_but c.in-Err.ensures.stays
 
 pub check_while-check_block-requires : goal.check_while-check_block-requires
-check_while-check_block-requires t c =
-    (search rules, (parts_but c.requires.parts (stays_but c.in-Ok.ensures.stays),
-    ((back_kept c.args.p.now c.args.class.now c.args.m.now.name.name c.args.env.now c.args.x.now c.check_condition.new.env c.check_condition.new.x
-    c.requires.before c.in-Ok.ensures.stays.pool (vars_stay c.in-Ok.ensures.stays) c.in-Ok.ensures.kept).before,
-    c.in-Ok.ensures.stays.pool.has c.args.gives c.requires.number)))
+check_while-check_block-requires t c = (
+  search rules,
+  (
+    parts_but c.requires.parts (stays_but c.in-Ok.ensures.stays),
+    (
+      (back_kept c.args.p.now c.args.class.now c.args.m.now.name.name c.args.env.now c.args.x.now c.check_condition.new.env c.check_condition.new.x
+          c.requires.before c.in-Ok.ensures.stays.pool (vars_stay c.in-Ok.ensures.stays) c.in-Ok.ensures.kept).before,
+      c.in-Ok.ensures.stays.pool.has c.args.gives c.requires.number,
+    ),
+  ),
+)
 
 pub check_while-returns-in-Err-check_block-clause-stays : goal.check_while-returns-in-Err-check_block-clause-stays
 check_while-returns-in-Err-check_block-clause-stays t c = but_more (stays_but c.in-Ok.ensures.stays) c.in-Err-check_block.ensures.stays
@@ -323,10 +337,18 @@ check_stmt-returns-in-Err-clause-told t c = λ u sh.
 pub check_stmt-check_other-requires : goal.check_stmt-check_other-requires
 check_stmt-check_other-requires t c =
     let M = other_below c.args.s.now c.in-If.e c.in-If.one c.in-If.other c.as_slice-in-Ok.result.now c.in-If.field-3 c.in-If.is c.as_slice-in-Ok.ensures in (
-    omega (arith, M, c.decreases), (parts_but c.requires.parts c.in-Ok.ensures.stays,
-    (c.in-Ok.ensures.back.before,
-    (c.in-Ok.ensures.stays.pool.has c.args.gives c.requires.number,
-    (c.in-Ok.ensures.known, c.in-Ok.ensures.same)))))
+      omega (arith, M, c.decreases),
+      (
+        parts_but c.requires.parts c.in-Ok.ensures.stays,
+        (
+          c.in-Ok.ensures.back.before,
+          (
+            c.in-Ok.ensures.stays.pool.has c.args.gives c.requires.number,
+            (c.in-Ok.ensures.known, c.in-Ok.ensures.same),
+          ),
+        ),
+      ),
+    )
 
 pub check_stmt-returns-in-Ok-clause-told : goal.check_stmt-returns-in-Ok-clause-told
 check_stmt-returns-in-Ok-clause-told t c = λ u sh.
