@@ -62,15 +62,11 @@ module _ (names : List Name) (m : Masks) (f : Name) (i : ℕ) where
       λ same n. h.1 (omega (arith, same)) (subst (λ (k : ℕ). slice_get names k ≡ Some f) (sym same) (name_at d l ∙ ap Some n)),
     )
 
-  pub kept_all : (kept : Masks) → length names ≤ i → KeptBelow names m f i kept → length kept.0 ≡ 4 → All (λ w. w < 2 ^ 64) kept.0 → MasksOf (KeptMask names m f) kept
-  kept_all kept l so words wide = record {
-    words = words;
-    wide = wide;
-    each = λ j b. (
-      λ h. let k = (so j).0 h in (k.0, λ e. k.1 (let w = slice_get_within names j f e in omega (arith, w, l)) e),
-      λ h. (so j).1 (h.0, λ w e. h.1 e),
-    );
-  }
+  pub kept_all : (kept : Masks) → length names ≤ i → KeptBelow names m f i kept → (j : ℕ) → HasMask kept j ↔ KeptMask names m f j
+  kept_all kept l so j = (
+    λ h. let k = (so j).0 h in (k.0, λ e. k.1 (let w = slice_get_within names j f e in omega (arith, w, l)) e),
+    λ h. (so j).1 (h.0, λ w e. h.1 e),
+  )
 
 -- ---- types at two ends
 

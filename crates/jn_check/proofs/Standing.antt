@@ -73,7 +73,7 @@ module _ (C : Path) (m : Name) (vars : List Var) where
   abbrev pub Q : Path
   Q = class_of (spot_at (site_with C m vars) role.Value)
 
-  this_there : Among (scope_of (site_with C m vars)) (this_bind Q)
+  pub this_there : Among (scope_of (site_with C m vars)) (this_bind Q)
   this_there =
       subst (λ (c : Scope). Among c (this_bind Q)) (sym (reverse-append (this_bind Q ∷ []) (map var_bind vars)))
       (last_among (reverse (map var_bind vars)) (this_bind Q))

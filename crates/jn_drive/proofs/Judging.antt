@@ -6,18 +6,13 @@ use Rattle.std.specs.declared.option.Option.{Option}
 use Rattle.jn_base.specs.declared.tree.Program.{Program}
 use Rattle.jn_base.specs.declared.refusal.Refusal.{Refusal}
 use Rattle.jn_base.specs.Spelling.{IsTextOf, IsTextRefused, greatest_source}
-use Rattle.jn_base.specs.Duplicates.{duplicates, IsFirstDuplicate}
-use Rattle.jn_base.specs.ProgramNames.{IsNamed}
 use Rattle.jn_base.specs.WithinLimits.{IsWithinLimits}
 use Rattle.jn_heads.specs.declared.fault.CheckFault.{CheckFault}
 use Rattle.jn_heads.specs.declared.fault.CheckFault.TheVariants as check_fault
-use Rattle.jn_heads.specs.Told.{Told, itself}
-use Rattle.jn_header.specs.Check.{NamesVerdict}
-use Rattle.jn_header.specs.Judged.{nothing}
-use Rattle.jn_laws.proofs.PlacesAside.{programs_within_limits}
-use Rattle.jn_rules.specs.Plans.{Nothing}
-use Rattle.jn_rules.specs.Verdict.{HeadersVerdict}
-use Rattle.jn_rule_laws.proofs.Verdicts.{one_headers}
+use Rattle.jn_heads.specs.Told.{Told}
+use Rattle.jn_check.specs.declared.world.World.{World}
+use Rattle.jn_check.specs.Worlds.{nothing}
+use Rattle.jn_rules.specs.Verdict.{TreePasses, TreeRefuses, TreeVerdict}
 use Rattle.jn_io.specs.Told.{Files}
 use Rattle.jn_words.specs.Line.{line_of}
 use Rattle.jn_parser.specs.declared.fault.ParseFault.{ParseFault}
@@ -30,36 +25,24 @@ use Rattle.jn_drive.specs.declared.words.SourceJob.TheVariants as sources
 use Rattle.jn_printer.specs.DeclText.{program_text}
 use Rattle.jn_drive.specs.Meaning.{output_of}
 use Rattle.jn_drive.specs.Plain.{IsPlain}
-use Rattle.jn_drive.specs.Reply.{Reply, OutsidePasses, OutsideRefuses, OutsideVerdict, TreeReply, SourceReply, refused_reply, output_reply}
+use Rattle.jn_drive.specs.Reply.{Reply, TreeReply, SourceReply, refused_reply, output_reply}
 use Rattle.jn_drive.specs.Seen.{IsSource, IsLeft}
-use Rattle.jn_base.proofs.SpelledNames.{spelled_is_named}
 use Rattle.jn_drive.specs.Answer.{Answer, Judges, Answers, AnswersTree, IsRefusedBy, IsOfFault, IsNotTaken, reply_of, too_long_refusal}
 
--- a name that stands twice, and what the headers come to
-pub names_refused : (p : Program) (f : CheckFault) → Told {B = Nothing} (NamesVerdict p) itself (Err f) → Told {B = Nothing} (OutsideVerdict p) itself (Err f)
-names_refused p (check_fault.Refused r) h = OutsideRefuses.twice h
-names_refused p check_fault.Memory h = tt
-
-pub headers_refused : (p : Program) → duplicates p ≡ [] → (f : CheckFault) → Told (HeadersVerdict p) nothing (Err f) → Told {B = Nothing} (OutsideVerdict p) itself (Err f)
-headers_refused p once (check_fault.Refused r) h = OutsideRefuses.headers once h
-headers_refused p once check_fault.Memory h = tt
-
-pub outside_refused : (p : Program) (o : Result Nothing CheckFault) (f : CheckFault) (r : Refusal) → o ≡ Err f → f ≡ check_fault.Refused r → Told (OutsideVerdict p) itself o → OutsideRefuses p r
-outside_refused p (Ok u) f r e g h = absurd (cc e)
-outside_refused p (Err (check_fault.Refused s)) f r e g h =
+-- what the check of a program is refused by
+pub check_refused : (p : Program) (o : Result World CheckFault) (f : CheckFault) (r : Refusal) → o ≡ Err f → f ≡ check_fault.Refused r → Told (TreeVerdict p) nothing o → TreeRefuses p r
+check_refused p (Ok w) f r e g h = absurd (cc e)
+check_refused p (Err (check_fault.Refused s)) f r e g h =
     let k : check_fault.Refused s ≡ f = cc e in
     let same : check_fault.Refused s ≡ check_fault.Refused r = k ∙ g in
-    let is : s ≡ r = cc same in subst (λ (x : Refusal). OutsideRefuses p x) is h
-outside_refused p (Err check_fault.Memory) f r e g h =
+    let is : s ≡ r = cc same in subst (λ (x : Refusal). TreeRefuses p x) is h
+check_refused p (Err check_fault.Memory) f r e g h =
     let k : check_fault.Memory ≡ f = cc e in
     let same : check_fault.Memory ≡ check_fault.Refused r = k ∙ g in absurd (cc same)
 
 -- the program of a source is within the limits
 pub within_limits : (p : Program) (bytes : List ℕ) → IsTextOf p bytes → IsWithinLimits p
 within_limits p bytes is = record { source = bytes; spelled = p; same = refl; is_text = is }
-
-pub named_within : (p : Program) → IsWithinLimits p → IsNamed p
-named_within p w = (programs_within_limits p w).named
 
 by_kind : (p : Program) (known kind : SourceJob) (r : Reply) → kind ≡ known → TreeReply p known r → TreeReply p kind r
 by_kind p known kind r is tree = subst (λ (k : SourceJob). TreeReply p k r) (sym is) tree
@@ -80,10 +63,10 @@ tree_not_taken p kind halt.Memory k not is = is
 pub tree_checked : (p : Program) (kind : SourceJob) (a : Answer) → kind ≡ sources.Check → AnswersTree p sources.Check a → AnswersTree p kind a
 tree_checked p kind a k is = subst (λ (j : SourceJob). AnswersTree p j a) (sym k) is
 
-pub tree_passed : (p : Program) (output : List ℕ) → output ≡ [] → OutsidePasses p → TreeReply p sources.Check (output_reply output)
+pub tree_passed : (p : Program) (output : List ℕ) → output ≡ [] → TreePasses p → TreeReply p sources.Check (output_reply output)
 tree_passed p output e is = subst (λ (o : List ℕ). TreeReply p sources.Check (output_reply o)) (sym e) (TreeReply.passed is)
 
-pub tree_not_passed : (p : Program) (r : Refusal) (h : Halt) → OutsideRefuses p r → IsRefusedBy (Some p) r h → AnswersTree p sources.Check (Err h)
+pub tree_not_passed : (p : Program) (r : Refusal) (h : Halt) → TreeRefuses p r → IsRefusedBy (Some p) r h → AnswersTree p sources.Check (Err h)
 tree_not_passed p r (halt.Refused line) by is = subst (λ (l : List ℕ). TreeReply p sources.Check (refused_reply l)) (sym is) (TreeReply.not_passed r by)
 tree_not_passed p r (halt.BadImage line) by is = absurd is
 tree_not_passed p r halt.Unread by is = absurd is

@@ -6,6 +6,7 @@ pub mod Reading
 pub mod Running
 pub mod ShownAgain
 pub mod Wording
+mod CheckReplies
 mod Coming
 mod Ending
 mod OneReply

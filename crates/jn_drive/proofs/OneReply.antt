@@ -6,18 +6,10 @@ use Rattle.std.specs.declared.option.Option.{Option}
 use Rattle.jn_base.specs.declared.tree.Program.{Program}
 use Rattle.jn_base.specs.declared.refusal.Refusal.{Refusal}
 use Rattle.jn_base.specs.Spelling.{IsTextOf, IsTextRefused, greatest_source}
-use Rattle.jn_base.specs.Duplicates.{duplicates, IsFirstDuplicate}
 use Rattle.jn_base.specs.ProgramNames.{IsNamed}
-use Rattle.jn_base.specs.WithinLimits.{IsWithinLimits}
-use Rattle.jn_heads.specs.declared.fault.CheckFault.{CheckFault}
-use Rattle.jn_heads.specs.declared.fault.CheckFault.TheVariants as check_fault
-use Rattle.jn_heads.specs.Told.{Told, itself}
-use Rattle.jn_header.specs.Check.{NamesVerdict}
-use Rattle.jn_header.specs.Judged.{nothing}
-use Rattle.jn_laws.proofs.PlacesAside.{programs_within_limits}
 use Rattle.jn_rules.specs.Plans.{Nothing}
-use Rattle.jn_rules.specs.Verdict.{HeadersVerdict}
-use Rattle.jn_rule_laws.proofs.Verdicts.{one_headers}
+use Rattle.jn_rules.specs.Verdict.{TreePasses, TreeRefuses}
+use Rattle.jn_rule_laws.proofs.Verdicts.{one_tree}
 use Rattle.jn_words.specs.Line.{line_of}
 use Rattle.jn_sources.specs.OneVerdict.{OneTextVerdict}
 use Rattle.jn_sources.proofs.Answered.{one_verdict}
@@ -41,32 +33,18 @@ use Rattle.jn_drive.specs.declared.words.SourceJob.TheVariants as sources
 use Rattle.jn_printer.specs.DeclText.{program_text}
 use Rattle.jn_drive.specs.Meaning.{output_of}
 use Rattle.jn_drive.specs.Plain.{IsPlain}
-use Rattle.jn_drive.specs.Reply.{Reply, OutsidePasses, OutsideRefuses, TreeReply, SourceReply, JobReply, ReplyBy, ImageReply, RunReply, IsToldAs, refused_reply}
+use Rattle.jn_drive.specs.Reply.{Reply, TreeReply, SourceReply, JobReply, ReplyBy, ImageReply, RunReply, IsToldAs, refused_reply}
 use Rattle.jn_base.proofs.SpelledNames.{spelled_is_named}
 
-not_once : {p : Program} {r : Refusal} → IsFirstDuplicate p r → duplicates p ≡ [] → ⊥
-not_once {p} {r} d e = clash (sym d.is ∙ e) where
-  clash : r ∷ d.others ≡ [] → ⊥
-  clash h = cc h
-
-same_twice : (p : Program) (r s : Refusal) → IsFirstDuplicate p r → IsFirstDuplicate p s → r ≡ s
-same_twice p r s c d = same (sym c.is ∙ d.is) where
-  same : r ∷ c.others ≡ s ∷ d.others → r ≡ s
-  same e = cc e
-
-outside_not_both : (p : Program) → IsNamed p → (r : Refusal) → OutsideRefuses p r → OutsidePasses p → ⊥
-outside_not_both p named r (OutsideRefuses.twice d) o = not_once d o.once
-outside_not_both p named r (OutsideRefuses.headers e h) o = clash ((one_headers p e named).one (Err r) (Ok tt) h o.headers) where
+not_both : (p : Program) → IsNamed p → (r : Refusal) → TreeRefuses p r → TreePasses p → ⊥
+not_both p named r h k = clash ((one_tree p named).one (Err r) (Ok tt) h k) where
   clash : (let a : Result Nothing Refusal = Err r in a ≡ Ok tt) → ⊥
-  clash k = cc k
+  clash e = cc e
 
-outside_once : (p : Program) → IsNamed p → (r s : Refusal) → OutsideRefuses p r → OutsideRefuses p s → r ≡ s
-outside_once p named r s (OutsideRefuses.twice c) (OutsideRefuses.twice d) = same_twice p r s c d
-outside_once p named r s (OutsideRefuses.twice c) (OutsideRefuses.headers e h) = absurd (not_once c e)
-outside_once p named r s (OutsideRefuses.headers e h) (OutsideRefuses.twice d) = absurd (not_once d e)
-outside_once p named r s (OutsideRefuses.headers e h) (OutsideRefuses.headers f k) = same ((one_headers p e named).one (Err r) (Err s) h k) where
+refused_once : (p : Program) → IsNamed p → (r s : Refusal) → TreeRefuses p r → TreeRefuses p s → r ≡ s
+refused_once p named r s h k = same ((one_tree p named).one (Err r) (Err s) h k) where
   same : (let a : Result Nothing Refusal = Err r in a ≡ Err s) → r ≡ s
-  same g = cc g
+  same e = cc e
 
 -- A tree has one reply.
 tree_once : (p : Program) → IsNamed p → (kind : SourceJob) (a b : Reply) → TreeReply p kind a → TreeReply p kind b → a ≡ b
@@ -76,10 +54,10 @@ tree_once p named kind a b (TreeReply.ran is) (TreeReply.not_taken not) = absurd
 tree_once p named kind a b (TreeReply.not_taken not) (TreeReply.ran is) = absurd (not is)
 tree_once p named kind a b (TreeReply.not_taken not) (TreeReply.not_taken not') = refl
 tree_once p named kind a b (TreeReply.passed is) (TreeReply.passed is') = refl
-tree_once p named kind a b (TreeReply.passed is) (TreeReply.not_passed r by) = absurd (outside_not_both p named r by is)
-tree_once p named kind a b (TreeReply.not_passed r by) (TreeReply.passed is) = absurd (outside_not_both p named r by is)
+tree_once p named kind a b (TreeReply.passed is) (TreeReply.not_passed r by) = absurd (not_both p named r by is)
+tree_once p named kind a b (TreeReply.not_passed r by) (TreeReply.passed is) = absurd (not_both p named r by is)
 tree_once p named kind a b (TreeReply.not_passed r by) (TreeReply.not_passed s by') =
-    ap (λ (x : Refusal). refused_reply (line_of (Some p) x)) (outside_once p named r s by by')
+    ap (λ (x : Refusal). refused_reply (line_of (Some p) x)) (refused_once p named r s by by')
 
 source_once : (kind : SourceJob) (bytes : List ℕ) (a b : Reply) → OneTextVerdict bytes → SourceReply kind bytes a → SourceReply kind bytes b → a ≡ b
 source_once kind bytes a b one (SourceReply.refused r by e) (SourceReply.refused s by' e') = e ∙ ap (λ (x : Refusal). refused_reply (line_of None x)) (one.refusal r s by by') ∙ sym e'

@@ -10,4 +10,5 @@ pub mod Reading
 pub mod Reply
 pub mod Seen
 pub mod Status
+pub mod Verdicts
 pub mod Words

@@ -4,10 +4,8 @@ use Rattle.std.specs.declared.option.Option.{Option}
 use Rattle.jn_base.specs.declared.tree.Program.{Program}
 use Rattle.jn_base.specs.declared.refusal.Refusal.{Refusal}
 use Rattle.jn_base.specs.Spelling.{IsTextOf, IsTextRefused}
-use Rattle.jn_base.specs.Duplicates.{duplicates, IsFirstDuplicate}
 use Rattle.jn_printer.specs.DeclText.{program_text}
-use Rattle.jn_rules.specs.Plans.{Nothing}
-use Rattle.jn_rules.specs.Verdict.{HeadersPass, HeadersRefuse}
+use Rattle.jn_rules.specs.Verdict.{TreePasses, TreeRefuses}
 use Rattle.jn_words.specs.Line.{line_of}
 use Rattle.jn_steps.specs.Runs.{Report}
 use Rattle.jn_code.specs.declared.image.Image.{Image}
@@ -56,33 +54,17 @@ not_taken_reply = refused_reply (codes "1:1: E01 Syntax\n")
 abbrev pub output_reply : List ℕ → Reply
 output_reply output = record { output = output; line = []; status = statuses.Done }
 
--- ---- what a program says outside its bodies
-
--- no name stands twice, and the headers pass
-pub record OutsidePasses (p : Program) : Type 0 where
-  pub once : duplicates p ≡ []
-  pub headers : HeadersPass p
-
--- The first of these is answered: a name that stands twice; what the headers are refused by.
-pub data OutsideRefuses (p : Program) (r : Refusal) : Type 0 where
-  twice : IsFirstDuplicate p r → OutsideRefuses p r
-  headers : duplicates p ≡ [] → HeadersRefuse p r → OutsideRefuses p r
-
-abbrev pub OutsideVerdict : Program → Result Nothing Refusal → Type 0
-OutsideVerdict p (Ok u) = OutsidePasses p
-OutsideVerdict p (Err r) = OutsideRefuses p r
-
 -- ---- replies to a source
 
 -- The reply of a job to the program that the bytes of its file spell: `show` puts its canonical text; `run` runs a program
--- of the plain form, and puts what it prints; `check` puts nothing where what the program says outside its bodies passes,
--- and else tells the line of the refusal, which names classes and members of the program.
+-- of the plain form, and puts what it prints; `check` puts nothing where the program passes, and else tells the line of its
+-- refusal, which names classes and members of the program.
 pub data TreeReply (p : Program) : SourceJob → Reply → Type 0 where
   shown : TreeReply p sources.Show (output_reply (program_text p))
   ran : IsPlain p → TreeReply p sources.Run (output_reply (output_of p))
   not_taken : (IsPlain p → ⊥) → TreeReply p sources.Run not_taken_reply
-  passed : OutsidePasses p → TreeReply p sources.Check (output_reply [])
-  not_passed : (r : Refusal) → OutsideRefuses p r → TreeReply p sources.Check (refused_reply (line_of (Some p) r))
+  passed : TreePasses p → TreeReply p sources.Check (output_reply [])
+  not_passed : (r : Refusal) → TreeRefuses p r → TreeReply p sources.Check (refused_reply (line_of (Some p) r))
 
 -- The reply of a job to the bytes of a source. What the first three steps of the verdict refuse is refused, by each job
 -- with the same line.

@@ -1,7 +1,5 @@
 ghost use Rattle.std.specs.Prelude.{◌≡◌, ◌≤◌, IfOk, None, option_copied};
 ghost use Rattle.jn_base.specs.WithinLimits.{IsWithinLimits};
-ghost use Rattle.jn_heads.specs.Told.{Told, itself};
-ghost use Rattle.jn_drive.specs.Reply.{OutsideVerdict};
 ghost use Rattle.jn_drive.specs.declared.words.SourceJob.TheVariants.{Check};
 ghost use Rattle.jn_drive.specs.declared.words.JobKind.TheVariants.{OnSource};
 ghost use Rattle.jn_drive.specs.Words.{named};
@@ -20,12 +18,11 @@ use crate::status::Status;
 use crate::words::{JobKind, Named, SourceJob};
 use jn_base::refusal::{Refusal, Rule};
 use jn_base::tree::{Place, Program};
-use jn_header::{CheckFault, check_headers, check_names};
-use jn_intern::Pool;
+use jn_check::check;
+use jn_heads::CheckFault;
 use jn_io::{Sink, Store};
 use jn_parser::{ParseFault, parse};
 use jn_printer::print_program;
-use jn_table::Table;
 use jn_words::refusal_line;
 use sqlite_items::Items;
 use std::alloc::{AllocError, Global};
@@ -111,32 +108,13 @@ fn answer_tree(alloc: Global, kind: SourceJob, program: &Program) -> Result<Item
     }
 }
 
-/// What a tree says outside its bodies: whether no name stands twice, and then whether the headers pass; or the first
-/// refusal.
-fn outside(alloc: Global, program: &Program) -> Result<(), CheckFault>
-    requires { IsWithinLimits program.now }
-    ensures { Told (OutsideVerdict program.now) itself result }
-{
-    match check_names(alloc, program) {
-        Err(fault) => Err(fault),
-        Ok(()) => {
-            let mut table = Table::new(alloc, program)?;
-            let mut pool = Pool::new(alloc)?;
-            match check_headers(alloc, program, &mut table, &mut pool) {
-                Err(fault) => Err(fault),
-                Ok(_) => Ok(()),
-            }
-        }
-    }
-}
-
-/// What a tree comes to by what it says outside its bodies: nothing is put where that passes.
+/// What a tree comes to by its verdict: nothing is put where it passes.
 fn checked(alloc: Global, program: &Program) -> Result<Items<u8>, Halt>
     requires { IsWithinLimits program.now }
     ensures { AnswersTree program.now Check result }
 {
-    match outside(alloc, program) {
-        Ok(()) => Ok(Items::new(alloc)),
+    match check(alloc, program) {
+        Ok(_) => Ok(Items::new(alloc)),
         Err(CheckFault::Refused(refusal)) => Err(refused(alloc, Some(program), &refusal)),
         Err(CheckFault::Memory) => Err(Halt::Memory),
     }
