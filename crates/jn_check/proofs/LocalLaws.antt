@@ -1,5 +1,5 @@
 -- Locals and assignments to variables.
-use Rattle.std.proofs.Common.{◌≡◌, ℕ, suc, List, [], ◌∷◌, ◌++◌, Bool, true, false, not, Option, Some, None, Result, Ok, Err, refl, sym, ap, ◌∙◌, subst, arith}
+use Rattle.std.proofs.Common.{◌≡◌, ℕ, List, [], ◌∷◌, ◌++◌, Bool, true, false, not, Option, Some, None, Result, Ok, Err, refl, sym, ap, ◌∙◌, subst, arith}
 use Rattle.std.specs.Prelude.{OnOk}
 use Rattle.jn_base.specs.declared.tree.Name.{Name}
 use Rattle.jn_base.specs.declared.tree.Named.{Named}
@@ -12,25 +12,21 @@ use Rattle.jn_base.specs.declared.names.Var.{Var}
 use Rattle.jn_base.specs.declared.names.Resolved.{Resolved}
 use Rattle.jn_base.specs.declared.refusal.Rule.TheVariants as rule
 use Rattle.jn_base.specs.Paths.{Path}
-use Rattle.jn_base.specs.Scopes.{Scope}
 use Rattle.jn_intern.specs.declared.pool.TyId.{TyId}
 use Rattle.jn_intern.specs.Pools.{InPool, Keeps, shown, scope_in}
 use Rattle.jn_laws.specs.LawsOfWritten.{Shallow, site_with, TypeThere}
 use Rattle.jn_sem.specs.Does.{var}
 use Rattle.jn_heads.specs.declared.fault.CheckFault.{CheckFault}
-use Rattle.jn_rules.specs.Plans.{VarMark, OfType, Plan, done, note, ask, taken, wants}
+use Rattle.jn_rules.specs.Plans.{VarMark, OfType, Plan, done, ask, taken}
 use Rattle.jn_rules.specs.Exprs.{of_name}
 use Rattle.jn_rules.specs.Stmts.{Before, In, here, with_local, local_with, local_typed, assign_typed, typed_below}
 use Rattle.jn_expr.specs.declared.env.Env.{Env}
-use Rattle.jn_expr.specs.Envs.{Stays}
-use Rattle.jn_expr.specs.Passing.{Shows}
 use Rattle.jn_expr.specs.Told.{Adds, PlanTold, FaultIs}
 use Rattle.jn_expr.specs.Steps.{Leads, LeadsTold}
-use Rattle.jn_expr.proofs.Scopes.{vars_stay}
 use Rattle.jn_expr.proofs.Leading.{leads_here, leads_note, leads_want, leads_leads, leads_told}
 use Rattle.jn_check.specs.declared.assign.Assigned.{Assigned}
 use Rattle.jn_check.specs.declared.state.Locals.{Locals}
-use Rattle.jn_check.specs.States.{in_at, before_in, before_at, IsBefore, IsAfter, IsKept}
+use Rattle.jn_check.specs.States.{in_at, before_at, IsBefore, IsAfter, IsKept}
 use Rattle.jn_check.specs.Storing.{AddsLocal, IsAssigned, AssignedIs}
 use Rattle.jn_check.proofs.Standing.{before_kept, before_again, added_is, added_after}
 use Rattle.jn_check.proofs.Telling.{told_done, told_fault, fault_wanted, fault_refused}
