@@ -13,7 +13,7 @@ use Rattle.jn_intern.specs.declared.pool.TyId.{TyId}
 use Rattle.jn_intern.specs.declared.scope.Scope.{Scope as NumberScope}
 use Rattle.jn_intern.specs.Pools.{InPool, shown, scope_in}
 use Rattle.jn_rules.specs.Plans.{FoundField, OfField, MemberMark, Plan, note, ask, wants, found_or}
-use Rattle.jn_rules.specs.Exprs.{Here, Typed, Passing, path_of, mismatch, of_class, first_bound, field_type}
+use Rattle.jn_rules.specs.Exprs.{Here, Typed, path_of, mismatch, of_class, first_bound, field_type}
 use Rattle.jn_rules.specs.Stmts.{Before}
 use Rattle.jn_expr.specs.declared.env.Env.{Env}
 use Rattle.jn_expr.specs.declared.env.Value.{Value}
