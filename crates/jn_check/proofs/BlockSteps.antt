@@ -1,5 +1,5 @@
 -- Statements one after the other, blocks, and what stands behind the blocks of an `if` or a `while`.
-use Rattle.std.proofs.Common.{◌≡◌, ◌<◌, ◌≤◌, ◌+◌, ◌-◌, ℕ, suc, List, [], ◌∷◌, ◌++◌, length, take, drop, map, get_or, Result, Ok, Err, refl, sym, ap, ◌∙◌, subst, All, arith, append_assoc}
+use Rattle.std.proofs.Common.{◌≡◌, ◌<◌, ◌≤◌, ◌+◌, ℕ, List, [], ◌∷◌, ◌++◌, length, drop, map, get_or, Result, Ok, Err, refl, sym, ap, ◌∙◌, subst, arith, append_assoc}
 use Rattle.std.specs.Prelude.{OnOk}
 use Rattle.std.proofs.lemmas.List.{length-reverse, length-map}
 use Rattle.std.proofs.Math.ListN.{drop_of_length-le}
@@ -16,8 +16,8 @@ use Rattle.jn_heads.specs.declared.fault.CheckFault.{CheckFault}
 use Rattle.jn_heads.specs.declared.fault.CheckFault.TheVariants.{Refused, Memory}
 use Rattle.jn_intern.specs.declared.pool.TyId.{TyId}
 use Rattle.jn_intern.specs.declared.scope.Scope.{Scope as NumberScope}
-use Rattle.jn_intern.specs.Pools.{InPool, Keeps, ScopeInPool, bind_in, shown, scope_in}
-use Rattle.jn_intern.proofs.Pools.{keeps_more, scope_in_kept, scope_kept}
+use Rattle.jn_intern.specs.Pools.{Keeps, ScopeInPool, bind_in, scope_in}
+use Rattle.jn_intern.proofs.Pools.{scope_in_kept, scope_kept}
 use Rattle.jn_laws.specs.LawsOfWritten.{site_with, scope_of}
 use Rattle.jn_subtype.specs.Binds.{binds_in}
 use Rattle.jn_rules.specs.Plans.{Plan, done, then_do}

@@ -1,5 +1,5 @@
 -- Whole bodies: the header, the statements, and whether the end can be reached.
-use Rattle.std.proofs.Common.{◌≡◌, ◌≤◌, ◌<◌, ◌||◌, ℕ, suc, List, [], All, length, map, Bool, true, false, Result, Ok, Err, refl, sym, ap, ◌∙◌, subst, arith}
+use Rattle.std.proofs.Common.{◌≡◌, ◌||◌, suc, List, All, length, map, Bool, true, false, Result, Ok, Err, sym, ap, ◌∙◌, subst, arith}
 use Rattle.jn_base.specs.declared.tree.Name.{Name}
 use Rattle.jn_base.specs.declared.tree.Program.{Program}
 use Rattle.jn_base.specs.declared.tree.Stmt.{Stmt}

@@ -1,5 +1,5 @@
 -- Locals and assignments to variables.
-use Rattle.std.proofs.Common.{◌≡◌, ℕ, suc, List, [], ◌∷◌, ◌++◌, Bool, true, false, not, Option, Some, None, Result, Ok, Err, refl, sym, ap, ◌∙◌, subst, arith}
+use Rattle.std.proofs.Common.{◌≡◌, ℕ, List, [], ◌∷◌, ◌++◌, Bool, false, not, Option, Some, None, Result, Ok, Err, refl, sym, ap, ◌∙◌, subst, arith}
 use Rattle.std.specs.Prelude.{OnOk}
 use Rattle.jn_base.specs.declared.tree.Name.{Name}
 use Rattle.jn_base.specs.declared.tree.Named.{Named}
@@ -12,28 +12,24 @@ use Rattle.jn_base.specs.declared.names.Var.{Var}
 use Rattle.jn_base.specs.declared.names.Resolved.{Resolved}
 use Rattle.jn_base.specs.declared.refusal.Rule.TheVariants as rule
 use Rattle.jn_base.specs.Paths.{Path}
-use Rattle.jn_base.specs.Scopes.{Scope}
 use Rattle.jn_intern.specs.declared.pool.TyId.{TyId}
 use Rattle.jn_intern.specs.Pools.{InPool, Keeps, shown, scope_in}
 use Rattle.jn_laws.specs.LawsOfWritten.{Shallow, site_with, TypeThere}
 use Rattle.jn_sem.specs.Does.{var}
 use Rattle.jn_heads.specs.declared.fault.CheckFault.{CheckFault}
-use Rattle.jn_rules.specs.Plans.{VarMark, OfType, Plan, done, note, ask, taken, wants}
+use Rattle.jn_rules.specs.Plans.{VarMark, OfType, Plan, done, ask, taken}
 use Rattle.jn_rules.specs.Exprs.{of_name}
 use Rattle.jn_rules.specs.Stmts.{Before, In, here, with_local, local_with, local_typed, assign_typed, typed_below}
 use Rattle.jn_expr.specs.declared.env.Env.{Env}
-use Rattle.jn_expr.specs.Envs.{Stays}
-use Rattle.jn_expr.specs.Passing.{Shows}
-use Rattle.jn_expr.specs.Told.{Adds, PlanTold, FaultIs}
+use Rattle.jn_expr.specs.Told.{Adds, PlanTold}
 use Rattle.jn_expr.specs.Steps.{Leads, LeadsTold}
-use Rattle.jn_expr.proofs.Scopes.{vars_stay}
 use Rattle.jn_expr.proofs.Leading.{leads_here, leads_note, leads_want, leads_leads, leads_told}
 use Rattle.jn_check.specs.declared.assign.Assigned.{Assigned}
 use Rattle.jn_check.specs.declared.state.Locals.{Locals}
-use Rattle.jn_check.specs.States.{in_at, before_in, before_at, IsBefore, IsAfter, IsKept}
+use Rattle.jn_check.specs.States.{in_at, before_at, IsBefore, IsAfter, IsKept}
 use Rattle.jn_check.specs.Storing.{AddsLocal, IsAssigned, AssignedIs}
 use Rattle.jn_check.proofs.Standing.{before_kept, before_again, added_is, added_after}
-use Rattle.jn_check.proofs.Telling.{told_done, told_fault, fault_wanted, fault_refused}
+use Rattle.jn_check.proofs.Telling.{told_done, told_fault}
 
 -- ---- what stands behind two steps
 
@@ -132,11 +128,6 @@ local_after p C m old x mid new y e (Err f) a = tt
 
 -- ---- assignments
 
-none_is : (pool : List Ty) (o : Option Var) (k : Option Assigned) → k ≡ None → AssignedIs pool o k → o ≡ None
-none_is pool None k e h = refl
-none_is pool (Some v) None e h = absurd h
-none_is pool (Some v) (Some k) e h = cc
-
 record Found (pool : List Ty) (o : Option Var) (k : Assigned) : Type 0 where
   pub v : Var
   pub named : o ≡ Some v
@@ -150,19 +141,6 @@ some_is pool (Some v) (Some b) a e h = record { v = v; named = refl; is = subst 
   same f = cc
 
 module _ (p : Program) (b : In) (x : Before) (n : Named) (e : Expr) (o : Option Var) (before : Resolved) where
-  refused_none : {B : Type 0} (show : B → Before) (after : Resolved) → o ≡ None → (f : CheckFault) → FaultIs f (of_name rule.E06 (here b x) n.at n.name) → PlanTold p (assign_typed b x n e o) show before after (Err f)
-  refused_none show after i f g =
-      subst (λ (k : Option Var). PlanTold p (assign_typed b x n e k) show before after (Err f)) (sym i)
-      (told_fault p (assign_typed b x n e None) (λ (u : Unit {0}). done x) show before before after f
-      (fault_refused {p = p} (λ (u : Unit {0}). done x) before (of_name rule.E06 (here b x) n.at n.name) (leads_here (assign_typed b x n e None) before) f g))
-
-  refused_final : {B : Type 0} (show : B → Before) (after : Resolved) (v : Var) → o ≡ Some v → v.fixed ≡ true → (f : CheckFault) → FaultIs f (of_name rule.E24 (here b x) n.at n.name)
-      → PlanTold p (assign_typed b x n e o) show before after (Err f)
-  refused_final show after v i fixed f g =
-      subst (λ (k : Option Var). PlanTold p (assign_typed b x n e k) show before after (Err f)) (sym i)
-      (told_fault p (assign_typed b x n e (Some v)) (λ (u : Unit {0}). done x) show before before after f
-      (fault_wanted (λ (u : Unit {0}). done x) before (not v.fixed) (of_name rule.E24 (here b x) n.at n.name) _ (ap not fixed) (leads_here (assign_typed b x n e (Some v)) before) f g))
-
   assign_leads : (v : Var) → o ≡ Some v → v.fixed ≡ false → (after : Resolved) → Adds (VarMark v.path ∷ []) before after
       → Leads p (assign_typed b x n e o) (typed_below b x e x.scope v.ty (done x)) before after
   assign_leads v i free after d =
@@ -170,14 +148,6 @@ module _ (p : Program) (b : In) (x : Before) (n : Named) (e : Expr) (o : Option 
       (leads_note (leads_want (not v.fixed) (of_name rule.E24 (here b x) n.at n.name) (ap not free) (leads_here (assign_typed b x n e (Some v)) before)) d)
 
   module _ (pool : List Ty) (k : Option Assigned) (is : AssignedIs pool o k) where
-    pub unknown_told : {B : Type 0} (show : B → Before) (after : Resolved) → k ≡ None → (f : CheckFault) → FaultIs f (of_name rule.E06 (here b x) n.at n.name) → PlanTold p (assign_typed b x n e o) show before after (Err f)
-    unknown_told show after i f g = refused_none show after (none_is pool o k i is) f g
-
-    pub final_told : {B : Type 0} (show : B → Before) (after : Resolved) (a : Assigned) → k ≡ Some a → a.fixed ≡ true → (f : CheckFault) → FaultIs f (of_name rule.E24 (here b x) n.at n.name)
-        → PlanTold p (assign_typed b x n e o) show before after (Err f)
-    final_told show after a i fixed f g =
-        let v = some_is pool o k a i is in refused_final show after v.v v.named (sym v.is.fixed ∙ fixed) f g
-
     -- the expression has to be below the declared type, by its number
     pub assign_below : (a : Assigned) → k ≡ Some a → a.fixed ≡ false → (mid later : Resolved) → Adds (VarMark a.path ∷ []) before mid → (r : Result (Unit {0}) CheckFault)
         → LeadsTold p (typed_below b x e x.scope (shown pool a.ty) (done x)) (λ (u : Unit {0}). done x) mid later r

@@ -1,5 +1,5 @@
 -- Assignments to fields.
-use Rattle.std.proofs.Common.{◌≡◌, ◌≤◌, ℕ, List, [], ◌∷◌, ◌++◌, Bool, true, false, map, Option, Some, None, Result, Ok, Err, refl, sym, ap, ◌∙◌, subst, arith, append-nil, All}
+use Rattle.std.proofs.Common.{◌≡◌, ℕ, List, [], ◌∷◌, true, false, map, Option, Some, None, Result, Ok, Err, sym, ap, ◌∙◌, subst, arith, append-nil, All}
 use Rattle.jn_base.specs.declared.tree.Name.{Name}
 use Rattle.jn_base.specs.declared.tree.Named.{Named}
 use Rattle.jn_base.specs.declared.tree.Place.{Place}
@@ -20,10 +20,10 @@ use Rattle.jn_intern.specs.Pools.{InPool, Keeps, ScopeInPool, scope_in}
 use Rattle.jn_intern.proofs.Pools.{scope_kept}
 use Rattle.jn_subtype.specs.Binds.{binds_in}
 use Rattle.jn_heads.specs.declared.fault.CheckFault.{CheckFault}
-use Rattle.jn_rules.specs.Plans.{FoundField, MemberMark, Plan, done, then_do}
+use Rattle.jn_rules.specs.Plans.{FoundField, MemberMark, Plan}
 use Rattle.jn_rules.specs.Questions.{Finds, IsFoundField, Notes}
-use Rattle.jn_rules.specs.Exprs.{Here, Typed, Passing, expr_types, mismatch, of_class, first_bound, path_of, field_type}
-use Rattle.jn_rules.specs.Stmts.{Before, In, here, dropped, set_typed, typed_below}
+use Rattle.jn_rules.specs.Exprs.{Here, Typed, expr_types, mismatch, of_class, first_bound, path_of, field_type}
+use Rattle.jn_rules.specs.Stmts.{Before, dropped, set_typed, typed_below}
 use Rattle.jn_expr.specs.declared.env.Env.{Env}
 use Rattle.jn_expr.specs.Envs.{here_at, IsScope}
 use Rattle.jn_expr.specs.Told.{Adds, Went, PlanTold, FaultIs}

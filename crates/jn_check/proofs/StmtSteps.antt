@@ -1,5 +1,5 @@
 -- What has to be asked of a statement, by its form.
-use Rattle.std.proofs.Common.{◌≡◌, ◌<◌, ◌≤◌, ◌+◌, max, ℕ, suc, List, length, get_or, map, Bool, Option, refl, ap, sym, ◌∙◌, subst, arith}
+use Rattle.std.proofs.Common.{◌≡◌, ◌<◌, ◌≤◌, ◌+◌, max, ℕ, suc, List, length, get_or, map, Bool, Option, ap, sym, ◌∙◌, subst, arith}
 use denote.Param.Weighed.{most, at_most}
 use Rattle.jn_base.proofs.tree.Stmt.TheLaws.{the_size}
 use Rattle.jn_base.specs.declared.tree.Named.{Named}

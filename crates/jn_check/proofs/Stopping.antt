@@ -1,11 +1,11 @@
 -- Which statements can't be passed, form by form.
-use Rattle.std.proofs.Common.{◌≡◌, ◌<◌, ◌≤◌, ◌+◌, ◌&&◌, ◌||◌, ℕ, List, [], ◌∷◌, length, drop, map, get_or, Bool, true, false, refl, sym, ap, ◌∙◌, subst}
+use Rattle.std.proofs.Common.{◌≡◌, ◌<◌, ◌≤◌, ◌+◌, ◌||◌, ℕ, List, length, drop, get_or, Bool, true, false, sym, ap, ◌∙◌}
 use Rattle.std.proofs.Math.ListN.{drop_of_length-le}
 use Rattle.jn_base.specs.declared.tree.Stmt.{Stmt, roll-Stmt}
 use Rattle.jn_base.specs.declared.tree.Stmt.TheFolds.{map-Stmt, fold-roll-Stmt}
 use Rattle.jn_base.specs.declared.tree.Stmt.TheOpen.{Stmt-F}
 use Rattle.jn_homes.proofs.Places.{at_index}
-use Rattle.jn_rules.specs.Stmts.{some_stops, stops_step, stops, all_stop}
+use Rattle.jn_rules.specs.Stmts.{stops_step, stops, all_stop}
 
 pub stops_by : (f : Stmt-F Stmt) (s t : Stmt) → t ≡ s → roll-Stmt f ≡ s → stops t ≡ stops_step (map-Stmt Stmt Bool stops f)
 stops_by f s t is e = ap stops (is ∙ sym e) ∙ fold-roll-Stmt Bool stops_step f

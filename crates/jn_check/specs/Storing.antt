@@ -13,7 +13,7 @@ use Rattle.jn_intern.specs.declared.pool.TyId.{TyId}
 use Rattle.jn_intern.specs.declared.scope.Scope.{Scope as NumberScope}
 use Rattle.jn_intern.specs.Pools.{InPool, shown, scope_in}
 use Rattle.jn_rules.specs.Plans.{FoundField, OfField, MemberMark, Plan, note, ask, wants, found_or}
-use Rattle.jn_rules.specs.Exprs.{Here, Typed, Passing, path_of, mismatch, of_class, first_bound, field_type}
+use Rattle.jn_rules.specs.Exprs.{Here, Typed, path_of, mismatch, of_class, first_bound, field_type}
 use Rattle.jn_rules.specs.Stmts.{Before}
 use Rattle.jn_expr.specs.declared.env.Env.{Env}
 use Rattle.jn_expr.specs.declared.env.Value.{Value}
@@ -25,7 +25,8 @@ use Rattle.jn_check.specs.declared.assign.Assigned.{Assigned}
 use Rattle.jn_check.specs.declared.state.Locals.{Locals}
 
 -- One more local, of the next number and with this type, stands behind the variables and at the end of both scopes.
-pub record AddsLocal (old : Env) (x : Locals) (name : Name) (fixed : Bool) (id : TyId) (new : Env) (y : Locals) : Type 0 where
+pub record AddsLocal (old : Env) (x : Locals) (name : Name) (fixed : Bool) (id : TyId) (new : Env) (y : Locals)
+    : Type 0 where
   pub pool : new.pool ≡ old.pool
   pub marks : new.marks ≡ old.marks
   pub vars : new.vars.list ≡ old.vars.list ++ var name x.next fixed (shown old.pool id) ∷ []
@@ -45,8 +46,8 @@ AssignedIs pool None (Some k) = ⊥
 AssignedIs pool (Some v) None = ⊥
 AssignedIs pool (Some v) (Some k) = IsAssigned pool v k
 
--- Behind the receiver of `r.f = e;`: E18 where it is of no class type, E16 where it has no such field; and then `go` with
--- the scope of the receiver's path and the field's type.
+-- Behind the receiver of `r.f = e;`: E18 where it is of no class type, E16 where it has no such field; and then `go`
+-- with the scope of the receiver's path and the field's type.
 abbrev pub stored_in : Here → Place → Named → Typed → (Scope → Ty → Plan Before) → Plan Before
 stored_in h at f r go =
     wants (is_class r.ty) (mismatch h at)
@@ -59,9 +60,10 @@ pub record IsSlot (pool : List Ty) (before after : NumberScope) (id : TyId) : Ty
   pub scope : IsScope pool after
   pub grows : Grows before after
 
--- The number is that of the field's type, with the receiver's path for `this`, its own or a fresh one; the class that declares
--- the field is noted.
-pub record IsFieldAt (old : Env) (before : NumberScope) (v : Value) (c : FoundField) (new : Env) (after : NumberScope) (id : TyId) : Type 0 where
+-- The number is that of the field's type, with the receiver's path for `this`, its own or a fresh one; the class that
+-- declares the field is noted.
+pub record IsFieldAt (old : Env) (before : NumberScope) (v : Value) (c : FoundField) (new : Env) (after : NumberScope)
+    (id : TyId) : Type 0 where
   pub slot : IsSlot new.pool before after id
   pub shows : shown new.pool id ≡ field_type c (path_of (shown old.pool v.ty) (typed_in old.pool before v))
   pub is : scope_in new.pool after ≡ (path_of (shown old.pool v.ty) (typed_in old.pool before v)).scope

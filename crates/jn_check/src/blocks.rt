@@ -3,7 +3,8 @@
 ghost use Rattle.std.specs.Prelude.{◌≡◌, List, map, IfOk, OnOk};
 ghost use Rattle.jn_base.specs.declared.types.Ty.{Ty as AType};
 ghost use Rattle.jn_intern.specs.Pools.{InPool, ScopeInPool, scope_in};
-ghost use Rattle.jn_rules.specs.Stmts.{StmtTyping, stmt_types, stmts_type, condition, block_typed, choice_typed, loop_typed};
+ghost use Rattle.jn_rules.specs.Stmts.{StmtTyping, stmt_types, stmts_type, condition};
+ghost use Rattle.jn_rules.specs.Stmts.{block_typed, choice_typed, loop_typed};
 ghost use Rattle.jn_expr.specs.Envs.{ArePartsOf, parts};
 ghost use Rattle.jn_expr.specs.Passing.{Shows};
 ghost use Rattle.jn_expr.specs.Steps.{LeadsTold};

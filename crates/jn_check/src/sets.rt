@@ -101,8 +101,8 @@ fn stored_in(
     }
 }
 
-/// `r.f = e;` but for the masks of r's path: the refusals of r and of the field, the refusals of e, E18 where that isn't
-/// below the field's type. It gives the path of r, where r has one.
+/// `r.f = e;` but for the masks of r's path: the refusals of r and of the field, the refusals of e, E18 where that
+/// isn't below the field's type. It gives the path of r, where r has one.
 fn stored(
     alloc: Global,
     p: &Program,

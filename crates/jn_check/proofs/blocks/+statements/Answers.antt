@@ -1,11 +1,8 @@
-use Rattle.std.proofs.Common.{◌≡◌, length, drop, map, List, Result, Ok, Err, refl, sym, ap, ◌∙◌, subst, arith, rules}
-use Rattle.jn_base.specs.declared.tree.Stmt.{Stmt}
-use Rattle.jn_base.specs.declared.types.Ty.{Ty}
+use Rattle.std.proofs.Common.{length, map, Err, refl, sym, ap, ◌∙◌, subst, arith, rules}
 use Rattle.jn_intern.specs.declared.scope.Scope.{Scope as NumberScope}
 use Rattle.jn_intern.specs.Pools.{ScopeInPool, scope_in}
 use Rattle.jn_intern.proofs.Pools.{keeps_more}
-use Rattle.jn_rules.specs.Stmts.{Before, stmt_types, stmts_type, condition, block_typed, choice_typed, loop_typed}
-use Rattle.jn_expr.specs.Told.{PlanTold}
+use Rattle.jn_rules.specs.Stmts.{stmt_types, condition, choice_typed, loop_typed}
 use Rattle.jn_expr.proofs.Leading.{leads_here, leads_told, told_of_fault, leads_of_fault}
 use Rattle.jn_expr.proofs.Scopes.{vars_stay}
 use Rattle.jn_check.specs.Blocks.{behind_one}

@@ -1,7 +1,6 @@
-use Rattle.std.proofs.Common.{refl, ap, ◌∙◌}
 use Rattle.jn_heads.specs.Params.{header_in}
 use Rattle.jn_expr.specs.Calling.{body_of}
-use Rattle.jn_check.proofs.BodySteps.{begin_refused, begun_before, begun_start}
+use Rattle.jn_check.proofs.BodySteps.{begin_refused}
 use Rattle.jn_check.proofs.body.begin.Goals as goal
 
 pub returns-in-Err-clause-told : goal.returns-in-Err-clause-told

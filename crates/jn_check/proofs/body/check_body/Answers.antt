@@ -1,4 +1,4 @@
-use Rattle.std.proofs.Common.{◌≡◌, ◌||◌, List, Result, Ok, Err, ap, sym, ◌∙◌, refl, subst, reverse}
+use Rattle.std.proofs.Common.{◌||◌, Result, Ok, Err, ap, ◌∙◌, subst, reverse}
 use Rattle.jn_base.specs.Paths.{Path}
 use Rattle.jn_base.specs.declared.names.Resolved.{Resolved}
 use Rattle.jn_base.specs.declared.types.Ty.{Ty}

@@ -1,4 +1,4 @@
-use Rattle.std.proofs.Common.{◌≡◌, ◌||◌, Bool, true, false, ap, sym, ◌∙◌, refl}
+use Rattle.std.proofs.Common.{◌||◌, ap, sym, ◌∙◌}
 use Rattle.jn_base.specs.declared.types.Ty.{Ty}
 use Rattle.jn_rules.specs.Stmts.{is_void, all_stop}
 use Rattle.jn_expr.specs.Calling.{body_of}

@@ -1,5 +1,4 @@
-use Rattle.std.proofs.Common.{◌≡◌, ◌&&◌, List, Bool, true, false, refl, sym, ap, ◌∙◌}
-use Rattle.jn_base.specs.declared.tree.Stmt.{Stmt}
+use Rattle.std.proofs.Common.{refl, sym, ap, ◌∙◌}
 use Rattle.jn_base.specs.declared.tree.Stmt.TheVariants as stmt
 use Rattle.jn_base.specs.declared.tree.Stmt.TheOpen.{Stmt-F}
 use Rattle.jn_rules.specs.Stmts.{all_stop}
