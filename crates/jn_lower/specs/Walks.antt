@@ -1,6 +1,6 @@
 -- What a walk over a body does: it takes the marks that the rules note of each form, in their order, and what it emits
 -- stands at the form's place.
-use Rattle.std.specs.Prelude.{◌≡◌, ℕ, zero, suc, List, [], ◌∷◌, ◌++◌, length, map, reverse, take, Bool, true, false, Some, slice_get}
+use Rattle.std.specs.Prelude.{◌≡◌, ℕ, zero, suc, List, [], ◌∷◌, ◌++◌, length, map, reverse, take, Bool, true, false, Option, Some, slice_get}
 use Rattle.jn_base.specs.declared.tree.Place.{Place}
 use Rattle.jn_base.specs.declared.tree.Op.{Op}
 use Rattle.jn_base.specs.declared.tree.Node.{Node}
@@ -10,10 +10,14 @@ use Rattle.jn_base.specs.declared.tree.Link.{Link}
 use Rattle.jn_base.specs.declared.tree.Suffix.{Suffix, out-Suffix}
 use Rattle.jn_base.specs.declared.tree.Name.{Name}
 use Rattle.jn_base.specs.declared.path.Path.{Path as ShownPath}
-use Rattle.jn_base.specs.Members.{MethodAt}
+use Rattle.jn_base.specs.declared.tree.Named.{Named}
+use Rattle.jn_base.specs.declared.tree.Field.{Field}
+use Rattle.jn_base.specs.Members.{MethodAt, FieldAt}
+use Rattle.jn_base.specs.Duplicates.{duplicates}
 use Rattle.jn_lower.specs.declared.members.Callee.{Callee}
+use Rattle.jn_lower.specs.declared.members.Getter.{Getter}
 use Rattle.jn_lower.specs.Called as called
-use Rattle.jn_lower.specs.Told.{IsCallee}
+use Rattle.jn_lower.specs.Told.{IsCallee, IsGetter}
 use Rattle.jn_base.specs.declared.tree.Stmt.{Stmt}
 use Rattle.jn_base.specs.declared.tree.Method.{Method}
 use Rattle.jn_base.specs.declared.types.Atom.{Atom as ShownAtom}
@@ -33,8 +37,8 @@ use Rattle.jn_code.specs.declared.image.Code.{Code}
 use Rattle.jn_sem.specs.Acts.{path_behind}
 use Rattle.jn_rules.specs.Plans.{Mark}
 use Rattle.jn_rules.specs.Questions.{Notes}
-use Rattle.jn_rules.specs.Exprs.{Here, Typed, Passed, expr_types, links_typed, suffixes_typed, args_typed}
-use Rattle.jn_rules.specs.Forms.{typed_links, typed_args, part_types, typed_parts}
+use Rattle.jn_rules.specs.Exprs.{Here, Typed, Passed, expr_types, links_typed, suffix_typed, suffixes_typed, args_typed}
+use Rattle.jn_rules.specs.Forms.{given_args, typed_links, typed_args, typed_parts}
 use Rattle.jn_rules.specs.Stmts.{In, Before, here, stmt_types, stmts_type}
 use Rattle.jn_agree.specs.Naming.{Naming}
 use Rattle.jn_agree.specs.Rows.{kind_of_type}
@@ -54,6 +58,10 @@ use Rattle.jn_lower.specs.Cursors.{Ahead, KindTaken}
 use Rattle.jn_lower.specs.Lowering.{PartsAre}
 
 -- ---- small steps
+
+-- no name stands twice in the program, so each path has one declaration at most
+abbrev pub NoneTwice : Parts → Type 0
+NoneTwice g = duplicates g.p.now ≡ []
 
 abbrev pub kind_number : ValKind → ℕ
 kind_number kind.Int = 1
@@ -210,17 +218,20 @@ LowersLink g l old mid =
 
 -- ---- what stands behind a receiver
 
--- a part behind a receiver, whose value is kept or not
-pub record LowersBehind (g : Parts) (n : Naming) (scratch : ℕ) (h : Here) (keeps : Bool) (z : Suffix) (old new : Walk)
-    : Type 0 where
+-- a field or a call behind a receiver, whose value is kept or not
+pub record LowersBehind (g : Parts) (n : Naming) (scratch : ℕ) (h : Here) (keeps : Bool) (f : Named)
+    (args : Option (List Expr)) (old new : Walk) : Type 0 where
   pub done : (at : Place) (x y : Typed) (ms rest : List Mark) → Ready g scratch h x.scope old
-      → Notes g.p.now (part_types h z at x) ms y → Ahead (ms ++ rest) old.marks
-      → Done (called.Part g.p.now n scratch h x keeps (out-Suffix z).name.name (out-Suffix z).args) rest y.ty old new
+      → Notes g.p.now (suffix_typed h f (given_args h args) at x) ms y → Ahead (ms ++ rest) old.marks
+      → Done (called.Part g.p.now n scratch h x keeps f.name args) rest y.ty old new
+
+abbrev pub LowersMember : Parts → Bool → Named → Option (List Expr) → Walk → Walk → Type 0
+LowersMember g keeps f args old new =
+    (n : Naming) (scratch : ℕ) (h : Here) → PartsAre g.p.now g.t.now g.slots.now g.names.now n
+    → LowersBehind g n scratch h keeps f args old new
 
 abbrev pub LowersPart : Parts → Bool → Suffix → Walk → Walk → Type 0
-LowersPart g keeps z old new =
-    (n : Naming) (scratch : ℕ) (h : Here) → PartsAre g.p.now g.t.now g.slots.now g.names.now n
-    → LowersBehind g n scratch h keeps z old new
+LowersPart g keeps z old new = LowersMember g keeps (out-Suffix z).name (out-Suffix z).args old new
 
 -- all of them, of which only the last value is kept or not
 pub record LowersEach (g : Parts) (n : Naming) (scratch : ℕ) (h : Here) (keeps : Bool) (zs : List Suffix)
@@ -269,6 +280,24 @@ pub record CallMade (g : Parts) (keeps : Bool) (path : ShownPath) (f : Name) (co
   pub adds : Adds (ins.Call callee.selector ∷ dropping keeps callee.kind) old.out mid.out
   pub marks : mid.marks ≡ old.marks
   pub settled : Settled callee.kind mid new
+
+-- The field of that name, which the class at the path declares, is read by its selector, and its value is had.
+pub record FieldRead (g : Parts) (path : ShownPath) (f : Name) (old new : Walk) : Type 0 where
+  pub getter : Getter
+  pub mid : Walk
+  pub is : (field : Field) → FieldAt g.p.now (reverse path.names) f field
+      → IsGetter g.t.now g.slots.now g.names.now.fields (reverse path.names) f field getter
+  pub adds : Adds (ins.Get getter.selector ∷ []) old.out mid.out
+  pub marks : mid.marks ≡ old.marks
+  pub had : Had mid new
+
+-- The value on top is given to the field of that name, which the class at the path declares, by its selector.
+pub record FieldPut (g : Parts) (path : ShownPath) (f : Name) (old new : Walk) : Type 0 where
+  pub getter : Getter
+  pub is : (field : Field) → FieldAt g.p.now (reverse path.names) f field
+      → IsGetter g.t.now g.slots.now g.names.now.fields (reverse path.names) f field getter
+  pub adds : Adds (ins.Put getter.selector ∷ []) old.out new.out
+  pub marks : new.marks ≡ old.marks
 
 -- the parts that are left, where there are some
 abbrev pub LowersTail : Parts → Bool → List Suffix → Walk → Walk → Type 0

@@ -23,6 +23,7 @@ pub mod walk;
 pub mod walk_body;
 pub mod walk_exprs;
 pub mod walk_locals;
+pub mod walk_members;
 pub mod walk_stmts;
 
 pub use emitter::Emitter;

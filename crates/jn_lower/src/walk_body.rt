@@ -1,4 +1,5 @@
-ghost use Rattle.std.specs.Prelude.{◌≡◌, IfOk, OnOk};
+ghost use Rattle.std.specs.Prelude.{◌≡◌, [], IfOk, OnOk};
+ghost use Rattle.jn_base.specs.Duplicates.{duplicates};
 ghost use Rattle.jn_sem.specs.Acts.{path_behind};
 ghost use Rattle.jn_sem.specs.Does.{Body};
 ghost use Rattle.jn_rules.specs.Headers.{Header};
@@ -124,7 +125,7 @@ fn finish(alloc: Global, out: Emitter, m: &Method) -> Result<Code, AllocError>
 }
 
 /// The code of a body that was checked: it stands at the body's place. The parts are those of the program, and `r` is
-/// what is known of the body.
+/// what is known of the body. No name stands twice in the program.
 pub fn lower(
     alloc: Global,
     p: &Program,
@@ -134,6 +135,7 @@ pub fn lower(
     r: &Resolved,
     s: &Selectors,
 ) -> Result<Code, AllocError>
+    requires { duplicates p.now ≡ [] }
     ensures { IfOk result (λ code. (n : Naming) (b : Body) (k : Header) → PartsAre p.now t.now slots.now s.now n
         → BodyIs p.now m.now r.now b k → TypedBodyAt p.now n b k code) }
 {
