@@ -107,6 +107,7 @@ body_stands g n m r b k c0 c1 c3 w1 w2 code parts class is begun tested at_first
       kinds = λ v h. ap (λ (o : Locals). slice_get o.kinds v.path) locals1 ∙ ap (λ (l : List ℕ). slice_get l v.path) begun.kinds
           ∙ head.numbered v h;
       valued = head.valued;
+      apart = head.above;
       this = this_first (site_in b k.vars) head.above;
     } in
     let d = (all n scratch (body_in b k) parts).done (at_start b k) noted.after is.resolved.marks [] ready

@@ -140,6 +140,7 @@ ready_more g scratch b x v old new ready kinds scr path valued = record {
   first = ap (λ (l : List ℕ). slice_get l 0) kinds ∙ front_kind old.out.locals.kinds (kind_of_type v.ty) 0 3 ready.first;
   kinds = λ u m. ap (λ (l : List ℕ). slice_get l u.path) kinds ∙ kind_at u (among_more vs v u m);
   valued = λ u m. valued_at u (among_more vs v u m);
+  apart = λ u m. apart_at u (among_more vs v u m);
   this = bound_passed (var_bind v) x.scope 0 (λ e. no_first old.out.locals.kinds 3 ready.first (sym path ∙ e)) ∙ ready.this;
 }
   where
@@ -161,6 +162,11 @@ ready_more g scratch b x v old new ready kinds scr path valued = record {
         ap (λ (w : Var). slice_get (old.out.locals.kinds ++ kind_of_type v.ty ∷ []) w.path) e
         ∙ ap (slice_get (old.out.locals.kinds ++ kind_of_type v.ty ∷ [])) path
         ∙ last_kind old.out.locals.kinds (kind_of_type v.ty) ∙ ap (λ (w : Var). Some (kind_of_type w.ty)) (sym e)
+
+    apart_at : (u : Var) → Among vs u ⊎ (u ≡ v) → u.path ≡ 0 → ⊥
+    apart_at u (inl m) = ready.apart u m
+    apart_at u (inr e) =
+        λ f. no_first old.out.locals.kinds 3 ready.first (sym path ∙ sym (ap (λ (w : Var). w.path) e) ∙ f)
 
     valued_at : (u : Var) → Among vs u ⊎ (u ≡ v) → u.ty ≡ ty.Void → ⊥
     valued_at u (inl m) = ready.valued u m

@@ -27,3 +27,5 @@ pub mod Posts
 pub mod Passing
 pub mod FieldKinds
 pub mod Bounding
+pub mod Making
+pub mod Forming

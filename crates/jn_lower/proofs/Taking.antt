@@ -21,6 +21,7 @@ use Rattle.jn_lower.specs.declared.emitter.Locals.{Locals}
 use Rattle.jn_lower.specs.declared.walk.Parts.{Parts}
 use Rattle.jn_lower.specs.declared.walk.Walk.{Walk}
 use Rattle.jn_lower.specs.Cursors.{Ahead, TermTaken, VarTaken, MemberTaken, KindTaken}
+use Rattle.jn_lower.specs.Called.{Tucks}
 use Rattle.jn_lower.specs.Emitted.{Grown}
 use Rattle.jn_lower.specs.Walks.{kind_number, Had, Ready}
 use Rattle.jn_lower.proofs.Seen.{Low, apart_bound, expr_low}
@@ -118,6 +119,7 @@ ready_grown g scratch h sc old new grown r = record {
   first = grown.locals.kinds 0 3 r.first;
   kinds = λ v m. grown.locals.kinds v.path _ (r.kinds v m);
   valued = r.valued;
+  apart = r.apart;
   this = r.this;
 }
 
@@ -129,8 +131,24 @@ ready_locals g scratch h sc old new e r = record {
   first = ap (λ (o : Locals). slice_get o.kinds 0) e ∙ r.first;
   kinds = λ v m. ap (λ (o : Locals). slice_get o.kinds v.path) e ∙ r.kinds v m;
   valued = r.valued;
+  apart = r.apart;
   this = r.this;
 }
+
+-- behind what brings `this` below the first argument of `super`
+pub ready_tucked : (g : Parts) (scratch : ℕ) (h : Here) (sc : Scope) (kind : ℕ) (old new : Walk)
+    → Tucks kind old.out new.out → Ready g scratch h sc old → Ready g scratch h sc new
+ready_tucked g scratch h sc kind old new t r =
+    let kinds : new.out.locals.kinds ≡ old.out.locals.kinds = ap (λ (o : Locals). o.kinds) t.added.locals ∙ t.spare.kinds in
+    record {
+      class = r.class;
+      above = ap (λ (o : Locals). o.scratch) t.added.locals ∙ t.spare.scratch ∙ r.above;
+      first = ap (λ (l : List ℕ). slice_get l 0) kinds ∙ r.first;
+      kinds = λ v m. ap (λ (l : List ℕ). slice_get l v.path) kinds ∙ r.kinds v m;
+      valued = r.valued;
+      apart = r.apart;
+      this = r.this;
+    }
 
 -- ---- scopes
 
@@ -143,6 +161,7 @@ ready_in g scratch h s t w low r = record {
   first = r.first;
   kinds = r.kinds;
   valued = r.valued;
+  apart = r.apart;
   this = low 0 (omega arith) ∙ r.this;
 }
 
@@ -155,6 +174,7 @@ ready_apart g scratch b x y w vars apart r = record {
   first = r.first;
   kinds = λ v m. r.kinds v (subst (λ (vs : List Var). Among vs v) vars m);
   valued = λ v m. r.valued v (subst (λ (vs : List Var). Among vs v) vars m);
+  apart = λ v m. r.apart v (subst (λ (vs : List Var). Among vs v) vars m);
   this = apart_bound x.scope y.scope apart 0 ∙ r.this;
 }
 

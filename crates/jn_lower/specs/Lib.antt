@@ -18,3 +18,4 @@ pub mod Lowering
 pub mod Walks
 pub mod Bounds
 pub mod Making
+pub mod Formed

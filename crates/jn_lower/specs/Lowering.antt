@@ -23,8 +23,8 @@ use Rattle.jn_agree.specs.Naming.{Naming}
 use Rattle.jn_agree.specs.Rows.{SelectorsAre}
 
 -- The parts are those of p: a table in which the universe is filled, and slots. The numbers stand for the table's paths
--- and for the selectors. Each question of the rules has one reply at most, and only classes have fields, as in each
--- program that the first steps pass.
+-- and for the selectors. Each question of the rules has one reply at most, only classes have fields, and a class that has
+-- a method surely has a least body of it, as in each program that the first steps pass.
 pub record PartsAre (p : Program) (t : Table) (slots : Slots) (s : Selectors) (n : Naming) : Type 0 where
   pub filled : IsFilled p t
   pub numbered : AreSlots p t.known.items slots

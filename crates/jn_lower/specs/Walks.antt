@@ -53,6 +53,7 @@ use Rattle.jn_lower.specs.Composed.{Links, Stmts}
 use Rattle.jn_lower.specs.Classes.{AreClassesOf, AddsClass}
 use Rattle.jn_lower.specs.Stores.{stored}
 use Rattle.jn_lower.specs.Whole.{IsCodeOf}
+use Rattle.jn_lower.specs.Formed.{Formed}
 use Rattle.jn_lower.specs.Written.{is_reference, written_kind, written_result, param_kind}
 use Rattle.jn_lower.specs.Cursors.{Ahead, KindTaken}
 use Rattle.jn_lower.specs.Lowering.{PartsAre}
@@ -151,13 +152,14 @@ pub record BindsWritten (fixed : Bool) (tt : TypeTerm) (q : ℕ) (old new : Walk
 -- ---- what a walk stands on, and what it has done
 
 -- The body stands in the class that is told. Local 0 is a reference; the local of each variable in scope has the kind of
--- its type, and none is `void`. The scope has the class for `this`.
+-- its type, none is `void`, and none has the number of `this`. The scope has the class for `this`.
 pub record Ready (g : Parts) (scratch : ℕ) (h : Here) (sc : Scope) (w : Walk) : Type 0 where
   pub class : g.class.now ≡ shown h.class
   pub above : w.out.locals.scratch ≡ scratch
   pub first : slice_get w.out.locals.kinds 0 ≡ Some 3
   pub kinds : (v : Var) → Among h.vars v → slice_get w.out.locals.kinds v.path ≡ Some (kind_of_type v.ty)
   pub valued : (v : Var) → Among h.vars v → v.ty ≡ ty.Void → ⊥
+  pub apart : (v : Var) → Among h.vars v → v.path ≡ 0 → ⊥
   pub this : bound_of sc 0 ≡ h.class
 
 -- These marks are left, the form stands where it was emitted, and the value that was had last has the type's kind.
@@ -361,10 +363,10 @@ pub record Begun (m : Method) (x : Emitter) : Type 0 where
   pub kinds : x.locals.kinds ≡ 3 ∷ map param_kind m.params
   pub scratch : x.locals.scratch ≡ path_behind m.body (suc (length m.params))
 
--- The code of what was emitted, of which so many locals are parameters.
-pub record CodeMade (x : Emitter) (count kind : ℕ) (code : Code) : Type 0 where
+-- The code of what was emitted, of which so many locals are parameters, and so many those of variables.
+pub record CodeMade (x : Emitter) (count above kind : ℕ) (code : Code) : Type 0 where
   pub is : IsCodeOf x count kind 4096 code
-  pub scratch : length x.locals.kinds ≡ x.locals.scratch
+  pub formed : Formed x count above
 
 -- The code has what was emitted: the locals of all variables, and the scratch ones behind them.
 pub record Finished (m : Method) (x : Emitter) (code : Code) : Type 0 where

@@ -10,6 +10,7 @@ pub mod classes;
 pub mod cursor;
 pub mod emitter;
 pub mod ending;
+pub mod formed;
 pub mod kinds;
 pub mod law;
 pub mod leaves;
