@@ -25,4 +25,6 @@ pub mod NextLocals
 pub mod Posts
 pub mod Passing
 pub mod FieldKinds
+pub mod Behind
+pub mod Setting
 pub mod Bounding

@@ -108,7 +108,6 @@ pub fn value(g: &Parts, w: &mut Walk, e: &Expr) -> Result<(), AllocError>
 
 /// Emits an expression, whose value is dropped: a call, a new object, or `super`. No other stands so in a source, and it
 /// is refused for want of memory.
-#[cycle(exprs)]
 pub fn effect(g: &Parts, w: &mut Walk, e: &Expr) -> Result<(), AllocError>
     requires { NoneTwice g.now }
     ensures { OnOk result (LowersEffect g.now e.now w.old w.new) }
