@@ -11,6 +11,7 @@ pub mod CtorCodes
 pub mod ClassCodes
 pub mod Named
 pub mod Noting
+pub mod Seen
 pub mod Taking
 pub mod LeafForms
 pub mod Chains

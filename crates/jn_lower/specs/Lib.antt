@@ -17,3 +17,4 @@ pub mod Cursors
 pub mod Lowering
 pub mod Walks
 pub mod Bounds
+pub mod Making

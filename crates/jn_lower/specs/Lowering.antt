@@ -13,8 +13,8 @@ use Rattle.jn_share.specs.declared.slots.Slots.{Slots}
 use Rattle.jn_share.specs.Slots.{AreSlots}
 use Rattle.jn_sem.specs.Sharing.{IsClass}
 use Rattle.jn_sem.specs.Slots.{FieldType}
-use Rattle.jn_sem.specs.Does.{Body}
-use Rattle.jn_rules.specs.Questions.{Gives}
+use Rattle.jn_sem.specs.Does.{Body, IsBody}
+use Rattle.jn_rules.specs.Questions.{HasMethod, Gives}
 use Rattle.jn_rules.specs.LawsOfPlans.{RepliesAreOne}
 use Rattle.jn_rules.specs.Headers.{Header, header_typed}
 use Rattle.jn_rules.specs.Resolved.{IsResolved}
@@ -34,6 +34,7 @@ pub record PartsAre (p : Program) (t : Table) (slots : Slots) (s : Selectors) (n
   pub selectors : SelectorsAre p n.methods n.fields
   pub one : RepliesAreOne p
   pub of_classes : (R : Path) (f : Name) (t : Ty) → FieldType p R f t → IsClass p R
+  pub least : (V : Path) (m : Name) → IsClass p V → HasMethod p m V → ((b : Body) → IsBody p V m b → ⊥) → ⊥
 
 -- The method is that of the body b of the program, whose header is k, and r is what is known of it since it was checked.
 pub record BodyIs (p : Program) (m : Method) (r : Resolved) (b : Body) (k : Header) : Type 0 where

@@ -29,7 +29,8 @@ use Rattle.jn_base.specs.declared.types.ValKind.TheVariants as kind
 use Rattle.jn_base.specs.declared.names.Var.{Var}
 use Rattle.jn_base.specs.Parts.{expr}
 use Rattle.jn_base.specs.Atoms.{Among, atom_of}
-use Rattle.jn_base.specs.Scopes.{Scope}
+use Rattle.jn_base.specs.Paths.{shown}
+use Rattle.jn_base.specs.Scopes.{Scope, bound_of}
 use Rattle.jn_code.specs.declared.instr.Instr.{Instr}
 use Rattle.jn_code.specs.declared.instr.Instr.TheVariants as ins
 use Rattle.jn_code.specs.declared.image.Code.{Code}
@@ -38,7 +39,7 @@ use Rattle.jn_rules.specs.Plans.{Mark}
 use Rattle.jn_rules.specs.Questions.{Notes}
 use Rattle.jn_rules.specs.Exprs.{Here, Typed, Passed, expr_types, links_typed, suffix_typed, suffixes_typed, args_typed}
 use Rattle.jn_rules.specs.Forms.{given_args, typed_links, typed_args, typed_parts}
-use Rattle.jn_rules.specs.Stmts.{In, Before, stmt_types, stmts_type}
+use Rattle.jn_rules.specs.Stmts.{In, Before, here, stmt_types, stmts_type}
 use Rattle.jn_agree.specs.Naming.{Naming}
 use Rattle.jn_agree.specs.Rows.{kind_of_type}
 use Rattle.jn_agree.specs.Places.{operator, deciding, decided_by, dropping}
@@ -149,11 +150,15 @@ pub record BindsWritten (fixed : Bool) (tt : TypeTerm) (q : ℕ) (old new : Walk
 
 -- ---- what a walk stands on, and what it has done
 
--- The local of each variable in scope has the kind of its type, and none is `void`.
-pub record Ready (scratch : ℕ) (vs : List Var) (w : Walk) : Type 0 where
+-- The body stands in the class that is told. Local 0 is a reference; the local of each variable in scope has the kind of
+-- its type, and none is `void`. The scope has the class for `this`.
+pub record Ready (g : Parts) (scratch : ℕ) (h : Here) (sc : Scope) (w : Walk) : Type 0 where
+  pub class : g.class.now ≡ shown h.class
   pub above : w.out.locals.scratch ≡ scratch
-  pub kinds : (v : Var) → Among vs v → slice_get w.out.locals.kinds v.path ≡ Some (kind_of_type v.ty)
-  pub valued : (v : Var) → Among vs v → v.ty ≡ ty.Void → ⊥
+  pub first : slice_get w.out.locals.kinds 0 ≡ Some 3
+  pub kinds : (v : Var) → Among h.vars v → slice_get w.out.locals.kinds v.path ≡ Some (kind_of_type v.ty)
+  pub valued : (v : Var) → Among h.vars v → v.ty ≡ ty.Void → ⊥
+  pub this : bound_of sc 0 ≡ h.class
 
 -- These marks are left, the form stands where it was emitted, and the value that was had last has the type's kind.
 pub record Done (There : Code → ℕ → ℕ → Type 0) (rest : List Mark) (t : Ty) (old new : Walk) : Type 0 where
@@ -166,7 +171,7 @@ pub record Done (There : Code → ℕ → ℕ → Type 0) (rest : List Mark) (t 
 -- an expression whose value is kept, or not
 pub record Lowers (g : Parts) (n : Naming) (scratch : ℕ) (h : Here) (sc : Scope) (keeps : Bool) (e : Expr)
     (old new : Walk) : Type 0 where
-  pub done : (ms rest : List Mark) (x : Typed) → Ready scratch h.vars old → Notes g.p.now (expr_types h e sc) ms x
+  pub done : (ms rest : List Mark) (x : Typed) → Ready g scratch h sc old → Notes g.p.now (expr_types h e sc) ms x
       → Ahead (ms ++ rest) old.marks → Done (Value g.p.now n scratch h sc keeps e) rest x.ty old new
 
 -- wherever it stands
@@ -197,7 +202,7 @@ LowersNode g x old new = LowersNodeAs g true x old new
 -- the operators of a chain, behind a left operand that was had
 pub record LowersThem (g : Parts) (n : Naming) (scratch : ℕ) (h : Here) (ls : List Link) (old new : Walk)
     : Type 0 where
-  pub done : (at : Place) (x z : Typed) (ms rest : List Mark) → Ready scratch h.vars old
+  pub done : (at : Place) (x z : Typed) (ms rest : List Mark) → Ready g scratch h x.scope old
       → old.last ≡ kind_of_type x.ty → Notes g.p.now (links_typed h at x (typed_links h ls)) ms z
       → Ahead (ms ++ rest) old.marks → Done (Links g.p.now n scratch h x ls) rest z.ty old new
 
@@ -216,7 +221,7 @@ LowersLink g l old mid =
 -- a field or a call behind a receiver, whose value is kept or not
 pub record LowersBehind (g : Parts) (n : Naming) (scratch : ℕ) (h : Here) (keeps : Bool) (f : Named)
     (args : Option (List Expr)) (old new : Walk) : Type 0 where
-  pub done : (at : Place) (x y : Typed) (ms rest : List Mark) → Ready scratch h.vars old
+  pub done : (at : Place) (x y : Typed) (ms rest : List Mark) → Ready g scratch h x.scope old
       → Notes g.p.now (suffix_typed h f (given_args h args) at x) ms y → Ahead (ms ++ rest) old.marks
       → Done (called.Part g.p.now n scratch h x keeps f.name args) rest y.ty old new
 
@@ -231,7 +236,7 @@ LowersPart g keeps z old new = LowersMember g keeps (out-Suffix z).name (out-Suf
 -- all of them, of which only the last value is kept or not
 pub record LowersEach (g : Parts) (n : Naming) (scratch : ℕ) (h : Here) (keeps : Bool) (zs : List Suffix)
     (old new : Walk) : Type 0 where
-  pub done : (whole at : Place) (x y : Typed) (ms rest : List Mark) → Ready scratch h.vars old
+  pub done : (whole at : Place) (x y : Typed) (ms rest : List Mark) → Ready g scratch h x.scope old
       → Notes g.p.now (suffixes_typed whole at (typed_parts h zs) x) ms y → Ahead (ms ++ rest) old.marks
       → Done (called.Parts g.p.now n scratch h x keeps zs) rest y.ty old new
 
@@ -249,7 +254,7 @@ pub record ArgsDone (There : Code → ℕ → ℕ → Type 0) (rest : List Mark)
 pub record LowersGiven (g : Parts) (n : Naming) (scratch : ℕ) (h : Here) (es : List Expr) (old new : Walk)
     : Type 0 where
   pub done : (from : List ℕ) (xs : List Var) (to : List ℕ) (sc : Scope) (y : Passed) (ms rest : List Mark)
-      → length xs ≡ length es → Ready scratch h.vars old → Notes g.p.now (args_typed h from xs (typed_args h es) to sc) ms y
+      → length xs ≡ length es → Ready g scratch h sc old → Notes g.p.now (args_typed h from xs (typed_args h es) to sc) ms y
       → Ahead (ms ++ rest) old.marks → ArgsDone (called.Args g.p.now n scratch h from xs es to sc) rest old new
 
 abbrev pub LowersArgs : Parts → List Expr → Walk → Walk → Type 0
@@ -306,17 +311,17 @@ pub record IsKept (keeps : Bool) (left : ℕ) (kept : Bool) : Type 0 where
 
 -- ---- statements
 
-pub record StmtsDone (There : Code → ℕ → ℕ → Type 0) (scratch : ℕ) (rest : List Mark) (y : Before) (old new : Walk)
-    : Type 0 where
+pub record StmtsDone (There : Code → ℕ → ℕ → Type 0) (g : Parts) (scratch : ℕ) (b : In) (rest : List Mark)
+    (y : Before) (old new : Walk) : Type 0 where
   pub left : Ahead rest new.marks
   pub emitted : Emitted There old.out new.out
-  pub ready : Ready scratch y.vars new
+  pub ready : Ready g scratch (here b y) y.scope new
 
 pub record LowersAll (g : Parts) (n : Naming) (scratch : ℕ) (b : In) (ss : List Stmt) (old new : Walk)
     : Type 0 where
-  pub done : (x y : Before) (ms rest : List Mark) → Ready scratch x.vars old → Notes g.p.now (stmts_type b ss x) ms y
-      → Ahead (ms ++ rest) old.marks
-      → StmtsDone (Stmts g.p.now n scratch b x ss) scratch rest y old new
+  pub done : (x y : Before) (ms rest : List Mark) → Ready g scratch (here b x) x.scope old
+      → Notes g.p.now (stmts_type b ss x) ms y → Ahead (ms ++ rest) old.marks
+      → StmtsDone (Stmts g.p.now n scratch b x ss) g scratch b rest y old new
 
 abbrev pub LowersStmts : Parts → List Stmt → Walk → Walk → Type 0
 LowersStmts g ss old new =
@@ -326,13 +331,13 @@ LowersStmts g ss old new =
 pub record StmtDone (g : Parts) (n : Naming) (scratch : ℕ) (b : In) (s : Stmt) (rest : List Mark) (x y : Before)
     (old new : Walk) : Type 0 where
   pub left : Ahead rest new.marks
-  pub ready : Ready scratch y.vars new
+  pub ready : Ready g scratch (here b y) y.scope new
   pub behind : (ss : List Stmt) (end : Emitter) → Emitted (Stmts g.p.now n scratch b y ss) new.out end
       → Emitted (Stmts g.p.now n scratch b x (s ∷ ss)) old.out end
 
 pub record LowersOne (g : Parts) (n : Naming) (scratch : ℕ) (b : In) (s : Stmt) (old new : Walk) : Type 0 where
-  pub done : (x y : Before) (ms rest : List Mark) → Ready scratch x.vars old → Notes g.p.now (stmt_types b s x) ms y
-      → Ahead (ms ++ rest) old.marks → StmtDone g n scratch b s rest x y old new
+  pub done : (x y : Before) (ms rest : List Mark) → Ready g scratch (here b x) x.scope old
+      → Notes g.p.now (stmt_types b s x) ms y → Ahead (ms ++ rest) old.marks → StmtDone g n scratch b s rest x y old new
 
 -- one statement, wherever it stands
 abbrev pub LowersStmt : Parts → Stmt → Walk → Walk → Type 0

@@ -24,7 +24,9 @@ pub mod walk_body;
 pub mod walk_exprs;
 pub mod walk_locals;
 pub mod walk_members;
+pub mod walk_new;
 pub mod walk_stmts;
+pub mod walk_super;
 
 pub use emitter::Emitter;
 pub use walk_body::lower;

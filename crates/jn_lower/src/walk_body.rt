@@ -147,6 +147,7 @@ pub fn lower(
         t,
         slots,
         names: s,
+        class: &r.class,
     };
     let marks = Marks::of(r);
     let mut w = Walk {

@@ -10,6 +10,8 @@ use crate::leaves::{null, this, truth, variable};
 use crate::straight::{decided_by, deciding, deciding_of, operator};
 use crate::walk::{Parts, Walk, had, push, set};
 use crate::walk_members::{called, field_read, kept};
+use crate::walk_new::{made_by, made_of};
+use crate::walk_super::{bare_above, called_above, found_above, tucked};
 use jn_base::tree::{Expr, Link, Named, Node, Op, Suffix};
 use jn_base::types::Atom;
 use jn_code::Instr;
@@ -257,15 +259,24 @@ fn args(g: &Parts, w: &mut Walk, es: &[Expr]) -> Result<(), AllocError>
     Ok(())
 }
 
-/// Emits a new object. It isn't there yet: want of memory.
+/// Emits a new object: the arguments, the class, NEW, and its constructor.
+#[cycle(exprs)]
 fn made(g: &Parts, w: &mut Walk, es: &[Expr], keeps: bool) -> Result<(), AllocError>
     requires { NoneTwice g.now }
     ensures { OnOk result ((t : ATerm) → LowersNodeAs g.now keeps (node.New t es.now) w.old w.new) }
 {
-    Err(AllocError)
+    match w.marks.next_term() {
+        None => Err(AllocError),
+        Some(x) => {
+            let ctor = made_by(g, w, x, es.len())?;
+            args(g, w, es)?;
+            made_of(g, w, x, ctor, keeps)
+        }
+    }
 }
 
-/// Emits a call of `super`. It isn't there yet: want of memory.
+/// Emits a call of `super`: the first argument, below which `this` is brought, the others, and CALLAT.
+#[cycle(exprs)]
 fn upward(
     g: &Parts,
     w: &mut Walk,
@@ -276,5 +287,14 @@ fn upward(
     requires { NoneTwice g.now }
     ensures { OnOk result ((t : ATerm) → LowersNodeAs g.now keeps (node.Super t f es.now) w.old w.new) }
 {
-    Err(AllocError)
+    let x = found_above(g, w, f.name, es.len())?;
+    match es {
+        [] => bare_above(w, x, keeps),
+        [first, others @ ..] => {
+            value(g, w, first)?;
+            tucked(w, x)?;
+            args(g, w, others)?;
+            called_above(w, x, keeps)
+        }
+    }
 }
