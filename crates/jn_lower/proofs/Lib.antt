@@ -26,6 +26,8 @@ pub mod NextLocals
 pub mod Posts
 pub mod Passing
 pub mod FieldKinds
+pub mod Behind
+pub mod Setting
 pub mod Bounding
 pub mod Making
 pub mod Forming
