@@ -30,4 +30,5 @@ pub mod Behind
 pub mod Setting
 pub mod Bounding
 pub mod Making
+pub mod Above
 pub mod Forming

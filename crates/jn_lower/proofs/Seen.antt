@@ -46,7 +46,7 @@ use Rattle.jn_rules.proofs.FormLaws.{forms_are}
 use Rattle.jn_rules.proofs.PlanLaws.{then_came, wanted, took, found_was}
 use Rattle.jn_rule_laws.specs.Behind.{MasksApart, none, one}
 
-unlike : false ≡ true → ⊥
+pub unlike : false ≡ true → ⊥
 unlike e = cc
 
 -- ---- scopes

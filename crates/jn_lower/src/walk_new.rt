@@ -43,7 +43,7 @@ fn by_mark(
         None => Err(AllocError),
         Some(path) => {
             let found = constructor_at(g.alloc, g.p, g.names.methods.as_slice(), x, path)?;
-            if found.params.len() != count {
+            if found.params.as_slice().len() != count {
                 return Err(AllocError);
             }
             Ok(Some(found.selector))

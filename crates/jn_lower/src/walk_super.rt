@@ -29,7 +29,7 @@ pub struct Above {
 /// The number of the atom's class. One that isn't in the table, which no checked body has, is refused for want of
 /// memory.
 fn class_number(g: &Parts, x: &Atom) -> Result<u16, AllocError>
-    ensures { IfOk result (λ k. (n : Naming) → AreClassesOf g.t.now n → (s : Scope) → IsThis g.class.now s
+    ensures { IfOk result (λ k. (n : Naming) → AreClassesOf g.now.t.now n → (s : Scope) → IsThis g.now.class.now s
         → slice_get n.classes k ≡ Some (bound s (atom_of x.now))) }
 {
     let bound = class_bound(g.alloc, g.class, x)?;
@@ -67,14 +67,14 @@ pub fn found_above(
             Some(path) => {
                 let class = class_number(g, x)?;
                 let found = callee_at(g.alloc, g.p, g.names.methods.as_slice(), path, f)?;
-                if found.params.len() != count {
+                if found.params.as_slice().len() != count {
                     return Err(AllocError);
                 }
                 Ok(Above {
                     class,
                     selector: found.selector,
                     kind: found.kind,
-                    first: first_kind(&found.params),
+                    first: first_kind(found.params.as_slice()),
                 })
             }
         },
