@@ -49,7 +49,8 @@ use Rattle.jn_lower.specs.Walks.{FieldRead, CallMade, Settled, none, some, Settl
 use Rattle.jn_lower.proofs.Growing.{means}
 use Rattle.jn_lower.proofs.Calling.{field_so, call_so}
 use Rattle.jn_lower.proofs.Noting.{wants_noted, found_noted, gives_noted, kinds_agree, valued}
-use Rattle.jn_lower.proofs.Taking.{member_ahead, had_ahead, ready_locals}
+use Rattle.jn_lower.proofs.Taking.{member_ahead, had_ahead, ready_locals, ready_in}
+use Rattle.jn_lower.proofs.Seen.{named_low}
 use Rattle.jn_lower.proofs.Chains.{regroup}
 use Rattle.jn_lower.proofs.Written.{told}
 use Rattle.jn_lower.proofs.Heads.{HeadIs, head_is, header_silent}
@@ -248,7 +249,8 @@ call_done g keeps f es path m1 w0 w2 w3 took all made n scratch h parts = record
       let w1 : Walk = record w0 { marks = m1 } in
       let d = (all n scratch h parts).done (replaced_paths k.vars) k.vars (r.path ∷ []) r.scope c.passed c.before
       (c.after ++ rest) (called_many g.names.now.methods f.name c.body.method made.callee k (length es) is head made.many)
-      (ready_locals scratch h.vars w0 w1 refl ready) c.args one.left in
+      (ready_in g scratch h x.scope r.scope w1 (named_low x.ty x.path x.scope) (ready_locals g scratch h x.scope w0 w1 refl ready))
+      c.args one.left in
       let t = put_in c.passed.scope (replaced_paths k.vars) c.passed.paths k.result in
       let s = settles g.p.now t c.passed.scope made.callee.kind y c.after rest made.mid w3 c.result
       (is.result ∙ sym head.result ∙ sym (put_kept c.passed.scope _ k.result)) made.settled

@@ -7,16 +7,18 @@ use Rattle.jn_base.specs.declared.tree.Expr.{Expr}
 use Rattle.jn_base.specs.declared.tree.Stmt.TheVariants as stmt
 use Rattle.jn_base.specs.declared.tree.Program.{Program}
 use Rattle.jn_base.specs.declared.path.Path.{Path as ShownPath}
-use Rattle.jn_base.specs.declared.names.Var.{Var}
 use Rattle.jn_base.specs.declared.refusal.Refusal.{Refusal}
 use Rattle.jn_base.specs.declared.refusal.Rule.TheVariants as rule
 use Rattle.jn_base.specs.Resolve.{is_class}
 use Rattle.jn_rules.specs.Plans.{FoundField, OfField, IsBelow, Mark, MemberMark, Plan, done, ask, then_do, wants, found_or}
 use Rattle.jn_rules.specs.Questions.{Notes, Finds, IsFoundField}
 use Rattle.jn_rules.specs.Exprs.{Typed, mismatch, of_class, first_bound, path_of, field_type}
-use Rattle.jn_rules.specs.Stmts.{In, Before, here, typed, is_variable, without_mask, dropped, set_with, stmt_types}
+use Rattle.jn_rules.specs.Stmts.{In, Before, here, typed, is_variable, with_masks, without_mask, dropped, set_with, stmt_types}
 use Rattle.jn_rules.proofs.FormLaws.{forms_are}
 use Rattle.jn_rules.proofs.PlanLaws.{then_noted}
+use Rattle.jn_rule_laws.specs.Behind.{MasksApart}
+use Rattle.jn_rule_laws.proofs.Behind.{apart_itself, masks_apart}
+use Rattle.jn_rule_laws.proofs.MaskNumbers.{formed_of, mask_small}
 use Rattle.jn_places.specs.ExprPlaces.{ExprAt}
 use Rattle.jn_lower.specs.declared.cursor.Marks.{Marks}
 use Rattle.jn_lower.specs.declared.walk.Parts.{Parts}
@@ -24,28 +26,41 @@ use Rattle.jn_lower.specs.declared.walk.Walk.{Walk}
 use Rattle.jn_lower.specs.Cursors.{Ahead, MemberTaken}
 use Rattle.jn_lower.specs.Forms.{Value}
 use Rattle.jn_lower.specs.Stores.{ValueBehind}
-use Rattle.jn_lower.specs.Walks.{Ready, FieldPut, LowersValue, LowersStmt}
+use Rattle.jn_lower.specs.Walks.{FieldPut, LowersValue, LowersStmt}
 use Rattle.jn_lower.proofs.Growing.{means}
 use Rattle.jn_lower.proofs.Holding.{set_so}
 use Rattle.jn_lower.proofs.Noting.{wants_noted, found_noted}
-use Rattle.jn_lower.proofs.Taking.{member_ahead, ready_grown, ready_locals}
+use Rattle.jn_lower.proofs.Taking.{member_ahead, ready_grown, ready_locals, ready_in, ready_apart, ready_typed}
+use Rattle.jn_lower.proofs.Seen.{named_low}
 use Rattle.jn_lower.proofs.Chains.{is_it, regroup}
 use Rattle.jn_lower.proofs.Blocks.{behind_it}
 use Rattle.jn_lower.proofs.FieldKinds.{read_by}
 
--- ---- dropping a mask notes nothing, and keeps the variables
+-- ---- dropping a mask notes nothing, keeps the variables, and changes a scope in masks alone
 
 record DroppedSo (x y : Before) (ms : List Mark) : Type 0 where
   silent : ms ≡ []
   vars : y.vars ≡ x.vars
+  apart : MasksApart x.scope y.scope
+
+dropped_at : (x y z : Before) (ms : List Mark) → ms ≡ [] → y ≡ z → z.vars ≡ x.vars → MasksApart x.scope z.scope
+    → DroppedSo x y ms
+dropped_at x y z ms silent same vars apart = record {
+  silent = silent;
+  vars = ap (λ (u : Before). u.vars) same ∙ vars;
+  apart = subst (λ (u : Before). MasksApart x.scope u.scope) (sym same) apart;
+}
 
 dropped_so : (p : Program) (x y : Before) (f : Name) (o : Option ℕ) (ms : List Mark) → Notes p (dropped x f o) ms y
     → DroppedSo x y ms
-dropped_so p x y f None ms g = record { silent = g.0; vars = ap (λ (z : Before). z.vars) g.1 }
+dropped_so p x y f None ms g = dropped_at x y x ms g.0 g.1 refl (apart_itself x.scope)
 dropped_so p x y f (Some q) ms g = at (is_variable q) g where
   at : (b : Bool) → Notes p (cond b (without_mask x f q) (done x)) ms y → DroppedSo x y ms
-  at true h = record { silent = h.2.0; vars = ap (λ (z : Before). z.vars) h.2.1 }
-  at false h = record { silent = h.0; vars = ap (λ (z : Before). z.vars) h.1 }
+  at true h =
+      dropped_at x y (record x { scope = with_masks x.scope q h.0 }) ms h.2.0 h.2.1 refl
+      (masks_apart x.scope q h.0
+      (λ i has. ((h.1.each i (mask_small h.0 (formed_of _ h.0 h.1) i has)).0 has).0))
+  at false h = dropped_at x y x ms h.0 h.1 refl (apart_itself x.scope)
 
 -- ---- what is noted
 
@@ -61,6 +76,7 @@ record SetNoted (p : Program) (b : In) (x y : Before) (r : Expr) (f : Named) (e 
   gave : Notes p (typed b x e (path_of receiver.ty receiver).scope) behind value
   all : ms ≡ before ++ MemberMark field.class ∷ behind
   vars : y.vars ≡ x.vars
+  apart : MasksApart x.scope y.scope
 
 set_noted : (p : Program) (b : In) (x y : Before) (r : Expr) (f : Named) (e : Expr) (ms : List Mark)
     → Notes p (stmt_types b (stmt.Set r f e) x) ms y → SetNoted p b x y r f e ms
@@ -88,6 +104,7 @@ set_noted p b x y r f e ms noted =
           (k.then.1 ∙ ap (λ (l : List Mark). MemberMark k.given.class ∷ l)
           (c.all ∙ ap (λ (l : List Mark). c.before ++ l) d.silent ∙ append-nil c.before));
       vars = d.vars;
+      apart = d.apart;
     }
   where
     lacks : Typed → Refusal
@@ -118,13 +135,17 @@ set_done g r f e path m2 w0 w1 w3 w4 receiver took value puts n scratch b parts 
       (subst (λ (l : List Mark). Ahead l w0.marks) (regroup ms s.before (MemberMark c.class ∷ s.behind) rest s.all) ahead) in
       let one = member_ahead path c.class (s.behind ++ rest) w1.marks m2 took d.left in
       let w2 : Walk = record w1 { marks = m2 } in
-      let ready2 = ready_locals scratch x.vars w1 w2 refl (ready_grown scratch x.vars w0 w1 d.emitted.grown ready) in
-      let k = (value n scratch (here b x) scope parts).done s.behind rest s.value ready2 s.gave one.left in
+      let h = here b x in
+      let ready1 = ready_locals g scratch h x.scope w1 w2 refl (ready_grown g scratch h x.scope w0 w1 d.emitted.grown ready) in
+      let ready2 = ready_in g scratch h v.scope scope w2 (named_low v.ty v.path v.scope)
+      (ready_locals g scratch h v.scope w1 w2 refl
+      (ready_typed g scratch h x.scope r s.before v w0 w1 s.noted d.emitted.grown ready)) in
+      let k = (value n scratch h scope parts).done s.behind rest s.value ready2 s.gave one.left in
       let by = read_by g n parts v.scope v.ty f.name c path puts.getter s.found one.same puts.is in
       record {
         left = subst (Ahead rest) (sym puts.marks) k.left;
-        ready = subst (λ (vs : List Var). Ready scratch vs w4) (sym s.vars)
-            (ready_locals scratch x.vars w3 w4 puts.adds.locals (ready_grown scratch x.vars w2 w3 k.emitted.grown ready2));
+        ready = ready_apart g scratch b x y w4 s.vars s.apart
+            (ready_locals g scratch h x.scope w3 w4 puts.adds.locals (ready_grown g scratch h x.scope w2 w3 k.emitted.grown ready1));
         behind = λ ss end all. set_so g.p.now n scratch b x r f e puts.getter.selector puts.getter.kind ss w0.out w1.out
             w3.out w4.out end d.emitted
             (means (Value g.p.now n scratch (here b x) scope true e) (ValueBehind g.p.now n scratch b x r e) w1.out w3.out

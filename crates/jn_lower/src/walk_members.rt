@@ -41,7 +41,7 @@ pub fn called(
     ensures { OnOk result (CallMade g.now keeps path.now f count w.old w.new) }
 {
     let callee = callee_at(g.alloc, g.p, g.names.methods.as_slice(), path, f)?;
-    if callee.params.len() != count {
+    if callee.params.as_slice().len() != count {
         return Err(AllocError);
     }
     call(&mut w.out, callee.selector, keeps, callee.kind)?;

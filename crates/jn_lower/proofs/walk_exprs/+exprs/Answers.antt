@@ -3,12 +3,15 @@ use Rattle.jn_base.specs.declared.tree.Expr.{Expr}
 use Rattle.jn_base.specs.declared.tree.Node.{Node}
 use Rattle.jn_base.specs.declared.tree.Node.TheVariants as node
 use Rattle.jn_base.specs.declared.tree.Link.{Link}
-use Rattle.jn_lower.specs.Walks.{Decided, LowersValue, LowersNode, LowersLinks}
+use Rattle.jn_base.specs.declared.tree.Suffix.{Suffix}
+use Rattle.jn_lower.specs.Walks.{Decided, CallMade, LowersValue, LowersNode, LowersLinks, LowersParts}
 use Rattle.jn_lower.proofs.Seams.{on_ok}
 use Rattle.jn_lower.proofs.LeafForms.{at_place}
 use Rattle.jn_lower.proofs.Chains.{inverted, negated, chained, strict_link, strict_of, decide_of, deciding_link}
 use Rattle.jn_lower.proofs.Views.{view_done}
-use Rattle.jn_lower.proofs.Loops.{links_on, links_over}
+use Rattle.jn_lower.proofs.Posts.{post_done}
+use Rattle.jn_lower.proofs.Behind.{call_done}
+use Rattle.jn_lower.proofs.Loops.{links_on, links_over, parts_begin, parts_step, parts_over, args_on, args_over}
 use Rattle.jn_lower.proofs.walk_exprs.+exprs.Goals as goal
 
 pub value-returns : goal.value-returns
@@ -71,3 +74,53 @@ node-returns-in_ok-value-in-Some t c =
     c.in-Some.ensures
     (subst (λ (x : Expr). LowersValue c.args.g.now x (record { out = c.args.w.now.out; marks = c.next_term.new.self; last = c.args.w.now.last }) c.value-in-Some.new.w) c.get-in-Some.ensures c.in_ok-value-in-Some.ensures)
     h)) c.viewed.ensures
+
+pub node-returns-in_ok-value-in-Post : goal.node-returns-in_ok-value-in-Post
+node-returns-in_ok-value-in-Post t c =
+    on_ok c.parts.result (λ h. subst (λ (x : Node). LowersNode c.args.g.now x c.args.w.now c.parts.new.w) (sym c.in-Post.is)
+    (post_done c.args.g.now true c.in-Post.e c.in-Post.zs c.args.w.now c.value-in-Post.new.w c.parts.new.w
+    (subst (λ (x : Expr). LowersValue c.args.g.now x c.args.w.now c.value-in-Post.new.w) c.get-in-Post.ensures c.in_ok-value-in-Post.ensures)
+    (subst (λ (x : List Suffix). LowersParts c.args.g.now true x c.value-in-Post.new.w c.parts.new.w) c.as_slice-in-Post.ensures h)))
+    c.parts.ensures
+
+pub parts-loop-z-preserved-so : goal.parts-loop-z-preserved-so
+parts-loop-z-preserved-so t c =
+    parts_step c.args.g.now c.args.keeps c.kept.result c.args.zs.now c.loop-z.z-index c.loop-z.left c.z-item.result c.args.w.now
+    c.loop-z.w c.part.new.w c.loop-z.invariant.so c.loop-z-test.true c.z-item.is c.loop-z.invariant.left c.kept.ensures
+    c.in_ok-part.ensures
+
+pub parts-returns : goal.parts-returns
+parts-returns t c =
+    parts_over c.args.g.now c.args.keeps c.args.zs.now c.loop-z.z-index c.args.w.now c.loop-z.w c.loop-z.invariant.so
+    c.loop-z-test.false
+
+pub call-returns-in_ok-args-in-Some : goal.call-returns-in_ok-args-in-Some
+call-returns-in_ok-args-in-Some t c =
+    let g = c.args.g.now in
+    on_ok c.called.result (λ h. call_done g c.args.keeps c.args.f c.args.es.now c.in-Some.path.now c.next_member.new.self
+    c.args.w.now c.args-in-Some.new.w c.called.new.w c.in-Some.ensures c.in_ok-args-in-Some.ensures
+    (subst (λ k. CallMade g c.args.keeps c.in-Some.path.now c.args.f.name k c.args-in-Some.new.w c.called.new.w) c.len.ensures h))
+    c.called.ensures
+
+pub args-loop-e-preserved : goal.args-loop-e-preserved
+args-loop-e-preserved t c =
+    args_on c.args.g.now c.args.es.now c.loop-e.e-index c.e-item.result c.args.w.now c.loop-e.w c.value.new.w c.loop-e.invariant
+    c.loop-e-test.true c.e-item.is c.in_ok-value.ensures
+
+pub args-returns : goal.args-returns
+args-returns t c =
+    args_over c.args.g.now c.args.es.now c.loop-e.e-index c.args.w.now c.loop-e.w c.loop-e.invariant c.loop-e-test.false
+
+pub node-returns-in-New : goal.node-returns-in-New
+node-returns-in-New t c =
+    let g = c.args.g.now in
+    on_ok c.made.result (λ h. subst (λ (x : Node). LowersNode g x c.args.w.now c.made.new.w) (sym c.in-New.is)
+    (subst (λ (es : List Expr). LowersNode g (node.New c.in-New.field-0 es) c.args.w.now c.made.new.w) c.as_slice-in-New.ensures
+    (h c.in-New.field-0))) c.made.ensures
+
+pub node-returns-in-Super : goal.node-returns-in-Super
+node-returns-in-Super t c =
+    let g = c.args.g.now in
+    on_ok c.upward.result (λ h. subst (λ (x : Node). LowersNode g x c.args.w.now c.upward.new.w) (sym c.in-Super.is)
+    (subst (λ (es : List Expr). LowersNode g (node.Super c.in-Super.field-0 c.in-Super.f es) c.args.w.now c.upward.new.w)
+    c.as_slice-in-Super.ensures (h c.in-Super.field-0))) c.upward.ensures

@@ -1,4 +1,4 @@
-use Rattle.std.proofs.Common.{refl, sym, ◌∙◌, subst, List, reverse}
+use Rattle.std.proofs.Common.{refl, sym, ap, ◌∙◌, subst, ℕ, List, length, reverse}
 use Rattle.jn_base.specs.declared.tree.Method.{Method}
 use Rattle.jn_base.specs.Members.{MethodAt}
 use Rattle.jn_agree.specs.declared.selectors.MethodSel.{MethodSel}
@@ -16,7 +16,7 @@ returns c =
   mid = record c.args.w.now { out = c.call.new.out };
   is = subst (λ (l : List MethodSel). (m : Method) → MethodAt g.p.now R f m → IsCallee l f m c.in_ok-callee.callee)
       c.as_slice.ensures c.in_ok-callee.ensures;
-  many = sym c.len.ensures ∙ c.if-len-count.false;
+  many = ap (λ (l : List ℕ). length l) (sym c.as_slice-2.ensures.value) ∙ sym c.len.ensures ∙ c.if-len-count.false;
   adds = c.in_ok-call.ensures;
   marks = refl;
   settled = h;
