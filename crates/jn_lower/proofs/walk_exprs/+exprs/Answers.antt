@@ -1,4 +1,4 @@
-use Rattle.std.proofs.Common.{rules, ◌≡◌, List, true, ℤ, to_z, of_z, w64, subst, sym, ◌∙◌}
+use Rattle.std.proofs.Common.{rules, ◌≡◌, List, true, ℤ, to_z, of_z, w64, refl, subst, sym, ◌∙◌}
 use Rattle.jn_base.specs.declared.tree.Expr.{Expr}
 use Rattle.jn_base.specs.declared.tree.Node.{Node}
 use Rattle.jn_base.specs.declared.tree.Node.TheVariants as node
@@ -11,6 +11,7 @@ use Rattle.jn_lower.proofs.Chains.{inverted, negated, chained, strict_link, stri
 use Rattle.jn_lower.proofs.Views.{view_done}
 use Rattle.jn_lower.proofs.Posts.{post_done}
 use Rattle.jn_lower.proofs.Behind.{call_done}
+use Rattle.jn_lower.proofs.Making.{made_done}
 use Rattle.jn_lower.proofs.Loops.{links_on, links_over, parts_begin, parts_step, parts_over, args_on, args_over}
 use Rattle.jn_lower.proofs.walk_exprs.+exprs.Goals as goal
 
@@ -124,3 +125,9 @@ node-returns-in-Super t c =
     on_ok c.upward.result (λ h. subst (λ (x : Node). LowersNode g x c.args.w.now c.upward.new.w) (sym c.in-Super.is)
     (subst (λ (es : List Expr). LowersNode g (node.Super c.in-Super.field-0 c.in-Super.f es) c.args.w.now c.upward.new.w)
     c.as_slice-in-Super.ensures (h c.in-Super.field-0))) c.upward.ensures
+
+pub made-returns-in_ok-args-in-Some : goal.made-returns-in_ok-args-in-Some
+made-returns-in_ok-args-in-Some t c =
+    on_ok c.made_of.result (λ h u. made_done c.args.g.now u c.args.es.now c.args.keeps c.in-Some.x.now c.in_ok-ctor-in-Some.ctor
+    c.args.w.now (record c.args.w.now { marks = c.next_term.new.self }) c.made_by.new.w c.args-in-Some.new.w c.made_of.new.w refl
+    c.in-Some.ensures c.in_ok-ctor-in-Some.ensures c.in_ok-args-in-Some.ensures h) c.made_of.ensures
