@@ -1,10 +1,10 @@
-use Rattle.std.proofs.Common.{rules, ◌≡◌, List, true, ℤ, to_z, of_z, w64, subst, sym, ◌∙◌}
+use Rattle.std.proofs.Common.{rules, arith, ◌≡◌, ◌+◌, ◌-◌, length, List, true, ℤ, to_z, of_z, w64, subst, sym, ◌∙◌}
 use Rattle.jn_base.specs.declared.tree.Expr.{Expr}
 use Rattle.jn_base.specs.declared.tree.Node.{Node}
 use Rattle.jn_base.specs.declared.tree.Node.TheVariants as node
 use Rattle.jn_base.specs.declared.tree.Link.{Link}
 use Rattle.jn_base.specs.declared.tree.Suffix.{Suffix}
-use Rattle.jn_lower.specs.Walks.{Decided, CallMade, LowersValue, LowersNode, LowersLinks, LowersParts}
+use Rattle.jn_lower.specs.Walks.{Decided, LowersValue, LowersNode, LowersLinks, LowersParts}
 use Rattle.jn_lower.proofs.Seams.{on_ok}
 use Rattle.jn_lower.proofs.LeafForms.{at_place}
 use Rattle.jn_lower.proofs.Chains.{inverted, negated, chained, strict_link, strict_of, decide_of, deciding_link}
@@ -83,11 +83,23 @@ node-returns-in_ok-value-in-Post t c =
     (subst (λ (x : List Suffix). LowersParts c.args.g.now true x c.value-in-Post.new.w c.parts.new.w) c.as_slice-in-Post.ensures h)))
     c.parts.ensures
 
-pub parts-loop-z-preserved-so : goal.parts-loop-z-preserved-so
-parts-loop-z-preserved-so t c =
-    parts_step c.args.g.now c.args.keeps c.kept.result c.args.zs.now c.loop-z.z-index c.loop-z.left c.z-item.result c.args.w.now
-    c.loop-z.w c.part.new.w c.loop-z.invariant.so c.loop-z-test.true c.z-item.is c.loop-z.invariant.left c.kept.ensures
-    c.in_ok-part.ensures
+pub parts-loop-z-init : goal.parts-loop-z-init
+parts-loop-z-init t c = record {
+  so = λ new tail. parts_begin c.args.g.now c.args.keeps c.args.zs.now c.args.w.now new (λ e. search (rules, e)) tail;
+  left = omega arith;
+}
+
+pub parts-loop-z-preserved : goal.parts-loop-z-preserved
+parts-loop-z-preserved t c =
+    let h = c.loop-z.invariant.left in
+    let lt = c.loop-z-test.true in
+    let left : (c.loop-z.left - 1) + (c.loop-z.z-index + 1) ≡ length c.args.zs.now = omega (arith, h, lt) in
+    record {
+      so = parts_step c.args.g.now c.args.keeps c.kept.result c.args.zs.now c.loop-z.z-index (c.loop-z.left - 1) c.z-item.result
+          c.args.w.now c.loop-z.w c.part.new.w c.loop-z.invariant.so c.loop-z-test.true c.z-item.is left c.kept.ensures
+          c.in_ok-part.ensures;
+      left = left;
+    }
 
 pub parts-returns : goal.parts-returns
 parts-returns t c =
@@ -99,8 +111,7 @@ call-returns-in_ok-args-in-Some t c =
     let g = c.args.g.now in
     on_ok c.called.result (λ h. call_done g c.args.keeps c.args.f c.args.es.now c.in-Some.path.now c.next_member.new.self
     c.args.w.now c.args-in-Some.new.w c.called.new.w c.in-Some.ensures c.in_ok-args-in-Some.ensures
-    (subst (λ k. CallMade g c.args.keeps c.in-Some.path.now c.args.f.name k c.args-in-Some.new.w c.called.new.w) c.len.ensures h))
-    c.called.ensures
+    h) c.called.ensures
 
 pub args-loop-e-preserved : goal.args-loop-e-preserved
 args-loop-e-preserved t c =
