@@ -1,7 +1,8 @@
 -- Calls of `super`: each step of the walk, and what it does.
-use Rattle.std.proofs.Common.{◌≡◌, ℕ, suc, List, [], ◌∷◌, ◌++◌, length, map, reverse, Bool, true, false, Option, Some, None, refl, sym, ap, ◌∙◌, subst, append_assoc, eqb-true}
+use Rattle.std.proofs.Common.{◌≡◌, ◌<◌, ◌≤◌, ◌+◌, ℕ, suc, List, [], ◌∷◌, ◌++◌, length, drop, get_or, map, reverse, Bool, true, false, Option, Some, None, refl, sym, ap, ◌∙◌, subst, add-one, append_assoc, eqb-true}
 use Rattle.std.specs.Prelude.{Result, Ok, slice_get}
-use Rattle.std.proofs.lemmas.List.{length-map, reverse-reverse}
+use Rattle.std.proofs.Math.Seq.{drop-cons}
+use Rattle.std.proofs.lemmas.List.{drop_all, length-map, reverse-reverse}
 use Rattle.jn_base.specs.declared.tree.Name.{Name}
 use Rattle.jn_base.specs.declared.tree.Named.{Named}
 use Rattle.jn_base.specs.declared.tree.Place.{Place}
@@ -62,7 +63,8 @@ use Rattle.jn_lower.proofs.Taking.{term_ahead, member_ahead, ready_locals, ready
 use Rattle.jn_lower.proofs.Seen.{named_low, this_first}
 use Rattle.jn_lower.proofs.Chains.{is_it, regroup}
 use Rattle.jn_lower.proofs.Behind.{settles, put_kept}
-use Rattle.jn_lower.proofs.Making.{this_is, callee_shape, one_header, method_there}
+use Rattle.jn_lower.proofs.Passing.{no_args_done, one_arg_done}
+use Rattle.jn_lower.proofs.Making.{this_is, no_items, callee_shape, one_header, method_there}
 
 -- ---- what is noted
 
@@ -103,22 +105,22 @@ record AboveNoted (p : Program) (h : Here) (u : Term) (m : Named) (es : List Exp
 above_noted : (p : Program) (h : Here) (pl : Place) (u : Term) (m : Named) (es : List Expr) (sc : Scope) (z : Typed)
     (ms : List Mark) → Notes p (expr_types h (expr pl (node.Super u m es)) sc) ms z → AboveNoted p h u m es sc z ms
 above_noted p h pl u m es sc z ms noted =
-    let as = typed_args h es in
+    let given = typed_args h es in
     let asked = subst (λ (q : Plan Typed). Notes p q ms z) ((forms_are.exprs h pl sc).super u m es) noted in
-    let k = taken_noted asked.0 (super_typed h u m as sc) ms z asked.2 in
+    let k = taken_noted asked.0 (super_typed h u m given sc) ms z asked.2 in
     let a = k.given in
     let B = bound sc (atom_of a) in
     let lacks = of_class rule.E16 B m m.name in
-    let o = wants_noted k.then.2.0 (mismatch h u.at) (ask (OfBody B m.name) (found_or lacks (super_gives h m as sc)))
+    let o = wants_noted k.then.2.0 (mismatch h u.at) (ask (OfBody B m.name) (found_or lacks (super_gives h m given sc)))
     k.then.0 z k.then.2.2 in
-    let f = found_noted o.then.0 lacks (super_gives h m as sc) k.then.0 z o.then.2 in
+    let f = found_noted o.then.0 lacks (super_gives h m given sc) k.then.0 z o.then.2 in
     let b = f.given in
-    let hd = then_noted (header_typed b) (super_with h m as sc b) k.then.0 z f.then in
+    let hd = then_noted (header_typed b) (super_with h m given sc b) k.then.0 z f.then in
     let c = hd.first in
-    let w = wants_noted (as_many c as) (in_method rule.E17 h m.at)
-    (note (MemberMark b.class) (then_do (call_typed h c as (record { path = 0; scope = sc })) (λ x.
+    let w = wants_noted (as_many c given) (in_method rule.E17 h m.at)
+    (note (MemberMark b.class) (then_do (call_typed h c given (record { path = 0; scope = sc })) (λ x.
     constraints_granted h b m x.scope b.method.sharing (result_gives c x)))) hd.after z hd.then in
-    let d = then_noted (call_typed h c as (record { path = 0; scope = sc }))
+    let d = then_noted (call_typed h c given (record { path = 0; scope = sc }))
     (λ x. constraints_granted h b m x.scope b.method.sharing (result_gives c x)) w.then.0 z w.then.2 in
     record {
       atom = a;
@@ -127,7 +129,7 @@ above_noted p h pl u m es sc z ms noted =
       is_body = subst (λ (q : Option Body). Finds (IsBody p B m.name) q) f.is o.then.1;
       header = c;
       gave = notes_give p (header_typed b) hd.before c hd.noted;
-      long = eqb-true (length c.vars) (length as) w.test ∙ length-map es (typed_expr h);
+      long = eqb-true (length c.vars) (length given) w.test ∙ length-map es (typed_expr h);
       passed = d.first;
       before = d.before;
       after = d.after;
@@ -353,3 +355,38 @@ above_done g u m e es keeps x w0 w1 w2 w3 w4 w5 above value tucked args made pl 
     more : List ℕ → Var → List Var → Typed → Plan Passed
     more from v us t = args_typed h from us (typed_args h es) (0 ∷ (arg_passed from (0 ∷ []) v t).path ∷ [])
         (arg_passed from (0 ∷ []) v t).scope
+
+-- of a list as it stands
+pub above_split : (g : Parts) (u : Term) (m : Named) (es : List Expr) (d : Expr) (keeps : Bool) (x : Above)
+    (w0 w1 w2 w3 w4 w5 : Walk) → 0 < length es → AboveFound g m.name (length es) x w0 w1
+    → LowersValue g (get_or es 0 d) w1 w2 → TuckedFor x w2 w3 → LowersArgs g (drop 1 es) w3 w4 → AboveCalled x keeps w4 w5
+    → LowersNodeAs g keeps (node.Super u m es) w0 w5
+above_split g u m es d keeps x w0 w1 w2 w3 w4 w5 lt above value tucked args made =
+    let e : get_or es 0 d ∷ drop 1 es ≡ es = sym (drop-cons es 0 d lt) in
+    subst (λ (l : List Expr). LowersNodeAs g keeps (node.Super u m l) w0 w5) e
+    (above_done g u m (get_or es 0 d) (drop 1 es) keeps x w0 w1 w2 w3 w4 w5
+    (subst (λ (k : ℕ). AboveFound g m.name k x w0 w1) (ap (λ (l : List Expr). length l) (sym e)) above) value tucked args made)
+
+pub bare_split : (g : Parts) (u : Term) (m : Named) (es : List Expr) (keeps : Bool) (x : Above) (w0 w1 w2 : Walk)
+    → length es ≡ 0 → AboveFound g m.name (length es) x w0 w1 → BareCalled x keeps w1 w2
+    → LowersNodeAs g keeps (node.Super u m es) w0 w2
+bare_split g u m es keeps x w0 w1 w2 empty above made =
+    subst (λ (l : List Expr). LowersNodeAs g keeps (node.Super u m l) w0 w2) (sym (no_items es empty))
+    (bare_done g u m keeps x w0 w1 w2 (subst (λ (k : ℕ). AboveFound g m.name k x w0 w1) empty above) made)
+
+-- ---- the arguments behind the first one, one by one
+
+pub further_on : (g : Parts) (es : List Expr) (i : ℕ) (d : Expr) (w0 w1 w2 : Walk)
+    → ((new : Walk) → LowersArgs g (drop i es) w1 new → LowersArgs g (drop 1 es) w0 new) → i < length es
+    → LowersValue g (get_or es i d) w1 w2 → (new : Walk) → LowersArgs g (drop (i + 1) es) w2 new
+    → LowersArgs g (drop 1 es) w0 new
+further_on g es i d w0 w1 w2 so lt one new more =
+    so new (subst (λ (l : List Expr). LowersArgs g l w1 new)
+    (sym (drop-cons es i d lt ∙ ap (λ (n : ℕ). get_or es i d ∷ drop n es) (sym (add-one i))))
+    (one_arg_done g (get_or es i d) (drop (i + 1) es) w1 w2 new one more))
+
+pub further_over : (g : Parts) (es : List Expr) (i : ℕ) (w0 w1 : Walk)
+    → ((new : Walk) → LowersArgs g (drop i es) w1 new → LowersArgs g (drop 1 es) w0 new) → length es ≤ i
+    → LowersArgs g (drop 1 es) w0 w1
+further_over g es i w0 w1 so le =
+    so w1 (subst (λ (l : List Expr). LowersArgs g l w1 w1) (sym (drop_all i es le)) (no_args_done g w1))

@@ -33,7 +33,7 @@ use Rattle.jn_sem.specs.Does.{Body, IsBody, IsConstructorBody}
 use Rattle.jn_rules.specs.Plans.{Mark, AtomMark, MemberMark, KindMark, OfTerm, OfConstructor, Plan, note, then_do, wants}
 use Rattle.jn_rules.specs.Questions.{Means, Finds, Gives, Notes}
 use Rattle.jn_rules.specs.Headers.{Header, header_typed}
-use Rattle.jn_rules.specs.Exprs.{Here, site_here, Typed, Passed, Passing, in_method, gives, replaced_paths, as_many, call_typed, made_exact, of_new, fresh_with, made_with, made_by, new_typed, expr_types}
+use Rattle.jn_rules.specs.Exprs.{Here, site_here, Typed, Passed, in_method, gives, replaced_paths, as_many, call_typed, made_exact, of_new, fresh_with, made_with, made_by, new_typed, expr_types}
 use Rattle.jn_rules.specs.Forms.{typed_args, typed_expr}
 use Rattle.jn_rules.proofs.FormLaws.{forms_are}
 use Rattle.jn_rules.proofs.PlanLaws.{then_noted, notes_give, plan_one}
@@ -136,7 +136,7 @@ one_ctor {j} {k} e f = same (sym f ∙ ap selecting.made_by e) where
   same : ◌≡◌ {A = List Instr} (ins.Ctor j ∷ []) (ins.Ctor k ∷ []) → j ≡ k
   same e = cc
 
-no_items : (es : List Expr) → length es ≡ 0 → es ≡ []
+pub no_items : (es : List Expr) → length es ≡ 0 → es ≡ []
 no_items [] e = refl
 no_items (x ∷ es) e = absurd (no e) where
   no : length (x ∷ es) ≡ 0 → ⊥
@@ -153,15 +153,6 @@ module _ (g : Parts) (u : Term) (es : List Expr) (keeps : Bool) (pl : Place) (n 
     (parts : PartsAre g.p.now g.t.now g.slots.now g.names.now n) (a : ShownAtom) (o : Option ℕ) (w0 w1 w2 w3 w4 : Walk)
     (same : w1.out ≡ w0.out) (is : TermIs g.p.now role.New (site_here h) u (atom_of a)) (C : Name) (last : IsLast a C)
     (args : LowersArgs g es w2 w3) (seen : MadeOf g a o keeps w3 w4) where
-  x : Atom
-  x = atom_of a
-
-  made_type : Ty
-  made_type = normal_type sc (made_exact (atom_of a))
-
-  fresh : Passing
-  fresh = fresh_with (normal_type sc (made_exact (atom_of a))) sc
-
   -- what is had where the arguments and the constructor stand
   finished : (rest : List Mark) (z : Typed) → kind_of_type z.ty ≡ 3 → Ahead (KindMark kind.Reference ∷ rest) w3.marks
       → Emitted (NewArgs g.p.now n scratch h sc (atom_of a) es) w0.out w3.out

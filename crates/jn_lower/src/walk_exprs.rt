@@ -1,4 +1,4 @@
-ghost use Rattle.std.specs.Prelude.{OnOk, Some, None, true};
+ghost use Rattle.std.specs.Prelude.{OnOk, Some, None, true, drop};
 ghost use Rattle.jn_base.specs.declared.tree.Name.{Name as AName};
 ghost use Rattle.jn_base.specs.declared.tree.Term.{Term as ATerm};
 ghost use Rattle.jn_base.specs.declared.tree.Node.TheVariants as node;
@@ -288,13 +288,24 @@ fn upward(
     ensures { OnOk result ((t : ATerm) → LowersNodeAs g.now keeps (node.Super t f es.now) w.old w.new) }
 {
     let x = found_above(g, w, f.name, es.len())?;
-    match es {
-        [] => bare_above(w, x, keeps),
-        [first, others @ ..] => {
-            value(g, w, first)?;
-            tucked(w, x)?;
-            args(g, w, others)?;
-            called_above(w, x, keeps)
-        }
+    if es.is_empty() {
+        bare_above(w, x, keeps)
+    } else {
+        value(g, w, &es[0])?;
+        tucked(w, x)?;
+        further(g, w, es)?;
+        called_above(w, x, keeps)
     }
+}
+
+/// Emits the arguments behind the first one.
+#[cycle(exprs)]
+fn further(g: &Parts, w: &mut Walk, es: &[Expr]) -> Result<(), AllocError>
+    requires { NoneTwice g.now }
+    ensures { OnOk result (LowersArgs g.now (drop 1 es.now) w.old w.new) }
+{
+    for i in 1..es.len() {
+        value(g, w, &es[i])?;
+    }
+    Ok(())
 }

@@ -1,10 +1,10 @@
-use Rattle.std.proofs.Common.{rules, ◌≡◌, List, true, ℤ, to_z, of_z, w64, refl, subst, sym, ◌∙◌}
+use Rattle.std.proofs.Common.{rules, arith, ◌≡◌, ◌<◌, ◌+◌, ◌-◌, length, List, true, ℤ, to_z, of_z, w64, refl, subst, sym, ◌∙◌}
 use Rattle.jn_base.specs.declared.tree.Expr.{Expr}
 use Rattle.jn_base.specs.declared.tree.Node.{Node}
 use Rattle.jn_base.specs.declared.tree.Node.TheVariants as node
 use Rattle.jn_base.specs.declared.tree.Link.{Link}
 use Rattle.jn_base.specs.declared.tree.Suffix.{Suffix}
-use Rattle.jn_lower.specs.Walks.{Decided, CallMade, LowersValue, LowersNode, LowersLinks, LowersParts}
+use Rattle.jn_lower.specs.Walks.{Decided, LowersValue, LowersNode, LowersLinks, LowersParts}
 use Rattle.jn_lower.proofs.Seams.{on_ok}
 use Rattle.jn_lower.proofs.LeafForms.{at_place}
 use Rattle.jn_lower.proofs.Chains.{inverted, negated, chained, strict_link, strict_of, decide_of, deciding_link}
@@ -12,6 +12,7 @@ use Rattle.jn_lower.proofs.Views.{view_done}
 use Rattle.jn_lower.proofs.Posts.{post_done}
 use Rattle.jn_lower.proofs.Behind.{call_done}
 use Rattle.jn_lower.proofs.Making.{made_done}
+use Rattle.jn_lower.proofs.Above.{above_split, bare_split, further_on, further_over}
 use Rattle.jn_lower.proofs.Loops.{links_on, links_over, parts_begin, parts_step, parts_over, args_on, args_over}
 use Rattle.jn_lower.proofs.walk_exprs.+exprs.Goals as goal
 
@@ -84,11 +85,23 @@ node-returns-in_ok-value-in-Post t c =
     (subst (λ (x : List Suffix). LowersParts c.args.g.now true x c.value-in-Post.new.w c.parts.new.w) c.as_slice-in-Post.ensures h)))
     c.parts.ensures
 
-pub parts-loop-z-preserved-so : goal.parts-loop-z-preserved-so
-parts-loop-z-preserved-so t c =
-    parts_step c.args.g.now c.args.keeps c.kept.result c.args.zs.now c.loop-z.z-index c.loop-z.left c.z-item.result c.args.w.now
-    c.loop-z.w c.part.new.w c.loop-z.invariant.so c.loop-z-test.true c.z-item.is c.loop-z.invariant.left c.kept.ensures
-    c.in_ok-part.ensures
+pub parts-loop-z-init : goal.parts-loop-z-init
+parts-loop-z-init t c = record {
+  so = λ new tail. parts_begin c.args.g.now c.args.keeps c.args.zs.now c.args.w.now new (λ e. search (rules, e)) tail;
+  left = omega arith;
+}
+
+pub parts-loop-z-preserved : goal.parts-loop-z-preserved
+parts-loop-z-preserved t c =
+    let h = c.loop-z.invariant.left in
+    let lt = c.loop-z-test.true in
+    let left : (c.loop-z.left - 1) + (c.loop-z.z-index + 1) ≡ length c.args.zs.now = omega (arith, h, lt) in
+    record {
+      so = parts_step c.args.g.now c.args.keeps c.kept.result c.args.zs.now c.loop-z.z-index (c.loop-z.left - 1) c.z-item.result
+          c.args.w.now c.loop-z.w c.part.new.w c.loop-z.invariant.so c.loop-z-test.true c.z-item.is left c.kept.ensures
+          c.in_ok-part.ensures;
+      left = left;
+    }
 
 pub parts-returns : goal.parts-returns
 parts-returns t c =
@@ -100,8 +113,7 @@ call-returns-in_ok-args-in-Some t c =
     let g = c.args.g.now in
     on_ok c.called.result (λ h. call_done g c.args.keeps c.args.f c.args.es.now c.in-Some.path.now c.next_member.new.self
     c.args.w.now c.args-in-Some.new.w c.called.new.w c.in-Some.ensures c.in_ok-args-in-Some.ensures
-    (subst (λ k. CallMade g c.args.keeps c.in-Some.path.now c.args.f.name k c.args-in-Some.new.w c.called.new.w) c.len.ensures h))
-    c.called.ensures
+    h) c.called.ensures
 
 pub args-loop-e-preserved : goal.args-loop-e-preserved
 args-loop-e-preserved t c =
@@ -131,3 +143,27 @@ made-returns-in_ok-args-in-Some t c =
     on_ok c.made_of.result (λ h u. made_done c.args.g.now u c.args.es.now c.args.keeps c.in-Some.x.now c.in_ok-ctor-in-Some.ctor
     c.args.w.now (record c.args.w.now { marks = c.next_term.new.self }) c.made_by.new.w c.args-in-Some.new.w c.made_of.new.w refl
     c.in-Some.ensures c.in_ok-ctor-in-Some.ensures c.in_ok-args-in-Some.ensures h) c.made_of.ensures
+
+pub upward-returns-then-is_empty : goal.upward-returns-then-is_empty
+upward-returns-then-is_empty t c =
+    let none : length c.args.es.now ≡ 0 = search rules in
+    on_ok c.bare_above.result (λ h u. bare_split c.args.g.now u c.args.f c.args.es.now c.args.keeps c.in_ok-x.x c.args.w.now
+    c.found_above.new.w c.bare_above.new.w none c.in_ok-x.ensures h) c.bare_above.ensures
+
+pub upward-returns-in_ok-further : goal.upward-returns-in_ok-further
+upward-returns-in_ok-further t c =
+    let some : 0 < length c.args.es.now = search rules in
+    on_ok c.called_above.result (λ h u. above_split c.args.g.now u c.args.f c.args.es.now c.index-es-0.result c.args.keeps c.in_ok-x.x
+    c.args.w.now c.found_above.new.w c.value.new.w c.tucked.new.w c.further.new.w c.called_above.new.w some c.in_ok-x.ensures
+    (subst (λ (e : Expr). LowersValue c.args.g.now e c.found_above.new.w c.value.new.w) c.index-es-0.is c.in_ok-value.ensures)
+    c.in_ok-tucked.ensures c.in_ok-further.ensures h) c.called_above.ensures
+
+pub further-loop-i-preserved : goal.further-loop-i-preserved
+further-loop-i-preserved t c =
+    further_on c.args.g.now c.args.es.now c.loop-i.i c.index-es-i.result c.args.w.now c.loop-i.w c.value.new.w c.loop-i.invariant
+    c.loop-i-test.true
+    (subst (λ (e : Expr). LowersValue c.args.g.now e c.loop-i.w c.value.new.w) c.index-es-i.is c.in_ok-value.ensures)
+
+pub further-returns : goal.further-returns
+further-returns t c =
+    further_over c.args.g.now c.args.es.now c.loop-i.i c.args.w.now c.loop-i.w c.loop-i.invariant c.loop-i-test.false

@@ -16,3 +16,7 @@ invariant-parts-loop-z l = record {
 abbrev pub invariant-args-loop-e : goal.invariant-args-loop-e
 invariant-args-loop-e l =
     (new : Walk) → LowersArgs l.g (drop l.e-index l.es) l.w new → LowersArgs l.g l.es l.fn.w new
+
+abbrev pub invariant-further-loop-i : goal.invariant-further-loop-i
+invariant-further-loop-i l =
+    (new : Walk) → LowersArgs l.g (drop l.i l.es) l.w new → LowersArgs l.g (drop 1 l.es) l.fn.w new
