@@ -4,8 +4,8 @@ use Rattle.jn_lower.proofs.NextLocals.{if_ok}
 use Rattle.jn_lower.proofs.Forming.{code_formed}
 use Rattle.jn_lower.proofs.walk_body.finish.Goals as goal
 
-pub returns-in_ok-above-in-Some-finished : goal.returns-in_ok-above-in-Some-finished
-returns-in_ok-above-in-Some-finished c =
+pub returns-in-Some-clause-finished : goal.returns-in-Some-clause-finished
+returns-in-Some-clause-finished c =
     if_ok c.finish_with.result (λ code made. record {
       params = made.is.params ∙ ap (λ (k : ℕ). take k c.args.out.locals.kinds) (c.in-Some.ensures ∙ ap suc c.len.ensures);
       locals = made.is.locals;
@@ -14,8 +14,8 @@ returns-in_ok-above-in-Some-finished c =
       instrs = made.is.instrs;
     }) c.finish_with.ensures
 
-pub returns-in_ok-above-in-Some-formed : goal.returns-in_ok-above-in-Some-formed
-returns-in_ok-above-in-Some-formed c =
+pub returns-in-Some-clause-formed : goal.returns-in-Some-clause-formed
+returns-in-Some-clause-formed c =
     if_ok c.finish_with.result (λ code made. code_formed c.args.m.now c.args.out c.in-Some.count c.in_ok-above.above
     c.written_result.result code made (c.in-Some.ensures ∙ ap suc c.len.ensures) c.in_ok-above.ensures c.written_result.ensures)
     c.finish_with.ensures
