@@ -21,6 +21,7 @@ use crate::walk::{Parts, Walk};
 use crate::walk_stmts::stmts;
 use jn_agree::selectors::Selectors;
 use jn_base::names::Resolved;
+use jn_base::path::Path;
 use jn_base::tree::{Method, Param, Program, Stmt, TypeTerm};
 use jn_code::Code;
 use jn_share::Slots;
@@ -124,6 +125,13 @@ fn finish(alloc: Global, out: Emitter, m: &Method) -> Result<Code, AllocError>
     }
 }
 
+/// The class that declares the body.
+fn declaring(r: &Resolved) -> &Path
+    ensures { result.now ≡ r.now.class }
+{
+    &r.class
+}
+
 /// The code of a body that was checked: it stands at the body's place. The parts are those of the program, and `r` is
 /// what is known of the body. No name stands twice in the program.
 pub fn lower(
@@ -141,13 +149,14 @@ pub fn lower(
 {
     let mut out = begin(alloc, m)?;
     test_params(&mut out, m.params.as_slice())?;
+    let class = declaring(r);
     let g = Parts {
         alloc,
         p,
         t,
         slots,
         names: s,
-        class: &r.class,
+        class,
     };
     let marks = Marks::of(r);
     let mut w = Walk {

@@ -14,10 +14,10 @@ use Rattle.std.proofs.Common.{refl}
 
 pub returns : goal.returns
 returns c =
-    let g : Parts = record { alloc = c.args.alloc; p = c.args.p; t = c.args.t; slots = c.args.slots; names = c.args.s; class = c.class-class } in
+    let g : Parts = record { alloc = c.args.alloc; p = c.args.p; t = c.args.t; slots = c.args.slots; names = c.args.s; class = c.declaring-class.result } in
     let w1 : Walk = record { out = c.test_params.new.out; marks = c.of-marks.result; last = 0 } in
     if_ok c.finish.result (λ code end n b k parts is. body_stands g n c.args.m.now c.args.r.now b k c.in_ok-out.out
-    c.test_params.new.out c.last_return.new.out w1 c.stmts.new.w code parts refl is c.in_ok-out.ensures
+    c.test_params.new.out c.last_return.new.out w1 c.stmts.new.w code parts c.declaring-class.ensures is c.in_ok-out.ensures
     (subst (λ (xs : List Param). Adds (param_tests 1 xs) c.in_ok-out.out c.test_params.new.out) c.as_slice.ensures c.in_ok-test_params.ensures)
     refl c.of-marks.ensures
     (subst (λ (ss : List Stmt). LowersStmts g ss w1 c.stmts.new.w) c.as_slice-2.ensures c.in_ok-stmts.ensures)
