@@ -221,20 +221,20 @@ fn part(g: &Parts, w: &mut Walk, z: &Suffix, keeps: bool) -> Result<(), AllocErr
     ensures { OnOk result (LowersPart g.now keeps z.now w.old w.new) }
 {
     match &z.args {
-        None => { if keeps { field(g, w, z.name) } else { Err(AllocError) } }
+        None => {
+            if keeps {
+                field(g, w, z.name)
+            } else {
+                Err(AllocError)
+            }
+        }
         Some(es) => call(g, w, z.name, es.as_slice(), keeps),
     }
 }
 
 /// Emits a call behind its receiver: the arguments, and CALL.
 #[cycle(exprs)]
-fn call(
-    g: &Parts,
-    w: &mut Walk,
-    f: Named,
-    es: &[Expr],
-    keeps: bool,
-) -> Result<(), AllocError>
+fn call(g: &Parts, w: &mut Walk, f: Named, es: &[Expr], keeps: bool) -> Result<(), AllocError>
     requires { NoneTwice g.now }
     ensures { OnOk result (LowersMember g.now keeps f (Some es.now) w.old w.new) }
 {
@@ -277,13 +277,7 @@ fn made(g: &Parts, w: &mut Walk, es: &[Expr], keeps: bool) -> Result<(), AllocEr
 
 /// Emits a call of `super`: the first argument, below which `this` is brought, the others, and CALLAT.
 #[cycle(exprs)]
-fn upward(
-    g: &Parts,
-    w: &mut Walk,
-    f: Named,
-    es: &[Expr],
-    keeps: bool,
-) -> Result<(), AllocError>
+fn upward(g: &Parts, w: &mut Walk, f: Named, es: &[Expr], keeps: bool) -> Result<(), AllocError>
     requires { NoneTwice g.now }
     ensures { OnOk result ((t : ATerm) → LowersNodeAs g.now keeps (node.Super t f es.now) w.old w.new) }
 {

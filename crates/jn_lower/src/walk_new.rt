@@ -30,12 +30,7 @@ fn constructs(g: &Parts, x: &Atom, name: Name) -> Result<bool, AllocError>
 
 /// The number of the constructor that the class of the next mark declares. One with another count of parameters, which
 /// no checked body calls, is refused for want of memory.
-fn by_mark(
-    g: &Parts,
-    w: &mut Walk,
-    x: &Atom,
-    count: usize,
-) -> Result<Option<u32>, AllocError>
+fn by_mark(g: &Parts, w: &mut Walk, x: &Atom, count: usize) -> Result<Option<u32>, AllocError>
     requires { NoneTwice g.now }
     ensures { IfOk result (λ ctor. (C : AName) → IsLast x.now C → ByMark g.now x.now C count ctor w.old w.new) }
 {
@@ -75,12 +70,7 @@ fn made_with(
 
 /// The number of the constructor by which an object of the atom's class is made from so many arguments, where there is
 /// one.
-pub fn made_by(
-    g: &Parts,
-    w: &mut Walk,
-    x: &Atom,
-    count: usize,
-) -> Result<Option<u32>, AllocError>
+pub fn made_by(g: &Parts, w: &mut Walk, x: &Atom, count: usize) -> Result<Option<u32>, AllocError>
     requires { NoneTwice g.now }
     ensures { IfOk result (λ ctor. MadeBy g.now x.now count ctor w.old w.new) }
 {

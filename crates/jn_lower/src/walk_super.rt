@@ -51,12 +51,7 @@ fn first_kind(kinds: &[u8]) -> u8
 
 /// The method of that name that the class of the next mark declares, called at the class of the next term. One with
 /// another count of parameters, which no checked body calls, is refused for want of memory.
-pub fn found_above(
-    g: &Parts,
-    w: &mut Walk,
-    f: Name,
-    count: usize,
-) -> Result<Above, AllocError>
+pub fn found_above(g: &Parts, w: &mut Walk, f: Name, count: usize) -> Result<Above, AllocError>
     requires { NoneTwice g.now }
     ensures { IfOk result (λ x. AboveFound g.now f count x w.old w.new) }
 {

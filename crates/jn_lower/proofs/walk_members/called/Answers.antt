@@ -12,12 +12,12 @@ returns c =
     let R = reverse c.args.path.now.names in
     let f = c.args.f in
     on_ok c.settle.result (λ h. record {
-  callee = c.in_ok-callee.callee;
-  mid = record c.args.w.now { out = c.call.new.out };
-  is = subst (λ (l : List MethodSel). (m : Method) → MethodAt g.p.now R f m → IsCallee l f m c.in_ok-callee.callee)
-      c.as_slice.ensures c.in_ok-callee.ensures;
-  many = ap (λ (l : List ℕ). length l) (sym c.as_slice-2.ensures.value) ∙ c.if-as_slice-count.false;
-  adds = c.in_ok-call.ensures;
-  marks = refl;
-  settled = h;
-}) c.settle.ensures
+      callee = c.in_ok-callee.callee;
+      mid = record c.args.w.now { out = c.call.new.out };
+      is = subst (λ (l : List MethodSel). (m : Method) → MethodAt g.p.now R f m → IsCallee l f m c.in_ok-callee.callee)
+          c.as_slice.ensures c.in_ok-callee.ensures;
+      many = ap (λ (l : List ℕ). length l) (sym c.as_slice-2.ensures.value) ∙ c.if-as_slice-count.false;
+      adds = c.in_ok-call.ensures;
+      marks = refl;
+      settled = h;
+    }) c.settle.ensures

@@ -12,9 +12,9 @@ returns c =
     let R = reverse c.args.path.now.names in
     let f = c.args.f in
     on_ok c.put.result (λ a. record {
-  getter = c.in_ok-x.x;
-  is = subst (λ (l : List FieldSel). (d : Field) → FieldAt g.p.now R f d → IsGetter g.t.now g.slots.now l R f d c.in_ok-x.x)
-      c.as_slice.ensures c.in_ok-x.ensures;
-  adds = a;
-  marks = refl;
-}) c.put.ensures
+      getter = c.in_ok-x.x;
+      is = subst (λ (l : List FieldSel). (d : Field) → FieldAt g.p.now R f d → IsGetter g.t.now g.slots.now l R f d c.in_ok-x.x)
+          c.as_slice.ensures c.in_ok-x.ensures;
+      adds = a;
+      marks = refl;
+    }) c.put.ensures

@@ -12,11 +12,11 @@ returns c =
     let R = reverse c.args.path.now.names in
     let f = c.args.f in
     on_ok c.had.result (λ h. record {
-  getter = c.in_ok-x.x;
-  mid = record c.args.w.now { out = c.get.new.out };
-  is = subst (λ (l : List FieldSel). (d : Field) → FieldAt g.p.now R f d → IsGetter g.t.now g.slots.now l R f d c.in_ok-x.x)
-      c.as_slice.ensures c.in_ok-x.ensures;
-  adds = c.in_ok-get.ensures;
-  marks = refl;
-  had = h;
-}) c.had.ensures
+      getter = c.in_ok-x.x;
+      mid = record c.args.w.now { out = c.get.new.out };
+      is = subst (λ (l : List FieldSel). (d : Field) → FieldAt g.p.now R f d → IsGetter g.t.now g.slots.now l R f d c.in_ok-x.x)
+          c.as_slice.ensures c.in_ok-x.ensures;
+      adds = c.in_ok-get.ensures;
+      marks = refl;
+      had = h;
+    }) c.had.ensures

@@ -17,12 +17,14 @@ returns c =
     let class : IsTrue c.is_class.result = search rules in
     record {
       yes = λ told filled s this.
-          let e : B ≡ bound s x = c.in_ok-bound.ensures s this in
-          (subst (IsClass p) e (record {
-            universe = numbered_known p t B _ filled c.in-Some.ensures.some;
-            kind = (c.is_class.ensures p filled).0 class;
-          }), subst (λ (R : Path). HasMethod p R c.args.name) e
-          ((c.has_method.ensures p B filled c.in-Some.ensures.some).0 told));
+          let e : B ≡ bound s x = c.in_ok-bound.ensures s this in (
+            subst (IsClass p) e (record {
+              universe = numbered_known p t B _ filled c.in-Some.ensures.some;
+              kind = (c.is_class.ensures p filled).0 class;
+            }),
+            subst (λ (R : Path). HasMethod p R c.args.name) e
+                ((c.has_method.ensures p B filled c.in-Some.ensures.some).0 told),
+          );
       no = λ told filled s this has.
           let e : B ≡ bound s x = c.in_ok-bound.ensures s this in
           unlike (sym told ∙ (c.has_method.ensures p B filled c.in-Some.ensures.some).1
