@@ -36,7 +36,8 @@ use Rattle.jn_lower.proofs.Growing.{means}
 use Rattle.jn_lower.proofs.Composing.{if_so, while_so}
 use Rattle.jn_lower.proofs.Statements.{none_so, block_so, do_so, return_so, end_so, print_so, text_so}
 use Rattle.jn_lower.proofs.Noting.{wants_noted, joined_silent}
-use Rattle.jn_lower.proofs.Taking.{ready_grown, ready_locals}
+use Rattle.jn_rule_laws.proofs.Behind.{joined_apart, blocks_move}
+use Rattle.jn_lower.proofs.Taking.{ready_grown, ready_locals, ready_apart}
 use Rattle.jn_lower.proofs.Chains.{is_it, regroup}
 
 before_same : {x y : Before} → ◌≡◌ {A = Result Before Refusal} (Ok x) (Ok y) → x ≡ y
@@ -64,7 +65,7 @@ no_stmts_done g w n scratch b parts = record {
   done = λ x y ms rest ready noted ahead. record {
     left = subst (λ (l : List Mark). Ahead (l ++ rest) w.marks) noted.0 ahead;
     emitted = none_so g.p.now n scratch b x w.out;
-    ready = subst (λ (v : Before). Ready scratch v.vars w) (sym noted.1) ready;
+    ready = subst (λ (v : Before). Ready g scratch (here b v) v.scope w) (sym noted.1) ready;
   };
 }
 
@@ -95,8 +96,8 @@ returned g e pl w0 w1 w2 first pushed n scratch b parts = record {
       (subst (λ (l : List Mark). Ahead l w0.marks) (regroup ms f.before f.after rest f.all ∙ ap (λ (l : List Mark). f.before ++ (l ++ rest)) u.then.0) ahead) in
       record {
         left = subst (Ahead rest) (sym pushed.marks) d.left;
-        ready = subst (λ (v : Before). Ready scratch v.vars w2) (sym u.then.1)
-            (ready_locals scratch x.vars w1 w2 pushed.adds.locals (ready_grown scratch x.vars w0 w1 d.emitted.grown ready));
+        ready = subst (λ (v : Before). Ready g scratch (here b v) v.scope w2) (sym u.then.1)
+            (ready_locals g scratch (here b x) x.scope w1 w2 pushed.adds.locals (ready_grown g scratch (here b x) x.scope w0 w1 d.emitted.grown ready));
         behind = λ ss end all. return_so g.p.now n scratch b x e pl ss w0.out w1.out w2.out end d.emitted pushed.adds
             (behind_it g n scratch b parts (stmt.Return (Some e) pl) x y ms noted ss w2.out end all);
       };
@@ -113,8 +114,8 @@ ended g pl w0 w1 pushed n scratch b parts = record {
       let u = wants_noted (is_void b.result) (mismatch (here b x) pl) (done x) ms y asked in
       record {
         left = subst (Ahead rest) (sym pushed.marks) (subst (λ (l : List Mark). Ahead (l ++ rest) w0.marks) u.then.0 ahead);
-        ready = subst (λ (v : Before). Ready scratch v.vars w1) (sym u.then.1)
-            (ready_locals scratch x.vars w0 w1 pushed.adds.locals ready);
+        ready = subst (λ (v : Before). Ready g scratch (here b v) v.scope w1) (sym u.then.1)
+            (ready_locals g scratch (here b x) x.scope w0 w1 pushed.adds.locals ready);
         behind = λ ss end all. end_so g.p.now n scratch b x pl ss w0.out w1.out end pushed.adds
             (behind_it g n scratch b parts (stmt.Return None pl) x y ms noted ss w1.out end all);
       };
@@ -130,7 +131,7 @@ effected g e w0 w1 first n scratch b parts = record {
       (subst (λ (l : List Mark). Ahead l w0.marks) (regroup ms f.before f.after rest f.all ∙ ap (λ (l : List Mark). f.before ++ (l ++ rest)) f.then.0) ahead) in
       record {
         left = d.left;
-        ready = subst (λ (v : Before). Ready scratch v.vars w1) (sym f.then.1) (ready_grown scratch x.vars w0 w1 d.emitted.grown ready);
+        ready = subst (λ (v : Before). Ready g scratch (here b v) v.scope w1) (sym f.then.1) (ready_grown g scratch (here b x) x.scope w0 w1 d.emitted.grown ready);
         behind = λ ss end all. do_so g.p.now n scratch b x e ss w0.out w1.out end d.emitted
             (behind_it g n scratch b parts (stmt.Do e) x y ms noted ss w1.out end all);
       };
@@ -156,8 +157,8 @@ printed g e pl w0 w1 w2 first pushed n scratch b parts = record {
       (subst (λ (l : List Mark). Ahead l w0.marks) (regroup ms f.before f.after rest f.all ∙ ap (λ (l : List Mark). f.before ++ (l ++ rest)) u.then.0) ahead) in
       record {
         left = subst (Ahead rest) (sym pushed.marks) d.left;
-        ready = subst (λ (v : Before). Ready scratch v.vars w2) (sym u.then.1)
-            (ready_locals scratch x.vars w1 w2 pushed.adds.locals (ready_grown scratch x.vars w0 w1 d.emitted.grown ready));
+        ready = subst (λ (v : Before). Ready g scratch (here b v) v.scope w2) (sym u.then.1)
+            (ready_locals g scratch (here b x) x.scope w1 w2 pushed.adds.locals (ready_grown g scratch (here b x) x.scope w0 w1 d.emitted.grown ready));
         behind = λ ss end all. print_so g.p.now n scratch b x e pl (printed_by w1.last) ss w0.out w1.out w2.out end d.emitted
             (λ v gives. ap printed_by (d.kind ∙ ap (λ (t : Typed). kind_of_type t.ty)
             (is_it g n parts (typed b x e x.scope) f.before f.first v f.noted gives)) ∙ prints v.ty)
@@ -172,8 +173,8 @@ printed_text g k pl w0 w1 pushed n scratch b parts = record {
       let asked = subst (λ (q : Plan Before). Notes g.p.now q ms y) ((forms_are.stmts b x).prints_text k pl) noted in
       record {
         left = subst (Ahead rest) (sym pushed.marks) (subst (λ (l : List Mark). Ahead (l ++ rest) w0.marks) asked.0 ahead);
-        ready = subst (λ (v : Before). Ready scratch v.vars w1) (sym asked.1)
-            (ready_locals scratch x.vars w0 w1 pushed.adds.locals ready);
+        ready = subst (λ (v : Before). Ready g scratch (here b v) v.scope w1) (sym asked.1)
+            (ready_locals g scratch (here b x) x.scope w0 w1 pushed.adds.locals ready);
         behind = λ ss end all. text_so g.p.now n scratch b x k pl ss w0.out w1.out end pushed.adds
             (behind_it g n scratch b parts (stmt.PrintText k pl) x y ms noted ss w1.out end all);
       };
@@ -198,6 +199,14 @@ block_noted p b x y ss ms noted =
       is = f.then.1;
     }
 
+-- behind a block the masks may be others
+block_ready : (g : Parts) (scratch : ℕ) (b : In) (x y : Before) (body : List Stmt) (ms : List Mark) (w : Walk)
+    → Notes g.p.now (block_typed (map (stmt_types b) body) x) ms y → Ready g scratch (here b x) x.scope w
+    → Ready g scratch (here b y) y.scope w
+block_ready g scratch b x y body ms w noted ready =
+    let l = blocks_move g.p.now b body x y (notes_give g.p.now (block_typed (map (stmt_types b) body) x) ms y noted) in
+    ready_apart g scratch b x y w l.vars l.apart ready
+
 pub blocked : (g : Parts) (body : List Stmt) (w0 w1 : Walk) → LowersStmts g body w0 w1
     → LowersStmt g (stmt.Block body) w0 w1
 blocked g body w0 w1 all n scratch b parts = record {
@@ -207,7 +216,9 @@ blocked g body w0 w1 all n scratch b parts = record {
       let d = (all n scratch b parts).done x f.inner ms rest ready f.noted ahead in
       record {
         left = d.left;
-        ready = subst (λ (v : Before). Ready scratch v.vars w1) (sym f.is) (ready_grown scratch x.vars w0 w1 d.emitted.grown ready);
+        ready = block_ready g scratch b x y body ms w1
+            (subst (λ (q : Plan Before). Notes g.p.now q ms y) ((forms_are.stmts b x).block body) noted)
+            (ready_grown g scratch (here b x) x.scope w0 w1 d.emitted.grown ready);
         behind = λ ss end behind. block_so g.p.now n scratch b x body ss w0.out w1.out end d.emitted
             (behind_it g n scratch b parts (stmt.Block body) x y ms noted ss w1.out end behind);
       };
@@ -233,20 +244,26 @@ chosen_at g e one other pl i j w0 w1 w2 w3 w4 w5 w6 first jumps ones jumps_on ot
       let l1 = block_noted g.p.now b (numbered_from x k.first.next) l.first other l.before l.noted in
       let d0 = (first n scratch (here b x) x.scope parts).done f.before (f.after ++ rest) f.first ready f.noted
       (subst (λ (l : List Mark). Ahead l w0.marks) (regroup ms f.before f.after rest f.all) ahead) in
-      let ready2 = ready_locals scratch x.vars w1 w2 jumps.adds.locals (ready_grown scratch x.vars w0 w1 d0.emitted.grown ready) in
+      let ready2 = ready_locals g scratch (here b x) x.scope w1 w2 jumps.adds.locals (ready_grown g scratch (here b x) x.scope w0 w1 d0.emitted.grown ready) in
       let d1 = (ones n scratch b parts).done x k1.inner k.before (k.after ++ rest) ready2 k1.noted
       (subst (Ahead (k.before ++ (k.after ++ rest))) (sym jumps.marks)
       (subst (λ (l : List Mark). Ahead l w1.marks) (regroup f.after k.before k.after rest k.all) d0.left)) in
-      let ready4 = ready_locals scratch x.vars w3 w4 jumps_on.adds.locals (ready_grown scratch x.vars w2 w3 d1.emitted.grown ready2) in
+      let ready4 = ready_locals g scratch (here b x) x.scope w3 w4 jumps_on.adds.locals (ready_grown g scratch (here b x) x.scope w2 w3 d1.emitted.grown ready2) in
       let d2 = (others n scratch b parts).done (numbered_from x k.first.next) l1.inner l.before rest ready4 l1.noted
       (subst (Ahead (l.before ++ rest)) (sym jumps_on.marks)
       (subst (λ (l : List Mark). Ahead l w3.marks) (regroup k.after l.before l.after rest l.all
       ∙ ap (λ (z : List Mark). l.before ++ (z ++ rest)) silent) d1.left)) in
-      let ready5 = ready_grown scratch x.vars w4 w5 d2.emitted.grown ready4 in
+      let ready5 = ready_grown g scratch (here b x) x.scope w4 w5 d2.emitted.grown ready4 in
       record {
         left = subst (Ahead rest) (sym ends.marks) d2.left;
-        ready = subst (λ (v : Before). Ready scratch v.vars w6) (sym m.then.1)
-            (ready_locals scratch x.vars w5 w6 (ends.behind.locals ∙ ends.past.locals) ready5);
+        ready = subst (λ (v : Before). Ready g scratch (here b v) v.scope w6) (sym m.then.1)
+            (ready_apart g scratch b x (record { vars = x.vars; scope = m.first; next = l.first.next }) w6 refl
+            (joined_apart g.p.now x.scope k.first.scope l.first.scope m.first
+            (blocks_move g.p.now b one x k.first (notes_give g.p.now (block_typed (map (stmt_types b) one) x) k.before k.first k.noted)).apart
+            (blocks_move g.p.now b other (numbered_from x k.first.next) l.first
+            (notes_give g.p.now (block_typed (map (stmt_types b) other) (numbered_from x k.first.next)) l.before l.first l.noted)).apart
+            (notes_give g.p.now (joined k.first.scope l.first.scope) m.before m.first m.noted))
+            (ready_locals g scratch (here b x) x.scope w5 w6 (ends.behind.locals ∙ ends.past.locals) ready5));
         behind = λ ss end all. if_so g.p.now n scratch b x e one other pl ss i j w0.out w1.out w2.out w3.out w4.out w5.out ends.c1 w6.out
             end d0.emitted jumps.adds d1.emitted jumps_on.adds
             (means (Stmts g.p.now n scratch b (numbered_from x k.first.next) other)
@@ -298,16 +315,16 @@ repeated_at g e body pl i w0 w1 w2 w3 w4 first jumps all ends n scratch b parts 
       let k1 = block_noted g.p.now b x k.first body k.before k.noted in
       let d0 = (first n scratch (here b x) x.scope parts).done f.before (f.after ++ rest) f.first ready f.noted
       (subst (λ (l : List Mark). Ahead l w0.marks) (regroup ms f.before f.after rest f.all) ahead) in
-      let ready2 = ready_locals scratch x.vars w1 w2 jumps.adds.locals (ready_grown scratch x.vars w0 w1 d0.emitted.grown ready) in
+      let ready2 = ready_locals g scratch (here b x) x.scope w1 w2 jumps.adds.locals (ready_grown g scratch (here b x) x.scope w0 w1 d0.emitted.grown ready) in
       let d1 = (all n scratch b parts).done x k1.inner k.before rest ready2 k1.noted
       (subst (Ahead (k.before ++ rest)) (sym jumps.marks)
       (subst (λ (l : List Mark). Ahead l w1.marks) (regroup f.after k.before k.after rest k.all
       ∙ ap (λ (l : List Mark). k.before ++ (l ++ rest)) k.then.0) d0.left)) in
       record {
         left = subst (Ahead rest) (sym ends.marks) d1.left;
-        ready = subst (λ (v : Before). Ready scratch v.vars w4) (sym k.then.1)
-            (ready_locals scratch x.vars w3 w4 (ends.past.locals ∙ ends.back.locals)
-            (ready_grown scratch x.vars w2 w3 d1.emitted.grown ready2));
+        ready = subst (λ (v : Before). Ready g scratch (here b v) v.scope w4) (sym k.then.1)
+            (ready_locals g scratch (here b x) x.scope w3 w4 (ends.past.locals ∙ ends.back.locals)
+            (ready_grown g scratch (here b x) x.scope w2 w3 d1.emitted.grown ready2));
         behind = λ ss end behind. while_so g.p.now n scratch b x e body pl ss i w0.out w1.out w2.out w3.out ends.c1 w4.out end
             d0.emitted jumps.adds d1.emitted ends.back ends.past
             (behind_it g n scratch b parts (stmt.While e body pl) x y ms noted ss w4.out end behind);

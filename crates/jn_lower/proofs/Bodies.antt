@@ -15,7 +15,7 @@ use Rattle.jn_sem.specs.Does.{Body}
 use Rattle.jn_rules.specs.Plans.{Mark, Plan, Nothing, done, then_do, wants}
 use Rattle.jn_rules.specs.Questions.{Gives, Notes}
 use Rattle.jn_rules.specs.Resolved.{IsResolved, AreSorted}
-use Rattle.jn_rules.specs.Headers.{Header, header_typed}
+use Rattle.jn_rules.specs.Headers.{Header, site_in, header_typed}
 use Rattle.jn_rules.specs.Exprs.{in_method}
 use Rattle.jn_rules.specs.Stmts.{Before, here, is_void, all_stop, stmts_type, body_in, at_start, body_with, body_types}
 use Rattle.jn_rules.proofs.PlanLaws.{then_noted, notes_give, plan_one}
@@ -36,6 +36,7 @@ use Rattle.jn_lower.specs.Lowering.{PartsAre, BodyIs}
 use Rattle.jn_lower.specs.Walks.{Ready, LowersStmts, Begun, Finished}
 use Rattle.jn_lower.proofs.Growing.{added, earlier}
 use Rattle.jn_lower.proofs.Finishing.{locals_fit}
+use Rattle.jn_lower.proofs.Seen.{this_first}
 use Rattle.jn_lower.proofs.Heads.{HeadIs, head_is, header_silent}
 
 header_same : {x y : Header} → ◌≡◌ {A = Result Header Refusal} (Ok x) (Ok y) → x ≡ y
@@ -90,20 +91,24 @@ front (x ∷ xs) (y ∷ ys) f =
 -- ---- the whole
 
 pub body_stands : (g : Parts) (n : Naming) (m : Method) (r : Resolved) (b : Body) (k : Header) (c0 c1 c3 : Emitter)
-    (w1 w2 : Walk) (code : Code) → PartsAre g.p.now g.t.now g.slots.now g.names.now n → BodyIs g.p.now m r b k → Begun m c0
+    (w1 w2 : Walk) (code : Code) → PartsAre g.p.now g.t.now g.slots.now g.names.now n → g.class.now ≡ r.class → BodyIs g.p.now m r b k → Begun m c0
     → Adds (param_tests 1 m.params) c0 c1 → w1.out ≡ c1 → ((ms : List Mark) → AreSorted ms r → Ahead ms w1.marks)
     → LowersStmts g m.body w1 w2 → Adds (last_return (written_result m.result)) w2.out c3 → Finished m c3 code
     → TypedBodyAt g.p.now n b k code
-body_stands g n m r b k c0 c1 c3 w1 w2 code parts is begun tested at_first marks all over end =
+body_stands g n m r b k c0 c1 c3 w1 w2 code parts class is begun tested at_first marks all over end =
     let head = subst (λ (z : Method). HeadIs z.params z.result k) is.method (head_is g.p.now b k is.header) in
     let noted = body_noted g n b k is.resolved.marks parts is.header is.resolved.noted in
     let scratch = path_behind m.body (suc (length m.params)) in
     let locals1 = ap (λ (o : Emitter). o.locals) at_first ∙ tested.locals in
-    let ready : Ready scratch k.vars w1 = record {
+    let ready : Ready g scratch (here (body_in b k) (at_start b k)) (at_start b k).scope w1 = record {
+      class = class ∙ is.resolved.class;
+      first = ap (λ (o : Locals). slice_get o.kinds 0) locals1 ∙ ap (λ (l : List ℕ). slice_get l 0) begun.kinds;
       above = ap (λ (o : Locals). o.scratch) locals1 ∙ begun.scratch;
       kinds = λ v h. ap (λ (o : Locals). slice_get o.kinds v.path) locals1 ∙ ap (λ (l : List ℕ). slice_get l v.path) begun.kinds
           ∙ head.numbered v h;
       valued = head.valued;
+      apart = head.above;
+      this = this_first (site_in b k.vars) head.above;
     } in
     let d = (all n scratch (body_in b k) parts).done (at_start b k) noted.after is.resolved.marks [] ready
     (subst (λ (z : Method). Notes g.p.now (stmts_type (body_in b k) z.body (at_start b k)) is.resolved.marks noted.after) is.method noted.noted)

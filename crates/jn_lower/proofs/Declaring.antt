@@ -15,7 +15,7 @@ use Rattle.jn_base.specs.declared.names.Var.{Var}
 use Rattle.jn_base.specs.declared.refusal.Refusal.{Refusal}
 use Rattle.jn_base.specs.declared.refusal.Rule.TheVariants as rule
 use Rattle.jn_base.specs.Atoms.{Among, first, later}
-use Rattle.jn_base.specs.Resolve.{is_class, var_named}
+use Rattle.jn_base.specs.Resolve.{is_class, var_named, var_bind}
 use Rattle.jn_base.specs.ResolveTypes.{ResolveType, mask_names}
 use Rattle.jn_code.specs.declared.instr.Instr.TheVariants as ins
 use Rattle.jn_sem.specs.Terms.{spot_at, vars_at}
@@ -44,6 +44,7 @@ use Rattle.jn_lower.proofs.Taking.{var_ahead, ready_grown, ready_locals}
 use Rattle.jn_lower.proofs.LeafForms.{named_among, newest_named}
 use Rattle.jn_lower.proofs.Written.{told, type_is, kind_kept, class_kept, void_kept}
 use Rattle.jn_lower.proofs.Chains.{regroup}
+use Rattle.jn_lower.proofs.Seen.{bound_passed}
 use Rattle.jn_lower.proofs.Blocks.{behind_it}
 
 -- ---- the terms of a written type are passed over
@@ -129,16 +130,31 @@ front_kind [] k q j e = absurd (no e) where
 front_kind (i ∷ ks) k zero j e = e
 front_kind (i ∷ ks) k (suc q) j e = front_kind ks k q j e
 
-ready_more : (scratch : ℕ) (vs : List Var) (v : Var) (old new : Walk) → Ready scratch vs old
-    → new.out.locals.kinds ≡ old.out.locals.kinds ++ kind_of_type v.ty ∷ []
+ready_more : (g : Parts) (scratch : ℕ) (b : In) (x : Before) (v : Var) (old new : Walk)
+    → Ready g scratch (here b x) x.scope old → new.out.locals.kinds ≡ old.out.locals.kinds ++ kind_of_type v.ty ∷ []
     → new.out.locals.scratch ≡ old.out.locals.scratch → v.path ≡ length old.out.locals.kinds
-    → (v.ty ≡ ty.Void → ⊥) → Ready scratch (vs ++ v ∷ []) new
-ready_more scratch vs v old new ready kinds scr path valued = record {
+    → (v.ty ≡ ty.Void → ⊥) → Ready g scratch (here b (with_local x v)) (with_local x v).scope new
+ready_more g scratch b x v old new ready kinds scr path valued = record {
+  class = ready.class;
   above = scr ∙ ready.above;
+  first = ap (λ (l : List ℕ). slice_get l 0) kinds ∙ front_kind old.out.locals.kinds (kind_of_type v.ty) 0 3 ready.first;
   kinds = λ u m. ap (λ (l : List ℕ). slice_get l u.path) kinds ∙ kind_at u (among_more vs v u m);
   valued = λ u m. valued_at u (among_more vs v u m);
+  apart = λ u m. apart_at u (among_more vs v u m);
+  this = bound_passed (var_bind v) x.scope 0 (λ e. no_first old.out.locals.kinds 3 ready.first (sym path ∙ e)) ∙ ready.this;
 }
   where
+    vs : List Var
+    vs = x.vars
+
+    no_first : (ks : List ℕ) (k : ℕ) → slice_get ks 0 ≡ Some k → length ks ≡ 0 → ⊥
+    no_first [] k e l = no e where
+      no : ◌≡◌ {A = Option ℕ} None (Some k) → ⊥
+      no e = cc
+    no_first (j ∷ ks) k e l = no l where
+      no : suc (length ks) ≡ 0 → ⊥
+      no e = cc
+
     kind_at : (u : Var) → Among vs u ⊎ (u ≡ v)
         → slice_get (old.out.locals.kinds ++ kind_of_type v.ty ∷ []) u.path ≡ Some (kind_of_type u.ty)
     kind_at u (inl m) = front_kind old.out.locals.kinds (kind_of_type v.ty) u.path (kind_of_type u.ty) (ready.kinds u m)
@@ -146,6 +162,11 @@ ready_more scratch vs v old new ready kinds scr path valued = record {
         ap (λ (w : Var). slice_get (old.out.locals.kinds ++ kind_of_type v.ty ∷ []) w.path) e
         ∙ ap (slice_get (old.out.locals.kinds ++ kind_of_type v.ty ∷ [])) path
         ∙ last_kind old.out.locals.kinds (kind_of_type v.ty) ∙ ap (λ (w : Var). Some (kind_of_type w.ty)) (sym e)
+
+    apart_at : (u : Var) → Among vs u ⊎ (u ≡ v) → u.path ≡ 0 → ⊥
+    apart_at u (inl m) = ready.apart u m
+    apart_at u (inr e) =
+        λ f. no_first old.out.locals.kinds 3 ready.first (sym path ∙ sym (ap (λ (w : Var). w.path) e) ∙ f)
 
     valued_at : (u : Var) → Among vs u ⊎ (u ≡ v) → u.ty ≡ ty.Void → ⊥
     valued_at u (inl m) = ready.valued u m
@@ -174,15 +195,16 @@ declared g fixed written name e q m1 m2 w0 w3 w4 terms took value binds n scratc
       let one = var_ahead q x.next (a.then.0 ++ rest) m1 m2 took ahead1 in
       let w1 : Walk = record { out = w0.out; marks = m2; last = w0.last } in
       let d = (value n scratch (here b x) x.scope parts).done a.then.0 rest c.had
-      (ready_locals scratch x.vars w0 w1 refl ready) c.noted one.left in
+      (ready_locals g scratch (here b x) x.scope w0 w1 refl ready) c.noted one.left in
       let kind = kind_kept (scope_of at) k.given ∙ f.kind in
       let class = class_kept (scope_of at) k.given ∙ f.class in
-      let ready3 = ready_grown scratch x.vars w1 w3 d.emitted.grown (ready_locals scratch x.vars w0 w1 refl ready) in
+      let ready3 = ready_grown g scratch (here b x) x.scope w1 w3 d.emitted.grown
+      (ready_locals g scratch (here b x) x.scope w0 w1 refl ready) in
       let next = sym one.same ∙ binds.number in
       record {
         left = subst (Ahead rest) (sym binds.marks) d.left;
-        ready = subst (λ (z : Before). Ready scratch z.vars w4) (sym c.is)
-            (ready_more scratch x.vars v w3 w4 ready3
+        ready = subst (λ (z : Before). Ready g scratch (here b z) z.scope w4) (sym c.is)
+            (ready_more g scratch b x v w3 w4 ready3
             (binds.kinds ∙ ap (λ (i : ℕ). w3.out.locals.kinds ++ i ∷ []) (sym kind)) binds.scratch next
             (λ z. f.valued (void_kept (scope_of at) k.given z)));
         behind = λ ss end all. local_so g.p.now n scratch b x fixed written name e t ss w0.out w3.out w4.out end d.emitted
@@ -208,7 +230,7 @@ assigned g name e q m1 w0 w2 w3 took value pushed n scratch b parts = record {
       (subst (λ (z : Plan Before). Notes g.p.now z ms y) ((forms_are.stmts b x).assign name e) noted);
 }
   where
-    at : (x y : Before) (ms rest : List Mark) → Ready scratch x.vars w0 → Notes g.p.now (stmt_types b (stmt.Assign name e) x) ms y
+    at : (x y : Before) (ms rest : List Mark) → Ready g scratch (here b x) x.scope w0 → Notes g.p.now (stmt_types b (stmt.Assign name e) x) ms y
         → Ahead (ms ++ rest) w0.marks → (found : Option Var) → var_named (record { list = x.vars }) name.name ≡ found
         → Notes g.p.now (assign_typed b x name e found) ms y → StmtDone g n scratch b (stmt.Assign name e) rest x y w0 w3
     at x y ms rest ready all ahead None is noted = absurd noted
@@ -219,13 +241,13 @@ assigned g name e q m1 w0 w2 w3 took value pushed n scratch b parts = record {
         let one = var_ahead q v.path (u.then.0 ++ rest) w0.marks m1 took
         (subst (λ (l : List Mark). Ahead (l ++ rest) w0.marks) u.then.1 ahead) in
         let w1 : Walk = record { out = w0.out; marks = m1; last = w0.last } in
-        let ready1 = ready_locals scratch x.vars w0 w1 refl ready in
+        let ready1 = ready_locals g scratch (here b x) x.scope w0 w1 refl ready in
         let d = (value n scratch (here b x) x.scope parts).done u.then.0 rest c.had ready1 c.noted one.left in
-        let ready2 = ready_grown scratch x.vars w1 w2 d.emitted.grown ready1 in
+        let ready2 = ready_grown g scratch (here b x) x.scope w1 w2 d.emitted.grown ready1 in
         record {
           left = subst (Ahead rest) (sym pushed.marks) d.left;
-          ready = subst (λ (z : Before). Ready scratch z.vars w3) (sym c.is)
-              (ready_locals scratch x.vars w2 w3 pushed.adds.locals ready2);
+          ready = subst (λ (z : Before). Ready g scratch (here b z) z.scope w3) (sym c.is)
+              (ready_locals g scratch (here b x) x.scope w2 w3 pushed.adds.locals ready2);
           behind = λ ss end behind. assign_so g.p.now n scratch b x name e v ss w0.out w2.out w3.out end d.emitted
               (newest_named x.vars name.name v is) (ready2.kinds v (named_among x.vars name.name v is))
               (subst (λ (i : ℕ). Adds (ins.Store i ∷ []) w2.out w3.out) one.same pushed.adds)

@@ -92,6 +92,7 @@ pub record HeadIs (xs : List Param) (t : Option TypeTerm) (k : Header) : Type 0 
   pub tested : tests k.vars ≡ param_tests 1 xs
   pub numbered : (v : Var) → Among k.vars v → slice_get (3 ∷ map param_kind xs) v.path ≡ Some (kind_of_type v.ty)
   pub valued : (v : Var) → Among k.vars v → v.ty ≡ ty.Void → ⊥
+  pub above : (v : Var) → Among k.vars v → v.path ≡ 0 → ⊥
   pub result : result_kind k.result ≡ written_result t
 
 kinds_are : (n : ℕ) (xs : List Param) (vs : List Var) → AreThey n xs vs
@@ -133,6 +134,14 @@ valued_all _ _ _ (none {n = n}) v m = elim m [ ]
 valued_all n _ _ (more h r) v first = h.valued
 valued_all n _ _ (more {xs = xs} {vs = vs} h r) v (later m) = valued_all (suc n) xs vs r v m
 
+no_number : (n : ℕ) → suc n ≡ 0 → ⊥
+no_number n e = cc
+
+above_all : (n : ℕ) (xs : List Param) (vs : List Var) → AreThey (suc n) xs vs → (v : Var) → Among vs v → v.path ≡ 0 → ⊥
+above_all n _ _ none v m = elim m [ ]
+above_all n _ _ (more h r) v first = λ e. no_number n (sym h.path ∙ e)
+above_all n _ _ (more {xs = xs} {vs = vs} h r) v (later m) = above_all (suc n) xs vs r v m
+
 type_same : {t u : Ty} → ◌≡◌ {A = Result Ty Refusal} (Ok t) (Ok u) → t ≡ u
 type_same e = cc
 
@@ -171,6 +180,7 @@ head_is p b k g =
       tested = tests_are 1 b.method.params r.more r.are;
       numbered = numbered_by (3 ∷ []) 1 b.method.params r.more refl r.are;
       valued = valued_all 1 b.method.params r.more r.are;
+      above = above_all 0 b.method.params r.more r.are;
       result = result_is p b x.first b.method.result y.first y.gave;
     })
 

@@ -138,7 +138,7 @@ var_done g x q w0 m o w1 took stands had pl n scratch h sc parts = record {
       (subst (λ y. Notes g.p.now y ms z) ((forms_are.exprs h pl sc).var x) noted);
 }
   where
-    at : (ms rest : List Mark) (z : Typed) → Ready scratch h.vars w0 → Ahead (ms ++ rest) w0.marks
+    at : (ms rest : List Mark) (z : Typed) → Ready g scratch h sc w0 → Ahead (ms ++ rest) w0.marks
         → (found : Option Var) → var_named (record { list = h.vars }) x ≡ found
         → Notes g.p.now (var_gives h pl x sc found) ms z
         → Done (Value g.p.now n scratch h sc true (expr pl (node.Var x))) rest z.ty w0 w1

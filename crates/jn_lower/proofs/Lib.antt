@@ -11,6 +11,7 @@ pub mod CtorCodes
 pub mod ClassCodes
 pub mod Named
 pub mod Noting
+pub mod Seen
 pub mod Taking
 pub mod LeafForms
 pub mod Chains
@@ -25,4 +26,9 @@ pub mod NextLocals
 pub mod Posts
 pub mod Passing
 pub mod FieldKinds
+pub mod Behind
+pub mod Setting
 pub mod Bounding
+pub mod Making
+pub mod Above
+pub mod Forming

@@ -1,7 +1,7 @@
 -- Loops over the operators of a chain, and over statements.
-use Rattle.std.proofs.Common.{◌≡◌, ℕ, suc, ◌+◌, ◌<◌, ◌≤◌, List, [], ◌∷◌, length, drop, get_or, Bool, true, refl, sym, ap, ◌∙◌, subst, add-one}
+use Rattle.std.proofs.Common.{◌≡◌, ℕ, suc, ◌+◌, ◌<◌, ◌≤◌, List, [], ◌∷◌, length, drop, get_or, Bool, true, refl, sym, ap, ◌∙◌, subst, add-one, arith}
 use Rattle.std.proofs.Math.Seq.{drop-cons}
-use Rattle.std.proofs.lemmas.List.{drop_all}
+use Rattle.std.proofs.lemmas.List.{drop_all, length-drop}
 use Rattle.jn_base.specs.declared.tree.Link.{Link}
 use Rattle.jn_base.specs.declared.tree.Expr.{Expr}
 use Rattle.jn_base.specs.declared.tree.Suffix.{Suffix}
@@ -98,3 +98,16 @@ pub parts_over : (g : Parts) (keeps : Bool) (zs : List Suffix) (i : ℕ) (w0 w1 
     → LowersParts g keeps zs w0 w1
 parts_over g keeps zs i w0 w1 so le =
     so w1 (subst (λ (xs : List Suffix). LowersTail g keeps xs w1 w1) (sym (drop_all i zs le)) refl)
+
+-- as many are left as stand behind the first i
+pub left_behind : (zs : List Suffix) (i left : ℕ) → left + i ≡ length zs → left ≡ length (drop i zs)
+left_behind zs i left e =
+    let d = length-drop i zs in
+    omega (arith, e, d)
+
+pub parts_step : (g : Parts) (keeps kept : Bool) (zs : List Suffix) (i left : ℕ) (z : Suffix) (w0 w1 w2 : Walk)
+    → ((new : Walk) → LowersTail g keeps (drop i zs) w1 new → LowersParts g keeps zs w0 new) → i < length zs
+    → z ≡ get_or zs i z → left + (i + 1) ≡ length zs → IsKept keeps left kept → LowersPart g kept z w1 w2
+    → (new : Walk) → LowersTail g keeps (drop (i + 1) zs) w2 new → LowersParts g keeps zs w0 new
+parts_step g keeps kept zs i left z w0 w1 w2 so lt is count k one new more =
+    parts_on g keeps kept zs i left z w0 w1 w2 so lt is (left_behind zs (i + 1) left count) k one new more

@@ -1,19 +1,30 @@
 -- How marks are taken, and what still stands behind a step of a walk.
-use Rattle.std.proofs.Common.{◌≡◌, ℕ, List, [], ◌∷◌, ◌++◌, refl, sym, ap, ◌∙◌, subst}
+use Rattle.std.proofs.Common.{◌≡◌, ℕ, List, [], ◌∷◌, ◌++◌, refl, sym, ap, ◌∙◌, subst, arith}
 use Rattle.std.specs.Prelude.{Some, slice_get}
 use Rattle.jn_base.specs.declared.types.Atom.{Atom as ShownAtom}
 use Rattle.jn_base.specs.declared.types.ValKind.{ValKind}
 use Rattle.jn_base.specs.declared.path.Path.{Path as ShownPath}
 use Rattle.jn_base.specs.declared.names.Var.{Var}
+use Rattle.jn_base.specs.declared.tree.Expr.{Expr}
 use Rattle.jn_base.specs.Paths.{Path, shown}
+use Rattle.jn_base.specs.Atoms.{Among}
+use Rattle.jn_base.specs.Scopes.{Scope}
 use Rattle.jn_rules.specs.Plans.{Mark, AtomMark, VarMark, MemberMark, KindMark}
+use Rattle.jn_rules.specs.Questions.{Notes}
+use Rattle.jn_rules.specs.Exprs.{Here, Typed, expr_types}
+use Rattle.jn_rules.specs.Stmts.{In, Before, here}
+use Rattle.jn_rules.proofs.PlanLaws.{notes_give}
+use Rattle.jn_rule_laws.specs.Behind.{MasksApart}
 use Rattle.jn_rules.specs.Resolved.{atom_marked, var_marked, member_marked, kind_marked}
 use Rattle.jn_lower.specs.declared.cursor.Marks.{Marks}
 use Rattle.jn_lower.specs.declared.emitter.Locals.{Locals}
+use Rattle.jn_lower.specs.declared.walk.Parts.{Parts}
 use Rattle.jn_lower.specs.declared.walk.Walk.{Walk}
 use Rattle.jn_lower.specs.Cursors.{Ahead, TermTaken, VarTaken, MemberTaken, KindTaken}
+use Rattle.jn_lower.specs.Called.{Tucks}
 use Rattle.jn_lower.specs.Emitted.{Grown}
 use Rattle.jn_lower.specs.Walks.{kind_number, Had, Ready}
+use Rattle.jn_lower.proofs.Seen.{Low, apart_bound, expr_low}
 
 -- ---- lists
 
@@ -100,18 +111,77 @@ had_ahead k ms old new h a =
 
 -- ---- locals
 
-pub ready_grown : (scratch : ℕ) (vs : List Var) (old new : Walk) → Grown old.out new.out → Ready scratch vs old
-    → Ready scratch vs new
-ready_grown scratch vs old new g r = record {
-  above = g.locals.scratch ∙ r.above;
-  kinds = λ v m. g.locals.kinds v.path _ (r.kinds v m);
+pub ready_grown : (g : Parts) (scratch : ℕ) (h : Here) (sc : Scope) (old new : Walk) → Grown old.out new.out
+    → Ready g scratch h sc old → Ready g scratch h sc new
+ready_grown g scratch h sc old new grown r = record {
+  class = r.class;
+  above = grown.locals.scratch ∙ r.above;
+  first = grown.locals.kinds 0 3 r.first;
+  kinds = λ v m. grown.locals.kinds v.path _ (r.kinds v m);
   valued = r.valued;
+  apart = r.apart;
+  this = r.this;
 }
 
-pub ready_locals : (scratch : ℕ) (vs : List Var) (old new : Walk) → new.out.locals ≡ old.out.locals
-    → Ready scratch vs old → Ready scratch vs new
-ready_locals scratch vs old new e r = record {
+pub ready_locals : (g : Parts) (scratch : ℕ) (h : Here) (sc : Scope) (old new : Walk)
+    → new.out.locals ≡ old.out.locals → Ready g scratch h sc old → Ready g scratch h sc new
+ready_locals g scratch h sc old new e r = record {
+  class = r.class;
   above = ap (λ (o : Locals). o.scratch) e ∙ r.above;
+  first = ap (λ (o : Locals). slice_get o.kinds 0) e ∙ r.first;
   kinds = λ v m. ap (λ (o : Locals). slice_get o.kinds v.path) e ∙ r.kinds v m;
   valued = r.valued;
+  apart = r.apart;
+  this = r.this;
 }
+
+-- behind what brings `this` below the first argument of `super`
+pub ready_tucked : (g : Parts) (scratch : ℕ) (h : Here) (sc : Scope) (kind : ℕ) (old new : Walk)
+    → Tucks kind old.out new.out → Ready g scratch h sc old → Ready g scratch h sc new
+ready_tucked g scratch h sc kind old new t r =
+    let kinds : new.out.locals.kinds ≡ old.out.locals.kinds = ap (λ (o : Locals). o.kinds) t.added.locals ∙ t.spare.kinds in
+    record {
+      class = r.class;
+      above = ap (λ (o : Locals). o.scratch) t.added.locals ∙ t.spare.scratch ∙ r.above;
+      first = ap (λ (l : List ℕ). slice_get l 0) kinds ∙ r.first;
+      kinds = λ v m. ap (λ (l : List ℕ). slice_get l v.path) kinds ∙ r.kinds v m;
+      valued = r.valued;
+      apart = r.apart;
+      this = r.this;
+    }
+
+-- ---- scopes
+
+-- with fresh paths more
+pub ready_in : (g : Parts) (scratch : ℕ) (h : Here) (s t : Scope) (w : Walk) → Low s t → Ready g scratch h s w
+    → Ready g scratch h t w
+ready_in g scratch h s t w low r = record {
+  class = r.class;
+  above = r.above;
+  first = r.first;
+  kinds = r.kinds;
+  valued = r.valued;
+  apart = r.apart;
+  this = low 0 (omega arith) ∙ r.this;
+}
+
+-- with other masks
+pub ready_apart : (g : Parts) (scratch : ℕ) (b : In) (x y : Before) (w : Walk) → y.vars ≡ x.vars
+    → MasksApart x.scope y.scope → Ready g scratch (here b x) x.scope w → Ready g scratch (here b y) y.scope w
+ready_apart g scratch b x y w vars apart r = record {
+  class = r.class;
+  above = r.above;
+  first = r.first;
+  kinds = λ v m. r.kinds v (subst (λ (vs : List Var). Among vs v) vars m);
+  valued = λ v m. r.valued v (subst (λ (vs : List Var). Among vs v) vars m);
+  apart = λ v m. r.apart v (subst (λ (vs : List Var). Among vs v) vars m);
+  this = apart_bound x.scope y.scope apart 0 ∙ r.this;
+}
+
+-- behind an expression
+pub ready_typed : (g : Parts) (scratch : ℕ) (h : Here) (sc : Scope) (e : Expr) (ms : List Mark) (x : Typed)
+    (old new : Walk) → Notes g.p.now (expr_types h e sc) ms x → Grown old.out new.out → Ready g scratch h sc old
+    → Ready g scratch h x.scope new
+ready_typed g scratch h sc e ms x old new noted grown r =
+    ready_in g scratch h sc x.scope new (expr_low g.p.now h e sc x (notes_give g.p.now (expr_types h e sc) ms x noted))
+    (ready_grown g scratch h sc old new grown r)

@@ -85,7 +85,7 @@ view_done g v e a m1 w0 w2 w4 took value seen pl n scratch h sc parts = record {
       ∙ ap (λ (l : List Mark). AtomMark u.atom ∷ l) (last_one k.then.0 f.before f.after rest kind.Reference f.all gave.marks)) ahead) in
       let w1 : Walk = record { out = w0.out; marks = m1; last = w0.last } in
       let d = (value n scratch h sc parts).done f.before (KindMark kind.Reference ∷ rest) f.first
-      (ready_locals scratch h.vars w0 w1 refl ready) f.noted one.left in
+      (ready_locals g scratch h sc w0 w1 refl ready) f.noted one.left in
       let it = had_ahead kind.Reference rest seen.mid w4 seen.had (subst (Ahead (KindMark kind.Reference ∷ rest)) (sym seen.marks) d.left) in
       let code = seen.class n parts.classes in
       let adds : Adds (code.cls ++ ins.Conv ∷ []) w2.out seen.mid.out = record {

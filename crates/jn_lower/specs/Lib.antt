@@ -17,3 +17,5 @@ pub mod Cursors
 pub mod Lowering
 pub mod Walks
 pub mod Bounds
+pub mod Making
+pub mod Formed

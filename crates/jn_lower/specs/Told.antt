@@ -13,7 +13,7 @@ use Rattle.jn_share.specs.declared.slots.Slots.{Slots}
 use Rattle.jn_share.specs.Slots.{AreSlots, SaysHangs}
 use Rattle.jn_sem.specs.Sharing.{IsClass}
 use Rattle.jn_sem.specs.Slots.{FieldType}
-use Rattle.jn_sem.specs.LawsOfFinding.{FoundOnceIn}
+use Rattle.jn_rules.specs.LawsOfPlans.{RepliesAreOne}
 use Rattle.jn_agree.specs.Rows.{FieldKind, kind_of_type}
 use Rattle.jn_agree.specs.declared.selectors.MethodSel.{MethodSel}
 use Rattle.jn_agree.specs.declared.selectors.FieldSel.{FieldSel}
@@ -59,12 +59,12 @@ pub record IsGetter (t : Table) (s : Slots) (names : List FieldSel) (R : Path) (
   pub at : slice_get names x.selector ≡ Some (field_sel f x.kind)
   pub kind : OwnKind t s R f field x.kind
 
--- In a program in which each field is found once, the kind of a field is that of its type, which is as it is written but
--- where it hangs on `this`.
+-- Where each question has one reply at most, the kind of a field is that of its type, which is as it is written but where
+-- it hangs on `this`.
 abbrev pub KindsOfFields : Type 0
 KindsOfFields =
     (p : Program) (t : Table) (s : Slots) (R : Path) (f : Name) (field : Field) (kind : ℕ) (u : Ty)
-    → AreSlots p t.known.items s → FoundOnceIn p → IsClass p R → FieldType p R f u
+    → AreSlots p t.known.items s → RepliesAreOne p → IsClass p R → FieldType p R f u
     → kind_of_type u ≡ written_kind field.ty → OwnKind t s R f field kind → FieldKind u kind
 
 -- Example: the selector of `int m(A a, boolean b)` has the kinds 3 and 2, and the result 1.

@@ -1,6 +1,6 @@
 -- What a walk over a body does: it takes the marks that the rules note of each form, in their order, and what it emits
 -- stands at the form's place.
-use Rattle.std.specs.Prelude.{◌≡◌, ℕ, zero, suc, List, [], ◌∷◌, ◌++◌, length, map, reverse, take, Bool, true, false, Some, slice_get}
+use Rattle.std.specs.Prelude.{◌≡◌, ℕ, zero, suc, List, [], ◌∷◌, ◌++◌, length, map, reverse, take, Bool, true, false, Option, Some, slice_get}
 use Rattle.jn_base.specs.declared.tree.Place.{Place}
 use Rattle.jn_base.specs.declared.tree.Op.{Op}
 use Rattle.jn_base.specs.declared.tree.Node.{Node}
@@ -10,10 +10,14 @@ use Rattle.jn_base.specs.declared.tree.Link.{Link}
 use Rattle.jn_base.specs.declared.tree.Suffix.{Suffix, out-Suffix}
 use Rattle.jn_base.specs.declared.tree.Name.{Name}
 use Rattle.jn_base.specs.declared.path.Path.{Path as ShownPath}
-use Rattle.jn_base.specs.Members.{MethodAt}
+use Rattle.jn_base.specs.declared.tree.Named.{Named}
+use Rattle.jn_base.specs.declared.tree.Field.{Field}
+use Rattle.jn_base.specs.Members.{MethodAt, FieldAt}
+use Rattle.jn_base.specs.Duplicates.{duplicates}
 use Rattle.jn_lower.specs.declared.members.Callee.{Callee}
+use Rattle.jn_lower.specs.declared.members.Getter.{Getter}
 use Rattle.jn_lower.specs.Called as called
-use Rattle.jn_lower.specs.Told.{IsCallee}
+use Rattle.jn_lower.specs.Told.{IsCallee, IsGetter}
 use Rattle.jn_base.specs.declared.tree.Stmt.{Stmt}
 use Rattle.jn_base.specs.declared.tree.Method.{Method}
 use Rattle.jn_base.specs.declared.types.Atom.{Atom as ShownAtom}
@@ -25,16 +29,17 @@ use Rattle.jn_base.specs.declared.types.ValKind.TheVariants as kind
 use Rattle.jn_base.specs.declared.names.Var.{Var}
 use Rattle.jn_base.specs.Parts.{expr}
 use Rattle.jn_base.specs.Atoms.{Among, atom_of}
-use Rattle.jn_base.specs.Scopes.{Scope}
+use Rattle.jn_base.specs.Paths.{shown}
+use Rattle.jn_base.specs.Scopes.{Scope, bound_of}
 use Rattle.jn_code.specs.declared.instr.Instr.{Instr}
 use Rattle.jn_code.specs.declared.instr.Instr.TheVariants as ins
 use Rattle.jn_code.specs.declared.image.Code.{Code}
 use Rattle.jn_sem.specs.Acts.{path_behind}
 use Rattle.jn_rules.specs.Plans.{Mark}
 use Rattle.jn_rules.specs.Questions.{Notes}
-use Rattle.jn_rules.specs.Exprs.{Here, Typed, Passed, expr_types, links_typed, suffixes_typed, args_typed}
-use Rattle.jn_rules.specs.Forms.{typed_links, typed_args, part_types, typed_parts}
-use Rattle.jn_rules.specs.Stmts.{In, Before, stmt_types, stmts_type}
+use Rattle.jn_rules.specs.Exprs.{Here, Typed, Passed, expr_types, links_typed, suffix_typed, suffixes_typed, args_typed}
+use Rattle.jn_rules.specs.Forms.{given_args, typed_links, typed_args, typed_parts}
+use Rattle.jn_rules.specs.Stmts.{In, Before, here, stmt_types, stmts_type}
 use Rattle.jn_agree.specs.Naming.{Naming}
 use Rattle.jn_agree.specs.Rows.{kind_of_type}
 use Rattle.jn_agree.specs.Places.{operator, deciding, decided_by, dropping}
@@ -48,11 +53,16 @@ use Rattle.jn_lower.specs.Composed.{Links, Stmts}
 use Rattle.jn_lower.specs.Classes.{AreClassesOf, AddsClass}
 use Rattle.jn_lower.specs.Stores.{stored}
 use Rattle.jn_lower.specs.Whole.{IsCodeOf}
+use Rattle.jn_lower.specs.Formed.{Formed}
 use Rattle.jn_lower.specs.Written.{is_reference, written_kind, written_result, param_kind}
 use Rattle.jn_lower.specs.Cursors.{Ahead, KindTaken}
 use Rattle.jn_lower.specs.Lowering.{PartsAre}
 
 -- ---- small steps
+
+-- no name stands twice in the program, so each path has one declaration at most
+abbrev pub NoneTwice : Parts → Type 0
+NoneTwice g = duplicates g.p.now ≡ []
 
 abbrev pub kind_number : ValKind → ℕ
 kind_number kind.Int = 1
@@ -141,11 +151,16 @@ pub record BindsWritten (fixed : Bool) (tt : TypeTerm) (q : ℕ) (old new : Walk
 
 -- ---- what a walk stands on, and what it has done
 
--- The local of each variable in scope has the kind of its type, and none is `void`.
-pub record Ready (scratch : ℕ) (vs : List Var) (w : Walk) : Type 0 where
+-- The body stands in the class that is told. Local 0 is a reference; the local of each variable in scope has the kind of
+-- its type, none is `void`, and none has the number of `this`. The scope has the class for `this`.
+pub record Ready (g : Parts) (scratch : ℕ) (h : Here) (sc : Scope) (w : Walk) : Type 0 where
+  pub class : g.class.now ≡ shown h.class
   pub above : w.out.locals.scratch ≡ scratch
-  pub kinds : (v : Var) → Among vs v → slice_get w.out.locals.kinds v.path ≡ Some (kind_of_type v.ty)
-  pub valued : (v : Var) → Among vs v → v.ty ≡ ty.Void → ⊥
+  pub first : slice_get w.out.locals.kinds 0 ≡ Some 3
+  pub kinds : (v : Var) → Among h.vars v → slice_get w.out.locals.kinds v.path ≡ Some (kind_of_type v.ty)
+  pub valued : (v : Var) → Among h.vars v → v.ty ≡ ty.Void → ⊥
+  pub apart : (v : Var) → Among h.vars v → v.path ≡ 0 → ⊥
+  pub this : bound_of sc 0 ≡ h.class
 
 -- These marks are left, the form stands where it was emitted, and the value that was had last has the type's kind.
 pub record Done (There : Code → ℕ → ℕ → Type 0) (rest : List Mark) (t : Ty) (old new : Walk) : Type 0 where
@@ -158,7 +173,7 @@ pub record Done (There : Code → ℕ → ℕ → Type 0) (rest : List Mark) (t 
 -- an expression whose value is kept, or not
 pub record Lowers (g : Parts) (n : Naming) (scratch : ℕ) (h : Here) (sc : Scope) (keeps : Bool) (e : Expr)
     (old new : Walk) : Type 0 where
-  pub done : (ms rest : List Mark) (x : Typed) → Ready scratch h.vars old → Notes g.p.now (expr_types h e sc) ms x
+  pub done : (ms rest : List Mark) (x : Typed) → Ready g scratch h sc old → Notes g.p.now (expr_types h e sc) ms x
       → Ahead (ms ++ rest) old.marks → Done (Value g.p.now n scratch h sc keeps e) rest x.ty old new
 
 -- wherever it stands
@@ -189,7 +204,7 @@ LowersNode g x old new = LowersNodeAs g true x old new
 -- the operators of a chain, behind a left operand that was had
 pub record LowersThem (g : Parts) (n : Naming) (scratch : ℕ) (h : Here) (ls : List Link) (old new : Walk)
     : Type 0 where
-  pub done : (at : Place) (x z : Typed) (ms rest : List Mark) → Ready scratch h.vars old
+  pub done : (at : Place) (x z : Typed) (ms rest : List Mark) → Ready g scratch h x.scope old
       → old.last ≡ kind_of_type x.ty → Notes g.p.now (links_typed h at x (typed_links h ls)) ms z
       → Ahead (ms ++ rest) old.marks → Done (Links g.p.now n scratch h x ls) rest z.ty old new
 
@@ -205,22 +220,25 @@ LowersLink g l old mid =
 
 -- ---- what stands behind a receiver
 
--- a part behind a receiver, whose value is kept or not
-pub record LowersBehind (g : Parts) (n : Naming) (scratch : ℕ) (h : Here) (keeps : Bool) (z : Suffix) (old new : Walk)
-    : Type 0 where
-  pub done : (at : Place) (x y : Typed) (ms rest : List Mark) → Ready scratch h.vars old
-      → Notes g.p.now (part_types h z at x) ms y → Ahead (ms ++ rest) old.marks
-      → Done (called.Part g.p.now n scratch h x keeps (out-Suffix z).name.name (out-Suffix z).args) rest y.ty old new
+-- a field or a call behind a receiver, whose value is kept or not
+pub record LowersBehind (g : Parts) (n : Naming) (scratch : ℕ) (h : Here) (keeps : Bool) (f : Named)
+    (args : Option (List Expr)) (old new : Walk) : Type 0 where
+  pub done : (at : Place) (x y : Typed) (ms rest : List Mark) → Ready g scratch h x.scope old
+      → Notes g.p.now (suffix_typed h f (given_args h args) at x) ms y → Ahead (ms ++ rest) old.marks
+      → Done (called.Part g.p.now n scratch h x keeps f.name args) rest y.ty old new
+
+abbrev pub LowersMember : Parts → Bool → Named → Option (List Expr) → Walk → Walk → Type 0
+LowersMember g keeps f args old new =
+    (n : Naming) (scratch : ℕ) (h : Here) → PartsAre g.p.now g.t.now g.slots.now g.names.now n
+    → LowersBehind g n scratch h keeps f args old new
 
 abbrev pub LowersPart : Parts → Bool → Suffix → Walk → Walk → Type 0
-LowersPart g keeps z old new =
-    (n : Naming) (scratch : ℕ) (h : Here) → PartsAre g.p.now g.t.now g.slots.now g.names.now n
-    → LowersBehind g n scratch h keeps z old new
+LowersPart g keeps z old new = LowersMember g keeps (out-Suffix z).name (out-Suffix z).args old new
 
 -- all of them, of which only the last value is kept or not
 pub record LowersEach (g : Parts) (n : Naming) (scratch : ℕ) (h : Here) (keeps : Bool) (zs : List Suffix)
     (old new : Walk) : Type 0 where
-  pub done : (whole at : Place) (x y : Typed) (ms rest : List Mark) → Ready scratch h.vars old
+  pub done : (whole at : Place) (x y : Typed) (ms rest : List Mark) → Ready g scratch h x.scope old
       → Notes g.p.now (suffixes_typed whole at (typed_parts h zs) x) ms y → Ahead (ms ++ rest) old.marks
       → Done (called.Parts g.p.now n scratch h x keeps zs) rest y.ty old new
 
@@ -238,7 +256,7 @@ pub record ArgsDone (There : Code → ℕ → ℕ → Type 0) (rest : List Mark)
 pub record LowersGiven (g : Parts) (n : Naming) (scratch : ℕ) (h : Here) (es : List Expr) (old new : Walk)
     : Type 0 where
   pub done : (from : List ℕ) (xs : List Var) (to : List ℕ) (sc : Scope) (y : Passed) (ms rest : List Mark)
-      → length xs ≡ length es → Ready scratch h.vars old → Notes g.p.now (args_typed h from xs (typed_args h es) to sc) ms y
+      → length xs ≡ length es → Ready g scratch h sc old → Notes g.p.now (args_typed h from xs (typed_args h es) to sc) ms y
       → Ahead (ms ++ rest) old.marks → ArgsDone (called.Args g.p.now n scratch h from xs es to sc) rest old new
 
 abbrev pub LowersArgs : Parts → List Expr → Walk → Walk → Type 0
@@ -265,6 +283,24 @@ pub record CallMade (g : Parts) (keeps : Bool) (path : ShownPath) (f : Name) (co
   pub marks : mid.marks ≡ old.marks
   pub settled : Settled callee.kind mid new
 
+-- The field of that name, which the class at the path declares, is read by its selector, and its value is had.
+pub record FieldRead (g : Parts) (path : ShownPath) (f : Name) (old new : Walk) : Type 0 where
+  pub getter : Getter
+  pub mid : Walk
+  pub is : (field : Field) → FieldAt g.p.now (reverse path.names) f field
+      → IsGetter g.t.now g.slots.now g.names.now.fields (reverse path.names) f field getter
+  pub adds : Adds (ins.Get getter.selector ∷ []) old.out mid.out
+  pub marks : mid.marks ≡ old.marks
+  pub had : Had mid new
+
+-- The value on top is given to the field of that name, which the class at the path declares, by its selector.
+pub record FieldPut (g : Parts) (path : ShownPath) (f : Name) (old new : Walk) : Type 0 where
+  pub getter : Getter
+  pub is : (field : Field) → FieldAt g.p.now (reverse path.names) f field
+      → IsGetter g.t.now g.slots.now g.names.now.fields (reverse path.names) f field getter
+  pub adds : Adds (ins.Put getter.selector ∷ []) old.out new.out
+  pub marks : new.marks ≡ old.marks
+
 -- the parts that are left, where there are some
 abbrev pub LowersTail : Parts → Bool → List Suffix → Walk → Walk → Type 0
 LowersTail g keeps [] old new = new ≡ old
@@ -277,17 +313,17 @@ pub record IsKept (keeps : Bool) (left : ℕ) (kept : Bool) : Type 0 where
 
 -- ---- statements
 
-pub record StmtsDone (There : Code → ℕ → ℕ → Type 0) (scratch : ℕ) (rest : List Mark) (y : Before) (old new : Walk)
-    : Type 0 where
+pub record StmtsDone (There : Code → ℕ → ℕ → Type 0) (g : Parts) (scratch : ℕ) (b : In) (rest : List Mark)
+    (y : Before) (old new : Walk) : Type 0 where
   pub left : Ahead rest new.marks
   pub emitted : Emitted There old.out new.out
-  pub ready : Ready scratch y.vars new
+  pub ready : Ready g scratch (here b y) y.scope new
 
 pub record LowersAll (g : Parts) (n : Naming) (scratch : ℕ) (b : In) (ss : List Stmt) (old new : Walk)
     : Type 0 where
-  pub done : (x y : Before) (ms rest : List Mark) → Ready scratch x.vars old → Notes g.p.now (stmts_type b ss x) ms y
-      → Ahead (ms ++ rest) old.marks
-      → StmtsDone (Stmts g.p.now n scratch b x ss) scratch rest y old new
+  pub done : (x y : Before) (ms rest : List Mark) → Ready g scratch (here b x) x.scope old
+      → Notes g.p.now (stmts_type b ss x) ms y → Ahead (ms ++ rest) old.marks
+      → StmtsDone (Stmts g.p.now n scratch b x ss) g scratch b rest y old new
 
 abbrev pub LowersStmts : Parts → List Stmt → Walk → Walk → Type 0
 LowersStmts g ss old new =
@@ -297,13 +333,13 @@ LowersStmts g ss old new =
 pub record StmtDone (g : Parts) (n : Naming) (scratch : ℕ) (b : In) (s : Stmt) (rest : List Mark) (x y : Before)
     (old new : Walk) : Type 0 where
   pub left : Ahead rest new.marks
-  pub ready : Ready scratch y.vars new
+  pub ready : Ready g scratch (here b y) y.scope new
   pub behind : (ss : List Stmt) (end : Emitter) → Emitted (Stmts g.p.now n scratch b y ss) new.out end
       → Emitted (Stmts g.p.now n scratch b x (s ∷ ss)) old.out end
 
 pub record LowersOne (g : Parts) (n : Naming) (scratch : ℕ) (b : In) (s : Stmt) (old new : Walk) : Type 0 where
-  pub done : (x y : Before) (ms rest : List Mark) → Ready scratch x.vars old → Notes g.p.now (stmt_types b s x) ms y
-      → Ahead (ms ++ rest) old.marks → StmtDone g n scratch b s rest x y old new
+  pub done : (x y : Before) (ms rest : List Mark) → Ready g scratch (here b x) x.scope old
+      → Notes g.p.now (stmt_types b s x) ms y → Ahead (ms ++ rest) old.marks → StmtDone g n scratch b s rest x y old new
 
 -- one statement, wherever it stands
 abbrev pub LowersStmt : Parts → Stmt → Walk → Walk → Type 0
@@ -327,10 +363,10 @@ pub record Begun (m : Method) (x : Emitter) : Type 0 where
   pub kinds : x.locals.kinds ≡ 3 ∷ map param_kind m.params
   pub scratch : x.locals.scratch ≡ path_behind m.body (suc (length m.params))
 
--- The code of what was emitted, of which so many locals are parameters.
-pub record CodeMade (x : Emitter) (count kind : ℕ) (code : Code) : Type 0 where
+-- The code of what was emitted, of which so many locals are parameters, and so many those of variables.
+pub record CodeMade (x : Emitter) (count above kind : ℕ) (code : Code) : Type 0 where
   pub is : IsCodeOf x count kind 4096 code
-  pub scratch : length x.locals.kinds ≡ x.locals.scratch
+  pub formed : Formed x count above
 
 -- The code has what was emitted: the locals of all variables, and the scratch ones behind them.
 pub record Finished (m : Method) (x : Emitter) (code : Code) : Type 0 where

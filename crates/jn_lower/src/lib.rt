@@ -10,6 +10,7 @@ pub mod classes;
 pub mod cursor;
 pub mod emitter;
 pub mod ending;
+pub mod formed;
 pub mod kinds;
 pub mod law;
 pub mod leaves;
@@ -23,7 +24,10 @@ pub mod walk;
 pub mod walk_body;
 pub mod walk_exprs;
 pub mod walk_locals;
+pub mod walk_members;
+pub mod walk_new;
 pub mod walk_stmts;
+pub mod walk_super;
 
 pub use emitter::Emitter;
 pub use walk_body::lower;

@@ -5,6 +5,7 @@ ghost use Rattle.jn_lower.specs.Walks.{kind_number, Had, Pushed};
 use crate::cursor::Marks;
 use crate::emitter::Emitter;
 use jn_agree::selectors::Selectors;
+use jn_base::path::Path;
 use jn_base::tree::Program;
 use jn_base::types::ValKind;
 use jn_code::Instr;
@@ -20,6 +21,8 @@ pub struct Parts<'a> {
     pub t: &'a Table,
     pub slots: &'a Slots,
     pub names: &'a Selectors,
+    /// The class that declares the body.
+    pub class: &'a Path,
 }
 
 /// A walk over a body: what was emitted so far, the marks that are left, and the kind of the value that was had last.

@@ -1,17 +1,21 @@
-ghost use Rattle.std.specs.Prelude.{◌≡◌, IfOk, OnOk};
+ghost use Rattle.std.specs.Prelude.{◌≡◌, ◌≤◌, ◌+◌, length, [], IfOk, OnOk};
+ghost use Rattle.jn_base.specs.Duplicates.{duplicates};
 ghost use Rattle.jn_sem.specs.Acts.{path_behind};
 ghost use Rattle.jn_sem.specs.Does.{Body};
+ghost use Rattle.jn_code.specs.Form.{CodeInForm};
 ghost use Rattle.jn_rules.specs.Headers.{Header};
 ghost use Rattle.jn_agree.specs.Naming.{Naming};
 ghost use Rattle.jn_places.specs.StmtPlaces.{TypedBodyAt};
 ghost use Rattle.jn_lower.specs.Emitted.{Adds};
 ghost use Rattle.jn_lower.specs.Written.{written_result, param_tests};
 ghost use Rattle.jn_lower.specs.Lowering.{PartsAre, BodyIs};
+ghost use Rattle.jn_lower.specs.Formed.{IsFormed};
 ghost use Rattle.jn_lower.specs.Walks.{IsAbove, DeclaresEach, Begun, CodeMade, Finished};
 
 use crate::cursor::Marks;
 use crate::emitter::Emitter;
 use crate::ending::code_of;
+use crate::formed::is_formed;
 use crate::kinds::{is_reference, written_kind};
 use crate::params::testing;
 use crate::path_behind::{next_number, path_behind};
@@ -20,6 +24,7 @@ use crate::walk::{Parts, Walk};
 use crate::walk_stmts::stmts;
 use jn_agree::selectors::Selectors;
 use jn_base::names::Resolved;
+use jn_base::path::Path;
 use jn_base::tree::{Method, Param, Program, Stmt, TypeTerm};
 use jn_code::Code;
 use jn_share::Slots;
@@ -99,15 +104,18 @@ fn test_params(out: &mut Emitter, params: &[Param]) -> Result<(), AllocError>
     Ok(())
 }
 
-/// The code of what was emitted. It has a local for each variable: where it hasn't, which never is, it is refused for
+/// The code of what was emitted. What isn't in the form of a code, or hasn't a local for each variable, is refused for
 /// want of memory. Its operands are counted as the most that an image may say.
-fn finish_with(alloc: Global, out: Emitter, count: usize, kind: u8) -> Result<Code, AllocError>
-    ensures { IfOk result (CodeMade out count kind) }
+fn finish_with(
+    alloc: Global,
+    out: Emitter,
+    count: usize,
+    above: u8,
+    kind: u8,
+) -> Result<Code, AllocError>
+    ensures { IfOk result (CodeMade out count above kind) }
 {
-    if out.locals.kinds.len() != out.locals.scratch as usize {
-        return Err(AllocError);
-    }
-    if count > out.locals.kinds.len() {
+    if !is_formed(&out, count, above) {
         return Err(AllocError);
     }
     code_of(alloc, out, count, kind, 4096)
@@ -115,16 +123,26 @@ fn finish_with(alloc: Global, out: Emitter, count: usize, kind: u8) -> Result<Co
 
 /// The code of what was emitted for the method.
 fn finish(alloc: Global, out: Emitter, m: &Method) -> Result<Code, AllocError>
-    ensures { IfOk result (Finished m.now out) }
+    ensures finished { IfOk result (Finished m.now out) }
+    ensures formed { IfOk result (IsFormed m.now) }
 {
+    let above = scratch_of(m)?;
     match next_number(m.params.len()) {
         None => Err(AllocError),
-        Some(count) => finish_with(alloc, out, count, written_result(&m.result)),
+        Some(count) => finish_with(alloc, out, count, above, written_result(&m.result)),
     }
 }
 
+/// The class that declares the body.
+fn declaring(r: &Resolved) -> &Path
+    ensures { result.now ≡ r.now.class }
+{
+    &r.class
+}
+
 /// The code of a body that was checked: it stands at the body's place. The parts are those of the program, and `r` is
-/// what is known of the body.
+/// what is known of the body. No name stands twice in the program. The code is in form, has room for 3,806 operands, and
+/// has at most three locals more than its body.
 pub fn lower(
     alloc: Global,
     p: &Program,
@@ -134,17 +152,24 @@ pub fn lower(
     r: &Resolved,
     s: &Selectors,
 ) -> Result<Code, AllocError>
-    ensures { IfOk result (λ code. (n : Naming) (b : Body) (k : Header) → PartsAre p.now t.now slots.now s.now n
+    requires { duplicates p.now ≡ [] }
+    ensures at { IfOk result (λ code. (n : Naming) (b : Body) (k : Header) → PartsAre p.now t.now slots.now s.now n
         → BodyIs p.now m.now r.now b k → TypedBodyAt p.now n b k code) }
+    ensures room { IfOk result (λ code. 3806 ≤ code.stack) }
+    ensures in_form { IfOk result CodeInForm }
+    ensures locals { IfOk result (λ code. length code.params + length code.locals
+        ≤ path_behind m.now.body (length code.params) + 3) }
 {
     let mut out = begin(alloc, m)?;
     test_params(&mut out, m.params.as_slice())?;
+    let class = declaring(r);
     let g = Parts {
         alloc,
         p,
         t,
         slots,
         names: s,
+        class,
     };
     let marks = Marks::of(r);
     let mut w = Walk {

@@ -3,7 +3,7 @@ ghost use Rattle.jn_base.specs.declared.tree.Named.{Named as ANamed};
 ghost use Rattle.jn_base.specs.declared.tree.Stmt.TheVariants as stmt;
 ghost use Rattle.jn_lower.specs.Emitted.{Adds};
 ghost use Rattle.jn_lower.specs.Stores.{stored};
-ghost use Rattle.jn_lower.specs.Walks.{BindsWritten, LowersStmt};
+ghost use Rattle.jn_lower.specs.Walks.{NoneTwice, BindsWritten, LowersStmt};
 
 use crate::emitter::Emitter;
 use crate::kinds::{is_reference, written_kind, written_terms};
@@ -45,6 +45,7 @@ pub fn local(
     ty: &TypeTerm,
     e: &Expr,
 ) -> Result<(), AllocError>
+    requires { NoneTwice g.now }
     ensures { OnOk result ((name : ANamed) → LowersStmt g.now (stmt.Local fixed ty.now name e.now) w.old w.new) }
 {
     w.marks.pass_terms(written_terms(ty))?;
@@ -59,6 +60,7 @@ pub fn local(
 
 /// An assignment to a variable.
 pub fn assign(g: &Parts, w: &mut Walk, e: &Expr) -> Result<(), AllocError>
+    requires { NoneTwice g.now }
     ensures { OnOk result ((name : ANamed) → LowersStmt g.now (stmt.Assign name e.now) w.old w.new) }
 {
     match w.marks.next_var() {

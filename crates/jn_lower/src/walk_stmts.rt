@@ -2,12 +2,13 @@ ghost use Rattle.std.specs.Prelude.{◌≡◌, ◌∷◌, [], Some, None, IfOk, 
 ghost use Rattle.jn_base.specs.declared.tree.Place.{Place as APlace};
 ghost use Rattle.jn_base.specs.declared.tree.Stmt.TheVariants as stmt;
 ghost use Rattle.jn_lower.specs.declared.walk.Parts.{Parts as AParts};
-ghost use Rattle.jn_lower.specs.Walks.{printed_by, Tested, Jumped, Joined, Repeated, LowersStmts, LowersStmt};
+ghost use Rattle.jn_lower.specs.Walks.{NoneTwice, printed_by, Tested, Jumped, Joined, Repeated, LowersStmts, LowersStmt};
 
 use crate::walk::{Parts, Walk, push, set};
-use crate::walk_exprs::value;
+use crate::walk_exprs::{effect, value};
 use crate::walk_locals::{assign, local};
-use jn_base::tree::{Expr, Stmt};
+use crate::walk_members::field_put;
+use jn_base::tree::{Expr, Named, Stmt};
 use jn_code::Instr;
 use std::alloc::AllocError;
 
@@ -23,6 +24,7 @@ fn printed_by(kind: u8) -> Instr
 
 /// `return` with a value.
 fn returns(g: &Parts, w: &mut Walk, e: &Expr) -> Result<(), AllocError>
+    requires { NoneTwice g.now }
     ensures { OnOk result ((pl : APlace) → LowersStmt g.now (stmt.Return (Some e.now) pl) w.old w.new) }
 {
     value(g, w, e)?;
@@ -38,6 +40,7 @@ fn ends(w: &mut Walk) -> Result<(), AllocError>
 
 /// `print` of a value.
 fn prints(g: &Parts, w: &mut Walk, e: &Expr) -> Result<(), AllocError>
+    requires { NoneTwice g.now }
     ensures { OnOk result ((pl : APlace) → LowersStmt g.now (stmt.Print e.now pl) w.old w.new) }
 {
     value(g, w, e)?;
@@ -51,6 +54,29 @@ fn prints_text(w: &mut Walk, text: u32) -> Result<(), AllocError>
     push(w, Instr::Printt(text))
 }
 
+/// An assignment to a field: the receiver, the value, and PUT.
+fn store(g: &Parts, w: &mut Walk, r: &Expr, f: Named, e: &Expr) -> Result<(), AllocError>
+    requires { NoneTwice g.now }
+    ensures { OnOk result (LowersStmt g.now (stmt.Set r.now f e.now) w.old w.new) }
+{
+    value(g, w, r)?;
+    match w.marks.next_member() {
+        None => Err(AllocError),
+        Some(path) => {
+            value(g, w, e)?;
+            field_put(g, w, path, f.name)
+        }
+    }
+}
+
+/// An expression whose value is dropped.
+fn drops(g: &Parts, w: &mut Walk, e: &Expr) -> Result<(), AllocError>
+    requires { NoneTwice g.now }
+    ensures { OnOk result (LowersStmt g.now (stmt.Do e.now) w.old w.new) }
+{
+    effect(g, w, e)
+}
+
 /// A jump without a target: its place, and that behind it.
 #[derive(Clone, Copy)]
 pub struct Jump {
@@ -60,6 +86,7 @@ pub struct Jump {
 
 /// A condition, and a jump that has no target yet: its place.
 fn tested(g: &Parts, w: &mut Walk, e: &Expr) -> Result<usize, AllocError>
+    requires { NoneTwice g.now }
     ensures { IfOk result (λ test. Tested g.now e.now test w.old w.new) }
 {
     value(g, w, e)?;
@@ -99,6 +126,7 @@ fn repeated(w: &mut Walk, start: u32, test: usize) -> Result<(), AllocError>
 /// Emits statements, one behind the other.
 #[cycle(stmts)]
 pub fn stmts(g: &Parts, w: &mut Walk, ss: &[Stmt]) -> Result<(), AllocError>
+    requires { NoneTwice g.now }
     ensures { OnOk result (LowersStmts g.now ss.now w.old w.new) }
 {
     for s in ss {
@@ -109,14 +137,15 @@ pub fn stmts(g: &Parts, w: &mut Walk, ss: &[Stmt]) -> Result<(), AllocError>
 
 #[cycle(stmts)]
 fn stmt(g: &Parts, w: &mut Walk, s: &Stmt) -> Result<(), AllocError>
+    requires { NoneTwice g.now }
     ensures { OnOk result (LowersStmt g.now s.now w.old w.new) }
 {
     match s {
         Stmt::Block(body) => stmts(g, w, body.as_slice()),
         Stmt::Local(fixed, ty, _, e) => local(g, w, *fixed, ty, e),
         Stmt::Assign(_, e) => assign(g, w, e),
-        Stmt::Set(_, _, _) => Err(AllocError),
-        Stmt::Do(_) => Err(AllocError),
+        Stmt::Set(r, f, e) => store(g, w, r, *f, e),
+        Stmt::Do(e) => drops(g, w, e),
         Stmt::If(e, one, other, _) => {
             let test = tested(g, w, e)?;
             stmts(g, w, one.as_slice())?;

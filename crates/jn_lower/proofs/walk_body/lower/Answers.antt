@@ -1,4 +1,4 @@
-use Rattle.std.proofs.Common.{List, ℕ, subst}
+use Rattle.std.proofs.Common.{List, ℕ, refl, subst}
 use Rattle.jn_base.specs.declared.tree.Param.{Param}
 use Rattle.jn_base.specs.declared.tree.Stmt.{Stmt}
 use Rattle.jn_agree.specs.Places.{last_return}
@@ -10,16 +10,24 @@ use Rattle.jn_lower.specs.Walks.{LowersStmts}
 use Rattle.jn_lower.proofs.NextLocals.{if_ok}
 use Rattle.jn_lower.proofs.Bodies.{body_stands}
 use Rattle.jn_lower.proofs.walk_body.lower.Goals as goal
-use Rattle.std.proofs.Common.{refl}
 
-pub returns : goal.returns
-returns c =
-    let g : Parts = record { alloc = c.args.alloc; p = c.args.p; t = c.args.t; slots = c.args.slots; names = c.args.s } in
+pub returns-clause-at : goal.returns-clause-at
+returns-clause-at c =
+    let g : Parts = record { alloc = c.args.alloc; p = c.args.p; t = c.args.t; slots = c.args.slots; names = c.args.s; class = c.declaring-class.result } in
     let w1 : Walk = record { out = c.test_params.new.out; marks = c.of-marks.result; last = 0 } in
     if_ok c.finish.result (λ code end n b k parts is. body_stands g n c.args.m.now c.args.r.now b k c.in_ok-out.out
-    c.test_params.new.out c.last_return.new.out w1 c.stmts.new.w code parts is c.in_ok-out.ensures
+    c.test_params.new.out c.last_return.new.out w1 c.stmts.new.w code parts c.declaring-class.ensures is c.in_ok-out.ensures
     (subst (λ (xs : List Param). Adds (param_tests 1 xs) c.in_ok-out.out c.test_params.new.out) c.as_slice.ensures c.in_ok-test_params.ensures)
     refl c.of-marks.ensures
     (subst (λ (ss : List Stmt). LowersStmts g ss w1 c.stmts.new.w) c.as_slice-2.ensures c.in_ok-stmts.ensures)
     (subst (λ (i : ℕ). Adds (last_return i) c.stmts.new.w.out c.last_return.new.out) c.written_result.ensures c.in_ok-last_return.ensures)
-    end) c.finish.ensures
+    end) c.finish.ensures.finished
+
+pub returns-clause-room : goal.returns-clause-room
+returns-clause-room c = if_ok c.finish.result (λ code f. f.room) c.finish.ensures.formed
+
+pub returns-clause-in_form : goal.returns-clause-in_form
+returns-clause-in_form c = if_ok c.finish.result (λ code f. f.in_form) c.finish.ensures.formed
+
+pub returns-clause-locals : goal.returns-clause-locals
+returns-clause-locals c = if_ok c.finish.result (λ code f. f.locals) c.finish.ensures.formed

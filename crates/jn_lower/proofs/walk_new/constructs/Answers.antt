@@ -1,0 +1,32 @@
+use Rattle.std.proofs.Common.{rules, ◌≡◌, ◌∙◌, IsTrue, sym, subst}
+use Rattle.jn_base.specs.Paths.{Path}
+use Rattle.jn_base.specs.Atoms.{atom_of}
+use Rattle.jn_base.specs.Scopes.{bound}
+use Rattle.jn_table.specs.Rows.{HasMethod}
+use Rattle.jn_names.proofs.Numbered.{numbered_known}
+use Rattle.jn_sem.specs.Sharing.{IsClass}
+use Rattle.jn_lower.proofs.Seen.{unlike}
+use Rattle.jn_lower.proofs.walk_new.constructs.Goals as goal
+
+pub returns : goal.returns
+returns c =
+    let p = c.args.g.now.p.now in
+    let t = c.args.g.now.t.now in
+    let B = c.in_ok-bound.bound in
+    let x = atom_of c.args.x.now in
+    let class : IsTrue c.is_class.result = search rules in
+    record {
+      yes = λ told filled s this.
+          let e : B ≡ bound s x = c.in_ok-bound.ensures s this in (
+            subst (IsClass p) e (record {
+              universe = numbered_known p t B _ filled c.in-Some.ensures.some;
+              kind = (c.is_class.ensures p filled).0 class;
+            }),
+            subst (λ (R : Path). HasMethod p R c.args.name) e
+                ((c.has_method.ensures p B filled c.in-Some.ensures.some).0 told),
+          );
+      no = λ told filled s this has.
+          let e : B ≡ bound s x = c.in_ok-bound.ensures s this in
+          unlike (sym told ∙ (c.has_method.ensures p B filled c.in-Some.ensures.some).1
+          (subst (λ (R : Path). HasMethod p R c.args.name) (sym e) has));
+    }
