@@ -342,7 +342,8 @@ module _ (p : Program) (t : Table) (m : Members) (g : Groups) (s : Slots) (names
             its_kind =
                 ap slot_kind named
                 ∙ (kind_counted other.entry.type other.entry.sel.kind other.entry.kind
-                ∙ one_kind V W f other.entry.sel.name one_slot.0 u other.entry.type one_slot.1 one_slot.2 type other.entry.is)
+                ∙ one_kind V W f other.entry.sel.name one_slot.0 u other.entry.type one_slot.1 one_slot.2
+                type other.entry.is)
 
         pub groups_are : GroupsAre p i n
         groups_are = record { there = there; size = sized_so; kinds = kinds_of }

@@ -135,7 +135,8 @@ entry_given names (z ∷ es) kinds e k c named l =
         slot = ap (λ (x : FieldEntry). x.slot) same;
         kind = k;
         named = subst (λ (x : FieldEntry). slice_get names x.selector ≡ Some k) (sym same) named;
-        at = kept ∙ (ap (λ (x : FieldEntry). slice_get (painted_by (slice_get names x.selector) x.slot kinds) e.slot) same
+        at = kept
+            ∙ (ap (λ (x : FieldEntry). slice_get (painted_by (slice_get names x.selector) x.slot kinds) e.slot) same
             ∙ (ap (λ (o : Option ℕ). slice_get (painted_by o e.slot kinds) e.slot) named
             ∙ set_same kinds e.slot (slot_kind k) l));
       }
