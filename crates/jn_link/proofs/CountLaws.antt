@@ -1,8 +1,4 @@
 -- The laws of what the verdict grants, and of counts.
-use Rattle.std.proofs.Common.{ℕ, List}
-use Rattle.jn_base.specs.declared.tree.Program.{Program}
-use Rattle.jn_base.specs.Spelling.{IsTextOf}
-use Rattle.jn_rules.specs.Verdict.{TreePasses}
 use Rattle.jn_place_laws.proofs.Declared.{declared}
 use Rattle.jn_link.specs.LawsOfCounts.{VerdictGrantsRows, SelectorsAreFew, EntriesAreFew}
 use Rattle.jn_link.proofs.Counts.{methods_short, shapes_in_form, few_fields, kinds_in_form}

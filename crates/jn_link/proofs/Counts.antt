@@ -1,8 +1,8 @@
 -- The lists of an image are no longer than those of the program.
-use Rattle.std.proofs.Common.{◌≡◌, ◌≤◌, ◌<◌, ◌+◌, ℕ, suc, List, [], ◌∷◌, length, map, All, Contains, Option, Some, None, ◌⊎◌, inl, inr, slice_get, get_or, refl, sym, ap, ◌∙◌, subst, arith}
+use Rattle.std.proofs.Common.{◌≡◌, ◌≤◌, ◌<◌, ◌+◌, ℕ, List, [], ◌∷◌, length, map, All, Contains, Option, Some, None, ◌⊎◌, inl, inr, slice_get, get_or, refl, sym, ap, ◌∙◌, subst, arith}
 use Rattle.std.proofs.lemmas.List.{length-map, get_or_default}
 use Rattle.std.proofs.lemmas.List.Elements.{All-map}
-use Rattle.std.proofs.lemmas.Option.{slice_get_read, slice_get_within, slice_get-get_or}
+use Rattle.std.proofs.lemmas.Option.{slice_get_read}
 use Rattle.jn_reach.specs.Each.{Each, none, more}
 use Rattle.jn_base.specs.declared.tree.Name.{Name}
 use Rattle.jn_base.specs.declared.tree.Param.{Param}
@@ -14,7 +14,6 @@ use Rattle.jn_base.proofs.NameTests.{in_cons, in_none}
 use Rattle.jn_base.specs.declared.types.Ty.{Ty}
 use Rattle.jn_base.specs.declared.types.Ty.TheVariants as ty
 use Rattle.jn_base.specs.Parts.{Part}
-use Rattle.jn_base.specs.Paths.{Path}
 use Rattle.jn_base.specs.Spelling.{SourceSpells, greatest_source}
 use Rattle.jn_table.proofs.Maps.{in_list}
 use Rattle.jn_names.specs.FieldTypes.{AtField, declared_fields}
@@ -22,7 +21,6 @@ use Rattle.jn_sem.specs.Does.{Body}
 use Rattle.jn_sem.specs.Slots.{FieldType}
 use Rattle.jn_sem.specs.Terms.{FieldTypeIs}
 use Rattle.jn_sem.specs.LawsOfFinding.{FoundOnceIn}
-use Rattle.jn_code.specs.declared.image.Shape.{Shape}
 use Rattle.jn_code.specs.Form.{IsKind, IsFieldKind, ShapeInForm}
 use Rattle.jn_agree.specs.declared.selectors.MethodSel.{MethodSel}
 use Rattle.jn_agree.specs.declared.selectors.FieldSel.{FieldSel}

@@ -1,5 +1,5 @@
 -- The rows of an image have no more entries than the program has.
-use Rattle.std.proofs.Common.{◌≡◌, ◌≤◌, ◌<◌, ◌+◌, ◌⊎◌, inl, inr, ℕ, zero, suc, List, [], ◌∷◌, ◌++◌, length, length-append, map, All, Contains, Option, Some, None, slice_get, refl, sym, ap, ◌∙◌, subst, nat_eq, arith}
+use Rattle.std.proofs.Common.{◌≡◌, ◌≤◌, ◌<◌, ◌+◌, ◌⊎◌, inl, inr, ℕ, zero, suc, List, [], ◌∷◌, ◌++◌, length, length-append, map, Contains, Option, Some, None, slice_get, refl, sym, ap, ◌∙◌, subst, nat_eq, arith}
 use Rattle.std.specs.List.{find}
 use Rattle.std.specs.Option.{option_map}
 use Rattle.std.proofs.lemmas.Bool.{cases_lt}
@@ -7,7 +7,6 @@ use Rattle.std.proofs.lemmas.List.{length-map}
 use Rattle.std.proofs.lemmas.Option.{slice_get_read}
 use Rattle.std.proofs.lemmas.List.Elements.{All-contains, Contains-append_cases}
 use Rattle.jn_reach.specs.Each.{Each, none, more}
-use Rattle.jn_reach.proofs.Eachs.{Each-at}
 use Rattle.jn_reach.proofs.Searches.{same_some}
 use Rattle.jn_base.specs.declared.tree.Name.{Name}
 use Rattle.jn_base.specs.declared.tree.Program.{Program}
@@ -18,7 +17,7 @@ use Rattle.jn_base.proofs.NameTests.{in_cons, in_none, first, later}
 use Rattle.jn_table.specs.declared.table.Table.{Table}
 use Rattle.jn_table.proofs.Maps.{in_list}
 use Rattle.jn_names.specs.declared.members.Members.{Members}
-use Rattle.jn_sem.specs.Sharing.{Related, family_of}
+use Rattle.jn_sem.specs.Sharing.{family_of}
 use Rattle.jn_sem.specs.Slots.{FieldType}
 use Rattle.jn_sem.specs.Does.{Body, IsBody}
 use Rattle.jn_sem.proofs.SharedLaws.{sharing_laws}

@@ -1,12 +1,11 @@
 -- Only classes have fields: in a source the body of a package has none.
-use Rattle.std.proofs.Common.{◌≡◌, ℕ, suc, List, [], ◌∷◌, Contains, ◌⊎◌, inl, inr, refl, sym, subst}
+use Rattle.std.proofs.Common.{◌≡◌, ℕ, suc, List, [], ◌∷◌, Contains, ◌⊎◌, inl, inr, refl, subst}
 use Rattle.jn_base.specs.declared.tree.Name.{Name}
 use Rattle.jn_base.specs.declared.tree.Field.{Field}
-use Rattle.jn_base.specs.declared.tree.Method.{Method}
 use Rattle.jn_base.specs.declared.tree.Decl.{Decl}
 use Rattle.jn_base.specs.declared.tree.Kind.{Kind}
 use Rattle.jn_base.specs.declared.tree.Kind.TheVariants as kind
-use Rattle.jn_base.specs.declared.tree.Member.{Member, out-Member}
+use Rattle.jn_base.specs.declared.tree.Member.{Member}
 use Rattle.jn_base.specs.declared.tree.Member.TheOpen.{Member-F}
 use Rattle.jn_base.specs.declared.tree.Member.TheVariants as member
 use Rattle.jn_base.specs.declared.tree.Member.TheVariants.{outs-Inner, outs-Slot, outs-Body}
@@ -16,7 +15,7 @@ use Rattle.jn_base.specs.Parts.{Part}
 use Rattle.jn_base.specs.Paths.{Path, StandsIn, StandsAt, nested, and_nested, fields, and_field}
 use Rattle.jn_base.specs.GrammarDecl.{IsMembers, IsMember, IsInner, IsTop, IsProgram}
 use Rattle.jn_base.specs.Supers.{itself}
-use Rattle.jn_base.specs.Members.{FieldAt, HasKind}
+use Rattle.jn_base.specs.Members.{FieldAt}
 use Rattle.jn_base.proofs.NameTests.{in_cons, in_none}
 use Rattle.jn_base.proofs.Reaching.{declared_in_universe}
 use Rattle.jn_laws.proofs.Bounded.{heir_there}

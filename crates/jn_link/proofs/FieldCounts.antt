@@ -1,5 +1,5 @@
 -- How many fields a program declares, by its list of them.
-use Rattle.std.proofs.Common.{◌≡◌, ◌+◌, ℕ, List, [], ◌∷◌, ◌++◌, length, length-append, map, Contains, refl, sym, ap, ◌∙◌, subst, arith}
+use Rattle.std.proofs.Common.{◌≡◌, ℕ, List, [], ◌∷◌, length, length-append, map, Contains, refl, sym, ap, ◌∙◌, subst, arith}
 use Rattle.jn_base.specs.declared.tree.Decl.{Decl, roll-Decl}
 use Rattle.jn_base.specs.declared.tree.Member.{Member, out-Member, fold-Member, roll-Member, out-roll-Member}
 use Rattle.jn_base.specs.declared.tree.Member.TheOpen.{Member-F}

@@ -1,5 +1,5 @@
 -- What the verdict grants of the rows of a program: shapes, types, and that each thing looked for is found once.
-use Rattle.std.proofs.Common.{◌≡◌, ℕ, List, [], ◌∷◌, length, map, Contains, Option, Some, None, Ok, refl, sym, ap, ◌∙◌, subst}
+use Rattle.std.proofs.Common.{◌≡◌, ℕ, List, map, Contains, Option, Some, None, refl, subst}
 use Rattle.jn_base.specs.declared.tree.Name.{Name}
 use Rattle.jn_base.specs.declared.tree.Field.{Field}
 use Rattle.jn_base.specs.declared.tree.TypeTerm.{TypeTerm}
@@ -8,23 +8,21 @@ use Rattle.jn_base.specs.declared.types.Ty.{Ty}
 use Rattle.jn_base.specs.declared.names.Var.{Var}
 use Rattle.jn_base.specs.Paths.{Path}
 use Rattle.jn_base.specs.Supers.{itself}
-use Rattle.jn_base.specs.Members.{FieldAt, FieldDecls, Least}
+use Rattle.jn_base.specs.Members.{FieldAt, FieldDecls}
 use Rattle.jn_base.specs.Spelling.{IsTextOf}
 use Rattle.jn_base.specs.TableRules.{DeclarationsPass}
-use Rattle.jn_base.specs.WithinLimits.{IsWithinLimits}
 use Rattle.jn_base.proofs.Unique.{one_field_at}
 use Rattle.jn_names.specs.FieldTypes.{AtField, declared_fields}
 use Rattle.jn_sem.specs.Sharing.{IsClass}
 use Rattle.jn_sem.specs.Slots.{FieldType}
-use Rattle.jn_sem.specs.Terms.{TypeIs, FieldTypeIs}
-use Rattle.jn_sem.specs.Does.{Body, IsBody, AreParams}
+use Rattle.jn_sem.specs.Terms.{FieldTypeIs}
+use Rattle.jn_sem.specs.Does.{Body, IsBody}
 use Rattle.jn_sem.specs.LawsOfFinding.{FoundOnceIn}
 use Rattle.jn_sem.specs.LawsOfSlots.{FieldsPass}
 use Rattle.jn_sem.proofs.FieldAnchors.{fields_pass}
 use Rattle.jn_sem.proofs.FindingLaws.{finds_one_in}
 use Rattle.jn_laws.specs.LawsOfPlaces.{WithinOf}
 use Rattle.jn_laws.proofs.PlacesAside.{programs_within_limits}
-use Rattle.jn_rules.specs.Headers.{Header}
 use Rattle.jn_rules.specs.Questions.{HasMethod}
 use Rattle.jn_rules.specs.Members.{BadMethod, no_least, bad_method}
 use Rattle.jn_rules.specs.LawsOfPlans.{RepliesAreOne}

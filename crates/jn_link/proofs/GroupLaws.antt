@@ -1,12 +1,12 @@
 -- The groups of an image are the program's: there is one for each class, of its size, with the kinds of its fields.
-use Rattle.std.proofs.Common.{◌≡◌, ◌≤◌, ◌<◌, ◌+◌, ◌-◌, ◌↔◌, ℕ, suc, List, [], ◌∷◌, length, map, min, All, Contains, Option, Some, None, Bool, true, false, nat_eq, eqb-true, get_or, ◌⊎◌, inl, inr, slice_get, replicate, refl, sym, ap, ◌∙◌, subst, arith, cond}
+use Rattle.std.proofs.Common.{◌≡◌, ◌≤◌, ◌<◌, ◌-◌, ℕ, suc, List, [], ◌∷◌, length, map, All, Contains, Some, Bool, true, false, nat_eq, eqb-true, get_or, ◌⊎◌, inl, inr, slice_get, refl, sym, ap, ◌∙◌, subst, arith, cond}
 use Rattle.std.specs.List.{find}
 use Rattle.std.specs.Option.{option_map}
 use Rattle.std.proofs.lemmas.List.{length-replicate}
 use Rattle.std.proofs.lemmas.List.Elements.{All-contains, All-replicate}
 use Rattle.std.proofs.lemmas.Bool.{cases_lt}
 use Rattle.std.proofs.lemmas.Option.{slice_get_read, slice_get-map, slice_get-get_or}
-use Rattle.jn_reach.specs.Each.{Each, none, more}
+use Rattle.jn_reach.specs.Each.{Each}
 use Rattle.jn_reach.proofs.Eachs.{Each-at, Each-back, Each-length}
 use Rattle.jn_reach.proofs.Searches.{same_some}
 use Rattle.jn_base.specs.declared.tree.Name.{Name}
@@ -16,15 +16,13 @@ use Rattle.jn_base.specs.declared.types.Ty.TheVariants as ty
 use Rattle.jn_base.specs.Paths.{Path}
 use Rattle.jn_base.specs.ClassOrder.{IsFirst}
 use Rattle.jn_base.specs.TableRules.{DeclarationsPass, NoneIs}
-use Rattle.jn_base.proofs.NameTests.{in_cons, in_none, first, later}
-use Rattle.jn_table.specs.declared.class.ClassId.{ClassId}
+use Rattle.jn_base.proofs.NameTests.{in_none, first, later}
 use Rattle.jn_table.specs.declared.table.Table.{Table}
 use Rattle.jn_table.specs.Rows.{IsNumber}
 use Rattle.jn_table.proofs.Maps.{in_list}
-use Rattle.jn_table.proofs.Shown.{same_id}
 use Rattle.jn_names.specs.declared.members.Members.{Members}
 use Rattle.jn_sem.specs.Sharing.{IsClass, Related, HangsOnThis}
-use Rattle.jn_sem.specs.Slots.{Slot, IsSlot, SlotOfGroup, IsSize, FieldType}
+use Rattle.jn_sem.specs.Slots.{Slot, IsSlot, IsSize, FieldType}
 use Rattle.jn_sem.specs.LawsOfSlots.{FieldsPass}
 use Rattle.jn_sem.specs.LawsOfSharing.{SharingOf}
 use Rattle.jn_sem.proofs.Codes.{contains_of}
@@ -53,8 +51,8 @@ use Rattle.jn_layout.specs.RowLists.{RowsRight}
 use Rattle.jn_layout.proofs.Faultless.{told_own}
 use Rattle.jn_layout.proofs.PartProof.{at_class, one_number}
 use Rattle.jn_link.specs.Start.{sel_kind}
-use Rattle.jn_link.specs.Groups.{slot_kind, painted_rows, IsBlankFor, AreGroupsFor, GivesGroups}
-use Rattle.jn_link.proofs.Painting.{IsGiven, IsGivenIn, IsPainted, group_painted, row_given, painted_in_form, painted_rows_long}
+use Rattle.jn_link.specs.Groups.{slot_kind, IsBlankFor, AreGroupsFor, GivesGroups}
+use Rattle.jn_link.proofs.Painting.{IsGivenIn, IsPainted, group_painted, row_given, painted_in_form, painted_rows_long}
 
 -- ---- the entry of a slot
 
