@@ -1,44 +1,30 @@
 -- The image that was made is that of the program.
-use Rattle.std.proofs.Common.{◌≡◌, ◌≤◌, ◌<◌, ◌+◌, ◌⊎◌, inl, inr, ℕ, zero, suc, List, [], ◌∷◌, ◌++◌, length, length-append, map, All, Contains, Option, Some, None, Ok, slice_get, get_or, refl, sym, ap, ◌∙◌, subst, arith}
+use Rattle.std.proofs.Common.{◌≡◌, ◌≤◌, ◌<◌, ◌+◌, ℕ, zero, suc, List, [], ◌∷◌, ◌++◌, length, length-append, map, All, Contains, Some, slice_get, get_or, refl, sym, ap, ◌∙◌, subst, arith}
 use Rattle.std.specs.Option.{option_map}
-use Rattle.std.proofs.lemmas.List.{length-map, get_or_default}
-use Rattle.std.proofs.lemmas.List.Elements.{All-contains}
+use Rattle.std.proofs.lemmas.List.{length-map}
 use Rattle.std.proofs.lemmas.Option.{slice_get_within, slice_get-map, slice_get-get_or}
-use Rattle.jn_reach.specs.Each.{Each, none, more}
 use Rattle.jn_reach.proofs.Eachs.{Each-at, Each-length}
 use Rattle.jn_reach.proofs.Searches.{same_some}
-use Rattle.jn_base.specs.declared.names.Resolved.{Resolved}
-use Rattle.jn_base.specs.declared.tree.Name.{Name}
 use Rattle.jn_base.specs.declared.tree.Text.{Text}
 use Rattle.jn_base.specs.declared.tree.Program.{Program}
 use Rattle.jn_base.specs.declared.path.Path.{Path as ShownPath}
 use Rattle.jn_base.specs.Paths.{Path, shown}
-use Rattle.jn_base.specs.ClassOrder.{class_cmp}
 use Rattle.jn_base.specs.Spelling.{greatest_source}
-use Rattle.jn_base.specs.Universe.{InUniverse}
 use Rattle.jn_table.specs.declared.table.Table.{Table}
 use Rattle.jn_table.specs.Answers.{AreRows}
 use Rattle.jn_table.proofs.Maps.{in_list, list_at}
 use Rattle.jn_table.proofs.Shown.{at_shown}
 use Rattle.jn_names.specs.declared.members.Members.{Members}
-use Rattle.jn_sem.specs.Does.{Body, IsBody}
-use Rattle.jn_rules.specs.Headers.{Header}
+use Rattle.jn_sem.specs.Does.{Body}
 use Rattle.jn_rules.specs.Resolved.{IsResolved}
 use Rattle.jn_rules.specs.Verdict.{LimitsPass}
-use Rattle.jn_rule_laws.specs.LawsOfHeaders.{IsHeader}
 use Rattle.jn_rule_laws.proofs.HeaderLaws.{header_forth}
 use Rattle.jn_share.specs.declared.groups.Groups.{Groups}
-use Rattle.jn_share.specs.declared.slots.Slots.{Slots}
-use Rattle.jn_share.specs.Pairing.{IsAt}
 use Rattle.jn_code.specs.declared.image.Text as image
 use Rattle.jn_code.specs.declared.image.Image.{Image}
 use Rattle.jn_code.specs.declared.image.Code.{Code}
 use Rattle.jn_code.specs.declared.image.Shape.{Shape}
-use Rattle.jn_code.specs.declared.image.Group.{Group}
 use Rattle.jn_code.specs.Form.{CodeInForm, IsFieldKind, GroupInForm, ShapeInForm, InForm}
-use Rattle.jn_agree.specs.declared.selectors.Selectors.{Selectors}
-use Rattle.jn_agree.specs.declared.selectors.FieldSel.{FieldSel}
-use Rattle.jn_agree.specs.declared.selectors.MethodSel.{MethodSel}
 use Rattle.jn_agree.specs.Naming.{Naming}
 use Rattle.jn_agree.specs.Rows.{RowsAre, Classes, RowIs, SelectorsAre, GroupsAre, bodies_of}
 use Rattle.jn_lower.specs.Lowering as lowering
@@ -192,16 +178,16 @@ module _ (g : Parts) (m : Members) (gs : Groups) (i : Image) (few_names : length
     one_class : (j k : ℕ) (R : Path) → slice_get n.classes j ≡ Some R → slice_get n.classes k ≡ Some R → j ≡ k
     one_class j k R a b =
         one_number p t asked.parts.filled j k R (at_class t n rows_of.shown_are j R a)
-            (at_class t n rows_of.shown_are k R b)
+        (at_class t n rows_of.shown_are k R b)
 
     classes : Classes p n.classes
     classes = record {
       exact = λ R. (
         rows_of.universe R,
         λ u. let w = asked.parts.filled.whole.whole R u in
-        in_list n.classes w.0.0 R
-        (at_shown n.classes w.0.0 R (subst (λ (xs : List ShownPath). slice_get xs w.0.0 ≡ Some
-            (shown R)) rows_of.shown_are w.1))
+            in_list n.classes w.0.0 R
+            (at_shown n.classes w.0.0 R (subst (λ (xs : List ShownPath). slice_get xs w.0.0 ≡ Some
+            (shown R)) rows_of.shown_are w.1)),
       );
       in_order = rows_of.in_order;
       once = one_class;
@@ -424,7 +410,7 @@ module _ (g : Parts) (m : Members) (gs : Groups) (i : Image) (few_names : length
       methods = subst (λ (xs : List Shape). All ShapeInForm xs) (sym made.lists.methods)
           (shapes_in_form p n.methods n.fields sels_only (λ b c.
           (granted.within p bytes asked.text asked.passes).limits.params b.class b.method.name.name b.method
-              (declared p b c)));
+          (declared p b c)));
       fields_count = omega (arith, fields_many, fields_few, bodies_few);
       fields = field_kinds;
       groups_count = omega (arith, groups_many, few_groups, few_classes);

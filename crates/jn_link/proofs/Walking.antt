@@ -7,7 +7,6 @@ use Rattle.jn_base.specs.declared.tree.Method.{Method}
 use Rattle.jn_base.specs.declared.tree.Member.{Member}
 use Rattle.jn_base.specs.declared.tree.Member.TheVariants as member
 use Rattle.jn_base.specs.declared.tree.Member.TheVariants.{outs-Inner, outs-Slot, outs-Body}
-use Rattle.jn_base.specs.declared.tree.Program.{Program}
 use Rattle.jn_base.specs.declared.names.Resolved.{Resolved}
 use Rattle.jn_base.specs.Paths.{Path}
 use Rattle.jn_code.specs.declared.image.Code.{Code}
@@ -49,7 +48,7 @@ all_joined : (g : Parts) (xs ys : List Body) (a b c : List Code) → LowersAll g
     → LowersAll g (xs ++ ys) a c
 all_joined g xs ys a b c x y =
     let long : length b ≡ length a + length x.more =
-        ap (λ (cs : List Code). length cs) x.is ∙ length-append a x.more in
+    ap (λ (cs : List Code). length cs) x.is ∙ length-append a x.more in
     record {
       more = x.more ++ y.more;
       is = y.is ∙ (ap (λ (o : List Code). o ++ y.more) x.is ∙ append_assoc a x.more y.more);
