@@ -37,8 +37,8 @@ contained xs k x e = (k, slice_get_within xs k x e, get_or_from_slice_get xs k x
 within_limits : (p : Program) (bytes : List ℕ) → IsTextOf p bytes → IsWithinLimits p
 within_limits p bytes text = record { source = bytes; spelled = p; same = refl; is_text = text }
 
-short : (p : Program) (bytes : List ℕ) → IsTextOf p bytes → length bytes ≤ greatest_source
-short p bytes text = by (nat_lt greatest_source (length bytes)) refl
+pub source_short : (p : Program) (bytes : List ℕ) → IsTextOf p bytes → length bytes ≤ greatest_source
+source_short p bytes text = by (nat_lt greatest_source (length bytes)) refl
   where
     by : (b : Bool) → nat_lt greatest_source (length bytes) ≡ b → length bytes ≤ greatest_source
     by true e = absurd (text.not_refused _ (too_long (ltb-true greatest_source (length bytes) e)))
@@ -143,5 +143,6 @@ joined_are_images p bytes text ok i n all =
       valid = record { none = all.faultless ∙ codes_valid p deep i n all.rows codes };
       agrees = image_agrees_so p (within_limits p bytes text) ok i n all.rows all.few
           (λ j b c e f k h. (all.bodies j b c e f).at k h) last.0 last.1 start.at start.void;
-      within = files_stand p bytes text.spelled (short p bytes text) deep i n all.rows all.in_form codes all.fits;
+      within =
+          files_stand p bytes text.spelled (source_short p bytes text) deep i n all.rows all.in_form codes all.fits;
     }

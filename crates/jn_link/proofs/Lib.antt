@@ -1,3 +1,4 @@
+pub mod Assembling
 pub mod CountLaws
 pub mod Counts
 pub mod Entries
@@ -9,3 +10,4 @@ pub mod GroupLaws
 pub mod Joining
 pub mod Painting
 pub mod Starting
+pub mod Walking
