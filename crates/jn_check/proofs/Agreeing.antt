@@ -11,11 +11,11 @@ use Rattle.jn_base.specs.declared.types.Ty.TheVariants as ty
 use Rattle.jn_base.specs.declared.refusal.Refusal.{Refusal}
 use Rattle.jn_base.specs.Paths.{Path}
 use Rattle.jn_base.specs.Atoms.{Atom, atoms_in, atom_at, Among, first, later, first_at, no_masks, MasksOf}
-use Rattle.jn_base.specs.Scopes.{Bind, Scope, bound_of, bound, Binds, this_bind, this_type}
-use Rattle.jn_base.specs.Fits.{Anchored, AtomsFit, IsClassType, TypeFits, BindsFit, ScopeFits}
+use Rattle.jn_base.specs.Scopes.{Bind, Scope, bound_of, Binds, this_bind, this_type}
+use Rattle.jn_base.specs.Fits.{Anchored, AtomsFit, IsClassType, BindsFit, ScopeFits}
 use Rattle.jn_base.specs.Resolve.{is_class}
 use Rattle.jn_sem.proofs.NormalTypes.{among_map, map_among}
-use Rattle.jn_rules.specs.Plans.{EitherMasks, Plan, done, ask, then_do}
+use Rattle.jn_rules.specs.Plans.{EitherMasks, done, ask}
 use Rattle.jn_rules.specs.Questions.{masks_of, InEither, Gives}
 use Rattle.jn_rules.specs.Stmts.{remasked, with_masks, joined_type, joined}
 use Rattle.jn_rules.proofs.PlanLaws.{then_came}

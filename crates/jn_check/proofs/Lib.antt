@@ -5,6 +5,13 @@ pub mod Telling
 pub mod TypeLaws
 pub mod SimpleLaws
 pub mod KeptLaws
+pub mod LocalLaws
+pub mod DropLaws
+pub mod SetLaws
+pub mod StmtSteps
+pub mod BlockSteps
+pub mod BodySteps
+pub mod Stopping
 pub mod Mains
 pub mod Walking
 pub mod Verdicts

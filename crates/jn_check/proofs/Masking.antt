@@ -1,5 +1,5 @@
 -- The masks without a field's, those of two ends, and the binds of a scope with them.
-use Rattle.std.proofs.Common.{◌≡◌, ◌<◌, ◌≤◌, ◌+◌, ◌^◌, ◌&&◌, ℕ, List, [], ◌∷◌, ◌++◌, length, take, drop, map, reverse, get_or, slice_get, Bool, true, false, cond, nat_eq, Some, All, refl, sym, ap, ◌∙◌, subst, ◌↔◌, ◌⊎◌, inl, inr, arith, eqb-true, zero, suc, bit_or, Result, Ok, Err, IfOk}
+use Rattle.std.proofs.Common.{◌≡◌, ◌<◌, ◌≤◌, ◌+◌, ◌^◌, ◌&&◌, ℕ, List, [], ◌∷◌, ◌++◌, length, take, drop, map, reverse, get_or, slice_get, Bool, true, false, cond, nat_eq, Some, All, refl, sym, ap, ◌∙◌, subst, ◌↔◌, inl, inr, arith, eqb-true, zero, suc, bit_or, Result, Ok, Err, IfOk}
 use Rattle.std.proofs.lemmas.Bool.{cases_lt}
 use Rattle.std.proofs.lemmas.Option.{slice_get-get_or, slice_get_within}
 use Rattle.std.proofs.lemmas.List.{reverse-append, map-append, take-append-drop}
@@ -10,7 +10,7 @@ use Rattle.jn_base.specs.declared.tree.Program.{Program}
 use Rattle.jn_base.specs.declared.types.Masks.{Masks}
 use Rattle.jn_base.specs.declared.types.Ty.{Ty}
 use Rattle.jn_base.specs.declared.types.Ty.TheVariants as ty
-use Rattle.jn_base.specs.Atoms.{HasMask, MasksOf, Among, first, later}
+use Rattle.jn_base.specs.Atoms.{HasMask, MasksOf, first, later}
 use Rattle.jn_base.specs.Scopes.{Bind, Scope, Binds}
 use Rattle.jn_base.specs.Fits.{BindsFit}
 use Rattle.jn_base.specs.Resolve.{is_class}
@@ -19,7 +19,7 @@ use Rattle.jn_intern.specs.declared.pool.TyId.{TyId}
 use Rattle.jn_intern.specs.Pools.{InPool, Keeps, shown, bind_in}
 use Rattle.jn_intern.proofs.Pools.{keeps_same, keeps_more}
 use Rattle.jn_subtype.specs.Binds.{binds_in}
-use Rattle.jn_rules.specs.Plans.{EitherMasks, ask, done, then_do}
+use Rattle.jn_rules.specs.Plans.{EitherMasks, ask, done}
 use Rattle.jn_rules.specs.Questions.{masks_of, KeptMask, InEither, Notes}
 use Rattle.jn_rules.specs.Stmts.{remasked, with_masks, joined_type, joined}
 use Rattle.jn_rules.proofs.PlanLaws.{then_notes}
@@ -62,15 +62,11 @@ module _ (names : List Name) (m : Masks) (f : Name) (i : ℕ) where
       λ same n. h.1 (omega (arith, same)) (subst (λ (k : ℕ). slice_get names k ≡ Some f) (sym same) (name_at d l ∙ ap Some n)),
     )
 
-  pub kept_all : (kept : Masks) → length names ≤ i → KeptBelow names m f i kept → length kept.0 ≡ 4 → All (λ w. w < 2 ^ 64) kept.0 → MasksOf (KeptMask names m f) kept
-  kept_all kept l so words wide = record {
-    words = words;
-    wide = wide;
-    each = λ j b. (
-      λ h. let k = (so j).0 h in (k.0, λ e. k.1 (let w = slice_get_within names j f e in omega (arith, w, l)) e),
-      λ h. (so j).1 (h.0, λ w e. h.1 e),
-    );
-  }
+  pub kept_all : (kept : Masks) → length names ≤ i → KeptBelow names m f i kept → (j : ℕ) → HasMask kept j ↔ KeptMask names m f j
+  kept_all kept l so j = (
+    λ h. let k = (so j).0 h in (k.0, λ e. k.1 (let w = slice_get_within names j f e in omega (arith, w, l)) e),
+    λ h. (so j).1 (h.0, λ w e. h.1 e),
+  )
 
 -- ---- types at two ends
 

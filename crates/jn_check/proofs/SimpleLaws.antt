@@ -1,21 +1,18 @@
 -- Conditions, calls, `print` and `return`.
-use Rattle.std.proofs.Common.{◌≡◌, ℕ, List, [], ◌∷◌, Bool, true, false, not, ◌||◌, Option, Some, None, Result, Ok, Err, refl, sym, ap, ◌∙◌, subst}
+use Rattle.std.proofs.Common.{◌≡◌, Bool, true, false, not, Option, Some, None, Result, Ok, Err, sym, ap, subst}
 use Rattle.std.specs.Prelude.{OnOk}
 use Rattle.jn_base.specs.declared.tree.Place.{Place}
-use Rattle.jn_base.specs.declared.tree.Method.{Method}
 use Rattle.jn_base.specs.declared.tree.Expr.{Expr}
 use Rattle.jn_base.specs.declared.tree.Program.{Program}
 use Rattle.jn_base.specs.declared.types.Ty.{Ty}
 use Rattle.jn_base.specs.declared.names.Resolved.{Resolved}
-use Rattle.jn_base.specs.Paths.{Path}
 use Rattle.jn_heads.specs.declared.fault.CheckFault.{CheckFault}
 use Rattle.jn_rules.specs.Plans.{IsBelow, Plan, done, refuse, ask, then_do, wants}
-use Rattle.jn_rules.specs.Exprs.{Typed, mismatch, is_int, is_bool}
-use Rattle.jn_rules.specs.Stmts.{Before, In, here, typed, typed_below, condition, print_typed, return_typed, is_void}
-use Rattle.jn_expr.specs.Told.{Adds, Went, PlanTold, FaultIs}
+use Rattle.jn_rules.specs.Exprs.{mismatch}
+use Rattle.jn_rules.specs.Stmts.{Before, In, here, typed, typed_below, return_typed, is_void}
+use Rattle.jn_expr.specs.Told.{Went, PlanTold, FaultIs}
 use Rattle.jn_expr.specs.Steps.{Leads, LeadsTold}
-use Rattle.jn_expr.proofs.Leading.{leads_here, leads_want, leads_done, leads_told}
-use Rattle.jn_check.specs.States.{in_at, before_in}
+use Rattle.jn_expr.proofs.Leading.{leads_here, leads_want, leads_done}
 use Rattle.jn_check.proofs.Telling.{fault_wanted, told_fault}
 
 module _ (p : Program) (b : In) (x : Before) (e : Expr) (a : Resolved) where

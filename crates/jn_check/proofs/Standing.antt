@@ -1,6 +1,6 @@
 -- Where a statement stands: scopes that fit, one more local, out of a block, and back to the masks before.
-use Rattle.std.proofs.Common.{Bool, ◌≡◌, ◌<◌, ◌≤◌, ◌+◌, ◌-◌, ℕ, suc, List, [], ◌∷◌, ◌++◌, length, length-append, take, drop, map, reverse, refl, sym, ap, ◌∙◌, subst, All, ◌⊎◌, inl, inr, arith, append-nil, append_assoc}
-use Rattle.std.proofs.lemmas.List.{reverse-append, map-append, take-append-drop, length-reverse, length-map, length-take-le, drop-map, take-map}
+use Rattle.std.proofs.Common.{Bool, ◌≡◌, ◌<◌, ◌≤◌, ◌+◌, ◌-◌, ℕ, List, [], ◌∷◌, ◌++◌, length, length-append, take, drop, map, reverse, refl, sym, ap, ◌∙◌, subst, All, ◌⊎◌, inl, inr, arith, append-nil}
+use Rattle.std.proofs.lemmas.List.{reverse-append, take-append-drop, length-reverse, length-map, length-take-le, drop-map, take-map}
 use Rattle.std.proofs.lemmas.List.Elements.{All-append, All-cons, All-nil, All-take}
 use Rattle.std.proofs.Math.Seq.{take-append_seam, drop-append_seam}
 use Rattle.jn_base.specs.declared.tree.Name.{Name}
@@ -11,7 +11,7 @@ use Rattle.jn_base.specs.declared.names.Role.TheVariants as role
 use Rattle.jn_base.specs.Paths.{Path}
 use Rattle.jn_base.specs.Atoms.{Among, first, later}
 use Rattle.jn_base.specs.Scopes.{Bind, Scope, Binds, this_bind}
-use Rattle.jn_base.specs.Fits.{BindsFit, ScopeFits}
+use Rattle.jn_base.specs.Fits.{ScopeFits}
 use Rattle.jn_base.specs.Resolve.{class_of, var_bind}
 use Rattle.jn_sem.specs.Terms.{spot_at}
 use Rattle.jn_sem.specs.Does.{var}
@@ -25,7 +25,7 @@ use Rattle.jn_laws.specs.LawsOfWritten.{Shallow, site_with, scope_of, SiteFits, 
 use Rattle.jn_laws.proofs.Terms.{reverse_among}
 use Rattle.jn_laws.proofs.WrittenTypes.{one_more, scope_more, among_more}
 use Rattle.jn_subtype.specs.Binds.{binds_in}
-use Rattle.jn_rules.specs.Stmts.{Before, with_local, out_of}
+use Rattle.jn_rules.specs.Stmts.{with_local, out_of}
 use Rattle.jn_expr.specs.declared.env.Env.{Env}
 use Rattle.jn_expr.specs.Envs.{Parts, parts, ArePartsOf, IsScope, Stays}
 use Rattle.jn_expr.specs.Passing.{Grows}
@@ -73,7 +73,7 @@ module _ (C : Path) (m : Name) (vars : List Var) where
   abbrev pub Q : Path
   Q = class_of (spot_at (site_with C m vars) role.Value)
 
-  this_there : Among (scope_of (site_with C m vars)) (this_bind Q)
+  pub this_there : Among (scope_of (site_with C m vars)) (this_bind Q)
   this_there =
       subst (λ (c : Scope). Among c (this_bind Q)) (sym (reverse-append (this_bind Q ∷ []) (map var_bind vars)))
       (last_among (reverse (map var_bind vars)) (this_bind Q))

@@ -1,7 +1,5 @@
 -- What is told of a statement by what is told of its parts.
-use Rattle.std.proofs.Common.{◌≡◌, ℕ, suc, List, [], ◌∷◌, ◌++◌, Bool, true, false, not, Option, Some, None, Result, Ok, Err, refl, sym, ap, ◌∙◌, subst}
-use Rattle.jn_base.specs.declared.tree.Named.{Named}
-use Rattle.jn_base.specs.declared.tree.Place.{Place}
+use Rattle.std.proofs.Common.{◌≡◌, ℕ, List, Bool, true, false, Result, Ok, Err, sym, ap, ◌∙◌, subst}
 use Rattle.jn_base.specs.declared.tree.Method.{Method}
 use Rattle.jn_base.specs.declared.tree.Expr.{Expr}
 use Rattle.jn_base.specs.declared.tree.Program.{Program}
@@ -9,20 +7,19 @@ use Rattle.jn_base.specs.declared.types.Ty.{Ty}
 use Rattle.jn_base.specs.declared.names.Var.{Var}
 use Rattle.jn_base.specs.declared.names.Resolved.{Resolved}
 use Rattle.jn_base.specs.declared.refusal.Refusal.{Refusal}
-use Rattle.jn_base.specs.declared.refusal.Rule.TheVariants as rule
 use Rattle.jn_base.specs.Paths.{Path}
 use Rattle.jn_base.specs.Scopes.{Scope}
 use Rattle.jn_heads.specs.declared.fault.CheckFault.{CheckFault}
 use Rattle.jn_heads.specs.declared.fault.CheckFault.TheVariants.{Refused, Memory}
-use Rattle.jn_rules.specs.Plans.{VarMark, IsBelow, Plan, done, note, ask, then_do, wants, refuse}
-use Rattle.jn_rules.specs.Questions.{Means, Gives, Notes}
-use Rattle.jn_rules.specs.Exprs.{Here, Typed, expr_types, mismatch, of_name}
-use Rattle.jn_rules.specs.Stmts.{Before, In, here, typed, typed_below, local_with, with_local, assign_typed, return_typed, is_void}
+use Rattle.jn_rules.specs.Plans.{IsBelow, Plan, done, ask, then_do, wants, refuse}
+use Rattle.jn_rules.specs.Questions.{Means}
+use Rattle.jn_rules.specs.Exprs.{Here, Typed, expr_types, mismatch}
+use Rattle.jn_rules.specs.Stmts.{Before, typed_below}
 use Rattle.jn_rules.proofs.PlanLaws.{then_refuses}
 use Rattle.jn_expr.specs.Envs.{here_at}
-use Rattle.jn_expr.specs.Told.{Adds, Went, PlanTold, FaultIs}
+use Rattle.jn_expr.specs.Told.{Went, PlanTold, FaultIs}
 use Rattle.jn_expr.specs.Steps.{Leads, LeadsTold}
-use Rattle.jn_expr.proofs.Leading.{leads_here, leads_ask, leads_note, leads_then, leads_want, leads_done, leads_told, leads_leads, leads_is}
+use Rattle.jn_expr.proofs.Leading.{leads_here, leads_ask, leads_then, leads_want, leads_done}
 use Rattle.jn_check.specs.States.{in_at, before_in}
 
 -- ---- refusals

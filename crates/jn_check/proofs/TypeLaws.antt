@@ -1,12 +1,10 @@
 -- The written types of locals.
-use Rattle.std.proofs.Common.{◌≡◌, ◌<◌, ◌≤◌, ◌+◌, ℕ, List, [], ◌∷◌, ◌++◌, length, take, map, get_or, Result, Ok, Err, refl, sym, ap, ◌∙◌, subst, append_assoc}
+use Rattle.std.proofs.Common.{◌≡◌, ◌<◌, ◌≤◌, ◌+◌, ℕ, List, [], ◌∷◌, ◌++◌, length, take, map, get_or, Ok, Err, refl, sym, ap, ◌∙◌, subst, append_assoc}
 use Rattle.std.proofs.lemmas.List.{take_more, take_all, map-append}
 use Rattle.jn_base.specs.declared.tree.TypeTerm.{TypeTerm}
 use Rattle.jn_base.specs.declared.tree.Program.{Program}
 use Rattle.jn_base.specs.declared.types.Atom.{Atom as ShownAtom}
-use Rattle.jn_base.specs.declared.types.Masks.{Masks}
 use Rattle.jn_base.specs.declared.types.Ty.{Ty}
-use Rattle.jn_base.specs.declared.types.Ty.TheVariants as ty
 use Rattle.jn_base.specs.declared.names.Resolved.{Resolved}
 use Rattle.jn_base.specs.declared.names.Role.TheVariants as role
 use Rattle.jn_base.specs.declared.refusal.Refusal.{Refusal}
@@ -14,7 +12,6 @@ use Rattle.jn_base.specs.Scopes.{Scope}
 use Rattle.jn_base.specs.Fits.{TypeFits}
 use Rattle.jn_base.specs.ResolveTypes.{mask_names}
 use Rattle.jn_sem.specs.Normal.{same_path}
-use Rattle.jn_sem.specs.NormalFunction.{normal_type}
 use Rattle.jn_sem.specs.Terms.{Site}
 use Rattle.jn_sem.proofs.NormalTypes.{type_subst_is}
 use Rattle.jn_laws.specs.LawsOfWritten.{Shallow, TypeWellFormed, scope_of, SiteFits, TypeThere}

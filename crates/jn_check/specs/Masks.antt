@@ -1,11 +1,11 @@
 -- The masks of types and of scopes, by numbers of a pool.
-use Rattle.std.specs.Prelude.{◌≡◌, ◌↔◌, ℕ, List, [], cond, nat_eq}
+use Rattle.std.specs.Prelude.{◌≡◌, ◌↔◌, ℕ, [], cond, nat_eq}
 use Rattle.jn_base.specs.declared.tree.Name.{Name}
 use Rattle.jn_base.specs.declared.tree.Program.{Program}
 use Rattle.jn_base.specs.declared.types.Masks.{Masks}
 use Rattle.jn_base.specs.declared.types.Ty.{Ty}
 use Rattle.jn_base.specs.Atoms.{HasMask, no_masks}
-use Rattle.jn_base.specs.Scopes.{Bind, Scope}
+use Rattle.jn_base.specs.Scopes.{Bind}
 use Rattle.jn_rules.specs.Questions.{Notes}
 use Rattle.jn_rules.specs.Stmts.{remasked, joined_type}
 

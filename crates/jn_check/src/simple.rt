@@ -114,7 +114,7 @@ pub fn check_print(
 }
 
 /// Whether it is the type void.
-fn is_void(ty: &Ty) -> bool
+pub fn is_void(ty: &Ty) -> bool
     ensures { result ≡ is_void ty.now }
 {
     match ty {

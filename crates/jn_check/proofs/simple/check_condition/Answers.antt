@@ -1,5 +1,5 @@
 use Rattle.std.proofs.Common.{sym, ap, ◌∙◌, refl}
-use Rattle.jn_intern.specs.Pools.{scope_in, shown}
+use Rattle.jn_intern.specs.Pools.{shown}
 use Rattle.jn_rules.specs.Plans.{wants}
 use Rattle.jn_rules.specs.Exprs.{is_bool, mismatch}
 use Rattle.jn_rules.specs.Stmts.{here, condition}

@@ -1,7 +1,7 @@
-use Rattle.std.proofs.Common.{Ok, refl, sym, ap, ◌∙◌, ◌||◌, false, true, Bool}
+use Rattle.std.proofs.Common.{Ok, refl, sym, ap, ◌∙◌, ◌||◌, Bool}
 use Rattle.jn_base.specs.declared.types.Ty.{Ty}
 use Rattle.jn_intern.specs.declared.pool.TyId.{TyId}
-use Rattle.jn_intern.specs.Pools.{scope_in, shown}
+use Rattle.jn_intern.specs.Pools.{shown}
 use Rattle.jn_rules.specs.Plans.{wants, done}
 use Rattle.jn_rules.specs.Exprs.{is_int, is_bool, mismatch}
 use Rattle.jn_rules.specs.Stmts.{here, print_typed}

@@ -1,9 +1,9 @@
-use Rattle.std.proofs.Common.{Some, None, Ok, refl, subst, sym, ap, ◌∙◌}
+use Rattle.std.proofs.Common.{refl, sym, ap, ◌∙◌}
 use Rattle.std.specs.Prelude.{Option}
 use Rattle.jn_base.specs.declared.tree.Expr.{Expr}
 use Rattle.jn_rules.specs.Stmts.{is_void, return_typed}
 use Rattle.jn_check.specs.States.{in_at, before_at}
-use Rattle.jn_check.proofs.Standing.{is_scope, stays_but, after_kept, but_same}
+use Rattle.jn_check.proofs.Standing.{after_kept, but_same}
 use Rattle.jn_check.proofs.Telling.{told_as}
 use Rattle.jn_check.proofs.SimpleLaws.{return_none, return_refused}
 use Rattle.jn_check.proofs.simple.check_return.Goals as goal

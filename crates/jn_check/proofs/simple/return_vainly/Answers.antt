@@ -1,6 +1,5 @@
 use Rattle.std.proofs.Common.{Some, Err}
 use Rattle.jn_intern.specs.declared.pool.TyId.{TyId}
-use Rattle.jn_intern.specs.Pools.{scope_in}
 use Rattle.jn_rules.specs.Plans.{refuse, done, then_do}
 use Rattle.jn_rules.specs.Exprs.{mismatch}
 use Rattle.jn_rules.specs.Stmts.{here, typed, return_typed}

@@ -1,6 +1,6 @@
-use Rattle.std.proofs.Common.{Some, refl, subst, sym, ap, ◌∙◌}
+use Rattle.std.proofs.Common.{Some, refl, sym, ap, ◌∙◌}
 use Rattle.jn_base.specs.declared.types.Ty.{Ty}
-use Rattle.jn_intern.specs.Pools.{scope_in, shown}
+use Rattle.jn_intern.specs.Pools.{scope_in}
 use Rattle.jn_rules.specs.Plans.{done}
 use Rattle.jn_rules.specs.Stmts.{is_void, typed_below, return_typed}
 use Rattle.jn_check.specs.States.{in_at, before_at}

@@ -1,7 +1,7 @@
-use Rattle.std.proofs.Common.{◌∙◌, ap, sym, subst, rules}
+use Rattle.std.proofs.Common.{◌∙◌, ap, subst, rules}
 use Rattle.jn_base.specs.Scopes.{Scope}
 use Rattle.jn_base.specs.declared.names.Resolved.{Resolved}
-use Rattle.jn_intern.specs.Pools.{scope_in, shown}
+use Rattle.jn_intern.specs.Pools.{shown}
 use Rattle.jn_intern.proofs.Pools.{keeps_more, scope_kept, scope_in_kept}
 use Rattle.jn_laws.specs.LawsOfWritten.{site_with}
 use Rattle.jn_sem.specs.NormalFunction.{normal_type}

@@ -2,7 +2,7 @@ use Rattle.std.proofs.Common.{◌∙◌, ap, sym, subst}
 use Rattle.jn_base.specs.Scopes.{Scope}
 use Rattle.jn_base.specs.Fits.{TypeFits, ScopeFits}
 use Rattle.jn_intern.specs.Pools.{scope_in, shown}
-use Rattle.jn_intern.proofs.Pools.{keeps_more, scope_kept, scope_in_kept}
+use Rattle.jn_intern.proofs.Pools.{keeps_more, scope_kept}
 use Rattle.jn_sem.specs.Normal.{same_path}
 use Rattle.jn_sem.specs.NormalFunction.{normal_type}
 use Rattle.jn_sem.proofs.NormalTypes.{type_subst_is}
