@@ -13,5 +13,6 @@ pub mod RowEnds
 pub mod SlotLaw
 pub mod SelectorLaws
 pub mod OnePlace
-pub mod PlacesProof
+pub mod KeyLaws
+pub mod FindLaws
 pub mod Faultless

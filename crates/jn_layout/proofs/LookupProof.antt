@@ -1,9 +1,7 @@
 -- What is found by name is right.
-use Rattle.std.proofs.Common.{◌≡◌, ◌<◌, ◌≤◌, ◌+◌, ◌⊎◌, inl, inr, ℕ, List, length, map, cond, Option, Some, None, IfNone, slice_get, get_or, Bool, true, false, refl, sym, subst, ap, ◌∙◌, arith}
-use Rattle.std.proofs.lemmas.Bool.{cases_lt}
-use Rattle.std.proofs.lemmas.Option.{slice_get_within, slice_get_read}
+use Rattle.std.proofs.Common.{◌≡◌, ◌<◌, ℕ, List, length, map, cond, Option, Some, None, IfNone, slice_get, Bool, true, false, refl, sym, subst, ap, ◌∙◌, arith}
+use Rattle.std.proofs.lemmas.Option.{slice_get_within}
 use Rattle.jn_reach.proofs.Eachs.{Each-at, Each-back}
-use Rattle.jn_reach.proofs.Searches.{same_some}
 use Rattle.jn_base.specs.declared.tree.Name.{Name}
 use Rattle.jn_base.specs.declared.tree.Program.{Program}
 use Rattle.jn_base.specs.declared.types.Ty.{Ty}
@@ -42,18 +40,6 @@ use Rattle.jn_layout.proofs.KindLaws.{shape_is, field_kind}
 use Rattle.jn_layout.proofs.PartProof.{one_number}
 
 -- ---- places
-
-pub found_at : {A : Type 0} (T : A → Type 0) (xs : List A) (k : ℕ) (x : A) → k < length xs → x ≡ get_or xs k x → T x → FoundAt T xs k
-found_at T xs k x l e h = record { thing = x; at = slice_get_read xs (length xs) k x refl l e; is = h }
-
-pub none_next : {A : Type 0} (T : A → Type 0) (xs : List A) (n : ℕ) (x : A) → n < length xs → x ≡ get_or xs n x → (T x → ⊥) → NoneTo T xs n → NoneTo T xs (n + 1)
-none_next {A} T xs n x l e isnt before k y b at h = by_place (cases_lt k n) where
-  by_place : (k < n) ⊎ (n ≤ k) → ⊥
-  by_place (inl d) = before k y d at h
-  by_place (inr d) =
-      let same : k ≡ n = omega arith in
-      let there : slice_get xs k ≡ Some x = ap (slice_get xs) same ∙ slice_get_read xs (length xs) n x refl l e in
-      isnt (subst T (same_some (slice_get xs k) y x at there) h)
 
 pub nowhere : {A : Type 0} (T : A → Type 0) (xs : List A) → NoneTo T xs (length xs) → (k : ℕ) (x : A) → slice_get xs k ≡ Some x → T x → ⊥
 nowhere T xs none k x at h = none k x (slice_get_within xs k x at) at h

@@ -54,7 +54,7 @@ one_kind t a b (hanging u e) (plain v h) = absurd (v u)
 one_kind t a b (hanging u e) (hanging v h) = e ∙ sym h
 
 module _ (p : Program) (t : Table) (m : Members) (g : Groups) (s : Slots) (names : Selectors) (n : Naming) (asked : RowsAsked p t m g s names n) where
-  pub methods_asked : (made : Made) → IsMade p t g made → (sels : List MethodSel) → sels ≡ names.methods → (bodies : List BodyAt) → bodies ≡ made.declared.bodies.items
+  pub methods_asked : (made : Made) → IsMade p t g names made → (sels : List MethodSel) → sels ≡ names.methods → (bodies : List BodyAt) → bodies ≡ made.declared.bodies.items
       → MethodsAsked p t m sels bodies n
   methods_asked made is sels e bodies h = record {
     filled = asked.parts.filled;
@@ -68,7 +68,7 @@ module _ (p : Program) (t : Table) (m : Members) (g : Groups) (s : Slots) (names
     few = asked.few;
   }
 
-  pub fields_asked : (made : Made) → IsMade p t g made → (sels : List FieldSel) → sels ≡ names.fields → (fields : List FieldAt) → fields ≡ made.declared.fields.items
+  pub fields_asked : (made : Made) → IsMade p t g names made → (sels : List FieldSel) → sels ≡ names.fields → (fields : List FieldAt) → fields ≡ made.declared.fields.items
       → FieldsAsked p t m s sels fields n
   fields_asked made is sels e fields h = record {
     filled = asked.parts.filled;

@@ -1,5 +1,5 @@
 -- Selectors that are gathered, and that those of the declared bodies and fields are those of the program.
-use Rattle.std.proofs.Common.{◌≡◌, ◌≤◌, ◌⊎◌, inl, inr, ℕ, List, [], ◌∷◌, ◌++◌, zero, suc, length, take, Contains, Option, Some, None, IfSome, IfNone, Bool, true, false, cond, slice_get, refl, sym, subst, ap, ◌∙◌}
+use Rattle.std.proofs.Common.{◌≡◌, ◌≤◌, ◌⊎◌, inl, inr, ℕ, List, [], ◌∷◌, ◌++◌, zero, suc, length, take, Contains, Option, Some, None, Bool, true, false, cond, slice_get, refl, sym, subst, ap, ◌∙◌}
 use Rattle.std.proofs.lemmas.List.{take_all}
 use Rattle.std.proofs.lemmas.List.Elements.{Contains-push, Contains-push_cases, Contains-append_left}
 use Rattle.jn_reach.proofs.Eachs.{Each-at, Each-back}
@@ -86,19 +86,6 @@ module _ {A B : Type 0} (Q : A → B → Type 0) where
     both j k b (inl a) (inr (l, d)) = absurd (nowhere T sels none j b a (subst T d is))
     both j k b (inr (l, a)) (inl d) = absurd (nowhere T sels none k b d (subst T a is))
     both j k b (inr (l, a)) (inr (m, d)) = l ∙ sym m
-
-  -- by the answer of the search
-  pub selects_kept : (T : B → Type 0) (seen now : List A) (x : A) (sels told : List B) (o : Option ℕ) (place : ℕ) → o ≡ Some place → now ≡ seen ++ x ∷ [] → told ≡ sels
-      → IfSome o (FoundAt T told) → ((s : B) → T s → Q x s) → Selects Q seen sels → Selects Q now sels
-  selects_kept T seen now x sels told o place is e f found to g =
-      selects_keep T seen now x sels place e
-      (subst (λ (l : List B). FoundAt T l place) f (subst (λ (r : Option ℕ). IfSome r (FoundAt T told)) is found)) to g
-
-  pub selects_more : (T : B → Type 0) (seen now : List A) (x : A) (sels told after : List B) (s : B) (o : Option ℕ) → o ≡ None → now ≡ seen ++ x ∷ [] → told ≡ sels
-      → after ≡ sels ++ s ∷ [] → IfNone o (NoneTo T told (length told)) → T s → Q x s → Selects Q seen sels → Selects Q now after
-  selects_more T seen now x sels told after s o is e f h none t q g =
-      selects_push T seen now x sels after s e h
-      (subst (λ (l : List B). NoneTo T l (length l)) f (subst (λ (r : Option ℕ). IfNone r (NoneTo T told (length told))) is none)) t q g
 
   pub selects_all : (xs : List A) (i : ℕ) (sels : List B) → length xs ≤ i → Selects Q (take i xs) sels → Selects Q xs sels
   selects_all xs i sels l g = subst (λ (ys : List A). Selects Q ys sels) (take_all i xs l) g

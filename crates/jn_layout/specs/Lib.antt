@@ -4,6 +4,8 @@ pub mod Parts
 pub mod Shapes
 pub mod Asked
 pub mod Lookups
+pub mod Keys
+pub mod Finding
 pub mod RowLists
 pub mod Selecting
 pub mod LawsOfRows

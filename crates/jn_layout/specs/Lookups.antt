@@ -1,8 +1,6 @@
 -- What is looked for by name: a body, a field, a selector.
 use Rattle.std.specs.Prelude.{◌≡◌, ◌<◌, ℕ, List, Option, Some, None, slice_get, length}
 use Rattle.jn_reach.specs.Each.{Each}
-use Rattle.jn_reach.specs.Graph.{Graph, HasEdge}
-use Rattle.jn_reach.specs.Pairs.{IsPair}
 use Rattle.jn_base.specs.declared.tree.Name.{Name}
 use Rattle.jn_base.specs.declared.tree.Program.{Program}
 use Rattle.jn_base.specs.Paths.{Path}
@@ -52,16 +50,6 @@ pub record SelectsBody (x : BodyAt) (sel : MethodSel) : Type 0 where
 pub record SelectsField (name : Name) (kind : ℕ) (sel : FieldSel) : Type 0 where
   pub name_is : sel.name ≡ name
   pub kind_is : sel.kind ≡ kind
-
--- each body has its place among those of its class
-abbrev pub ArePlaces : List BodyAt → Graph → Type 0
-ArePlaces bodies own =
-    (k : ℕ) (x : BodyAt) (id : ClassId) → slice_get bodies k ≡ Some x → x.class ≡ Some id → HasEdge own id.0 k
-
--- the pairs have each body's class with its place
-abbrev pub ArePlaced : List BodyAt → (n : ℕ) → List (ℕ × ℕ) → Type 0
-ArePlaced bodies n pairs =
-    (k : ℕ) (x : BodyAt) (id : ClassId) → k < n → slice_get bodies k ≡ Some x → x.class ≡ Some id → IsPair pairs id.0 k
 
 -- ---- the pairs of a row
 

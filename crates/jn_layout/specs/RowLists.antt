@@ -29,7 +29,8 @@ use Rattle.jn_layout.specs.Kin.{AreKin, OfGroups, FirstAt}
 use Rattle.jn_layout.specs.Pairs.{AreEntries}
 use Rattle.jn_layout.specs.Parts.{MemberAt}
 use Rattle.jn_layout.specs.Shapes.{AreDeclared}
-use Rattle.jn_layout.specs.Lookups.{FieldPlace, ArePlaces}
+use Rattle.jn_layout.specs.Lookups.{FieldPlace}
+use Rattle.jn_layout.specs.Finding.{MethodsPlaced, FieldsPlaced}
 use Rattle.jn_layout.specs.Asked.{RowsAsked}
 
 -- the entry has the two numbers of the pair
@@ -57,12 +58,13 @@ AreOtherEntries pairs all =
     FitIn 65536 65536 pairs → Each (IsEntryOf (λ (e : OtherEntry). e.family) (λ (e : OtherEntry). e.class)) pairs all
 
 -- what the rows of all classes are made of
-pub record IsMade (p : Program) (t : Table) (g : Groups) (made : Made) : Type 0 where
+pub record IsMade (p : Program) (t : Table) (g : Groups) (names : Selectors) (made : Made) : Type 0 where
   pub kin : AreKin g made.kin
   pub families : (q : Program) → IsFilled q t → FamiliesTo t.known.items (length t.known.items) made.families.items
   pub firsts : OfGroups t made.kin (λ q. Lists (FirstAt q t.known.items) made.firsts.items)
   pub declared : AreDeclared p t made.declared
-  pub own : ArePlaces made.declared.bodies.items made.own.items
+  pub methods : MethodsPlaced made.declared.bodies.items names.methods made.finder
+  pub fields : FieldsPlaced made.declared.fields.items names.fields made.finder
 
 -- the pairs of the row of R
 pub record ArePairs (p : Program) (n : Naming) (s : Slots) (id : ClassId) (R : Path) (all : RowPairs) : Type 0 where

@@ -29,6 +29,9 @@ pub record Selects {A B : Type 0} (Q : A → B → Type 0) (things : List A) (se
   pub has : (x : A) → Contains things x → (s : B) × Contains sels s × Q x s
   pub once : (j k : ℕ) (s : B) → slice_get sels j ≡ Some s → slice_get sels k ≡ Some s → j ≡ k
 
+abbrev pub IsSame : FieldSel → FieldSel → Type 0
+IsSame x y = x ≡ y
+
 -- the kind of the field in its class: 4 where its type hangs on `this`, otherwise as it is written
 abbrev pub OwnKind : Slots → FieldAt → ℕ → Type 0
 OwnKind s x kind =

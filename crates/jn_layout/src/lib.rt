@@ -4,12 +4,13 @@
 #![tactic(auto)]
 
 mod declared;
+mod finder;
+mod keys;
 mod kin;
 mod law;
 mod lookups;
 mod pairs;
 mod parts;
-mod places;
 mod rows;
 mod selecting;
 

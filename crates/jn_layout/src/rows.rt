@@ -1,4 +1,4 @@
-ghost use Rattle.std.specs.Prelude.{◌≡◌, ◌<◌, ℕ, Contains, IfOk, length};
+ghost use Rattle.std.specs.Prelude.{◌≡◌, ◌<◌, ℕ, List, Contains, IfOk, length};
 ghost use Rattle.jn_reach.specs.Each.{Each};
 ghost use Rattle.jn_base.specs.declared.tree.Program.{Program as AProgram};
 ghost use Rattle.jn_base.specs.Paths.{Path as APath};
@@ -16,16 +16,20 @@ ghost use Rattle.jn_code.specs.declared.image.Image.{Image};
 ghost use Rattle.jn_agree.specs.Rows.{HasEntry, SlotsAre};
 ghost use Rattle.jn_layout.specs.declared.pairs.Pair.{Pair as APair};
 ghost use Rattle.jn_layout.specs.Pairs.{AreEntries, Gathers};
-ghost use Rattle.jn_layout.specs.Lookups.{ArePlaces, MethodsAsked, MethodPair, FieldsAsked, FieldPair, FieldPlace};
+ghost use Rattle.jn_agree.specs.declared.selectors.MethodSel.{MethodSel as AMethodSel};
+ghost use Rattle.jn_agree.specs.declared.selectors.FieldSel.{FieldSel as AFieldSel};
+ghost use Rattle.jn_layout.specs.declared.declared.BodyAt.{BodyAt as ABodyAt};
+ghost use Rattle.jn_layout.specs.Finding.{MethodsPlaced, FieldsPlaced};
+ghost use Rattle.jn_layout.specs.Lookups.{MethodsAsked, MethodPair, FieldsAsked, FieldPair, FieldPlace};
 ghost use Rattle.jn_layout.specs.RowLists.{IsMade, ArePairs, OfRows, RowRight, AreMemberEntries, AreMethodEntries, AreFieldEntries, AreOtherEntries, RowsRight, FirstsListed};
 
-use crate::declared::{BodyAt, Declared, FieldAt, declared_of};
+use crate::declared::{Declared, FieldAt, declared_of};
+use crate::finder::{Finder, finder_of};
 use crate::kin::{Kin, families_of, firsts_of, kin_of};
 use crate::lookups::{field_at, method_at};
 use crate::pairs::{Pair, in_order};
 use crate::parts::{family_of, group_of, members_of, others_of, two_bytes, up_of};
-use crate::places::own_places;
-use jn_agree::selectors::{FieldSel, MethodSel, Selectors};
+use jn_agree::selectors::Selectors;
 use jn_base::tree::{Name, Program};
 use jn_code::{ClassRow, FieldEntry, MemberEntry, MethodEntry, OtherEntry};
 use jn_names::Members;
@@ -43,8 +47,7 @@ pub struct Made {
     /// The numbers of the first classes of all groups.
     pub firsts: Vec<usize>,
     pub declared: Declared,
-    /// For each class the places of the bodies that it declares.
-    pub own: Vec<Vec<usize>>,
+    pub finder: Finder,
 }
 
 /// The lists of a row, as pairs of numbers.
@@ -57,20 +60,26 @@ pub struct RowPairs {
 }
 
 /// What the rows of all classes are made of.
-fn make(alloc: Global, p: &Program, t: &Table, g: &Groups) -> Result<Made, AllocError>
-    ensures { IfOk result (λ made. IsMade p.now t.now g.now made) }
+fn make(
+    alloc: Global,
+    p: &Program,
+    t: &Table,
+    g: &Groups,
+    names: &Selectors,
+) -> Result<Made, AllocError>
+    ensures { IfOk result (λ made. IsMade p.now t.now g.now names.now made) }
 {
     let kin = kin_of(alloc, g)?;
     let families = families_of(alloc, t)?;
     let firsts = firsts_of(alloc, t, &kin)?;
     let declared = declared_of(alloc, p, t)?;
-    let own = own_places(alloc, &declared.bodies)?;
+    let finder = finder_of(alloc, &declared, names)?;
     Ok(Made {
         kin,
         families,
         firsts,
         declared,
-        own,
+        finder,
     })
 }
 
@@ -78,19 +87,18 @@ fn make(alloc: Global, p: &Program, t: &Table, g: &Groups) -> Result<Made, Alloc
 fn method_pairs(
     alloc: Global,
     m: &Members,
-    bodies: &[BodyAt],
-    own: &[Vec<usize>],
-    names: &[MethodSel],
+    finder: &Finder,
     id: ClassId,
     list: &[Name],
 ) -> Result<Vec<Pair>, AllocError>
-    ensures { IfOk result (λ all. (p : AProgram) (t : ATable) (n : Naming) (R : APath)
-        → MethodsAsked p t m.now names.now bodies.now n → ArePlaces bodies.now own.now → IsNumber t.known.items id R
+    ensures { IfOk result (λ all. (p : AProgram) (t : ATable) (n : Naming) (R : APath) (names : List AMethodSel)
+        (bodies : List ABodyAt) → MethodsAsked p t m.now names bodies n → MethodsPlaced bodies names finder.now
+        → IsNumber t.known.items id R
         → Gathers (MethodPair p n R) list.now all.items) }
 {
     let mut all = Vec::new(alloc);
     for name in list {
-        match method_at(m, bodies, own, names, id, *name) {
+        match method_at(m, finder, id, *name) {
             None => {}
             Some(pair) => all.push(pair)?,
         }
@@ -102,17 +110,16 @@ fn method_pairs(
 fn methods_of(
     alloc: Global,
     m: &Members,
-    bodies: &[BodyAt],
-    own: &[Vec<usize>],
-    names: &[MethodSel],
+    finder: &Finder,
     id: ClassId,
     row: &Row,
 ) -> Result<Vec<Pair>, AllocError>
-    ensures { IfOk result (λ all. (p : AProgram) (t : ATable) (n : Naming) (R : APath)
-        → MethodsAsked p t m.now names.now bodies.now n → ArePlaces bodies.now own.now → IsNumber t.known.items id R
+    ensures { IfOk result (λ all. (p : AProgram) (t : ATable) (n : Naming) (R : APath) (names : List AMethodSel)
+        (bodies : List ABodyAt) → MethodsAsked p t m.now names bodies n → MethodsPlaced bodies names finder.now
+        → IsNumber t.known.items id R
         → IsRow p t.known.items R row.now → AreEntries (HasEntry p n R) all.items) }
 {
-    let pairs = method_pairs(alloc, m, bodies, own, names, id, &row.methods)?;
+    let pairs = method_pairs(alloc, m, finder, id, &row.methods)?;
     in_order(pairs)
 }
 
@@ -122,18 +129,19 @@ fn field_pairs(
     m: &Members,
     s: &Slots,
     fields: &[FieldAt],
-    names: &[FieldSel],
+    finder: &Finder,
     id: ClassId,
     list: &[Name],
 ) -> Result<Vec<Pair>, AllocError>
-    ensures is { IfOk result (λ all. (p : AProgram) (t : ATable) (n : Naming) (R : APath)
-        → FieldsAsked p t m.now s.now names.now fields.now n → IsNumber t.known.items id R
+    ensures is { IfOk result (λ all. (p : AProgram) (t : ATable) (n : Naming) (R : APath) (names : List AFieldSel)
+        → FieldsAsked p t m.now s.now names fields.now n → FieldsPlaced fields.now names finder.now
+        → IsNumber t.known.items id R
         → Gathers (FieldPair p n s.now id R) list.now all.items) }
     ensures small { IfOk result (λ all. (x : APair) → Contains all.items x → x.value < 256) }
 {
     let mut all = Vec::new(alloc);
     for name in list {
-        match field_at(m, s, fields, names, id, *name) {
+        match field_at(m, s, fields, finder, id, *name) {
             None => {}
             Some(pair) => all.push(pair)?,
         }
@@ -147,16 +155,17 @@ fn fields_of(
     m: &Members,
     s: &Slots,
     fields: &[FieldAt],
-    names: &[FieldSel],
+    finder: &Finder,
     id: ClassId,
     row: &Row,
 ) -> Result<Vec<Pair>, AllocError>
-    ensures is { IfOk result (λ all. (p : AProgram) (t : ATable) (n : Naming) (R : APath)
-        → FieldsAsked p t m.now s.now names.now fields.now n → IsNumber t.known.items id R
+    ensures is { IfOk result (λ all. (p : AProgram) (t : ATable) (n : Naming) (R : APath) (names : List AFieldSel)
+        → FieldsAsked p t m.now s.now names fields.now n → FieldsPlaced fields.now names finder.now
+        → IsNumber t.known.items id R
         → IsRow p t.known.items R row.now → AreEntries (FieldPlace p n s.now id R) all.items) }
     ensures small { IfOk result (λ all. (x : APair) → Contains all.items x → x.value < 256) }
 {
-    let pairs = field_pairs(alloc, m, s, fields, names, id, &row.fields)?;
+    let pairs = field_pairs(alloc, m, s, fields, finder, id, &row.fields)?;
     in_order(pairs)
 }
 
@@ -226,28 +235,18 @@ fn pairs_of(
     t: &Table,
     m: &Members,
     s: &Slots,
-    names: &Selectors,
     made: &Made,
     id: ClassId,
 ) -> Result<RowPairs, AllocError>
     requires { IsFilledAt t.now id }
-    ensures { IfOk result (λ all. (g : AGroups) → OfRows t.now m.now g s.now names.now (λ p n. (R : APath)
-        → IsMade p t.now g made.now → IsNumber t.now.known.items id R → ArePairs p n s.now id R all)) }
+    ensures { IfOk result (λ all. (g : AGroups) (names : ASelectors) → OfRows t.now m.now g s.now names (λ p n. (R : APath)
+        → IsMade p t.now g names made.now → IsNumber t.now.known.items id R → ArePairs p n s.now id R all)) }
 {
     let row = t.row(id);
-    let bodies = &made.declared.bodies;
-    let fields = &made.declared.fields;
+    let finder = &made.finder;
     let members = members_of(alloc, row)?;
-    let methods = methods_of(
-        alloc,
-        m,
-        bodies,
-        &made.own,
-        names.methods.as_slice(),
-        id,
-        row,
-    )?;
-    let slots = fields_of(alloc, m, s, fields, names.fields.as_slice(), id, row)?;
+    let methods = methods_of(alloc, m, finder, id, row)?;
+    let slots = fields_of(alloc, m, s, &made.declared.fields, finder, id, row)?;
     let others = others_of(alloc, t, &made.kin, &made.families, id.0 as usize)?;
     Ok(RowPairs {
         members,
@@ -267,7 +266,7 @@ fn class_row(
 ) -> Result<ClassRow, AllocError>
     requires { IsFilledAt t.now id }
     ensures { IfOk result (λ row. (m : AMembers) (g : AGroups) (s : ASlots) (names : ASelectors)
-        → OfRows t.now m g s names (λ p n. (R : APath) → IsMade p t.now g made.now
+        → OfRows t.now m g s names (λ p n. (R : APath) → IsMade p t.now g names made.now
         → IsNumber t.now.known.items id R → ArePairs p n s id R pairs.now → RowRight p n s id R row)) }
 {
     let members = member_entries(alloc, &pairs.members)?;
@@ -295,15 +294,14 @@ fn row_of(
     t: &Table,
     m: &Members,
     s: &Slots,
-    names: &Selectors,
     made: &Made,
     id: ClassId,
 ) -> Result<ClassRow, AllocError>
     requires { IsFilledAt t.now id }
-    ensures { IfOk result (λ row. (g : AGroups) → OfRows t.now m.now g s.now names.now (λ p n. (R : APath)
-        → IsMade p t.now g made.now → IsNumber t.now.known.items id R → RowRight p n s.now id R row)) }
+    ensures { IfOk result (λ row. (g : AGroups) (names : ASelectors) → OfRows t.now m.now g s.now names (λ p n. (R : APath)
+        → IsMade p t.now g names made.now → IsNumber t.now.known.items id R → RowRight p n s.now id R row)) }
 {
-    let pairs = pairs_of(alloc, t, m, s, names, made, id)?;
+    let pairs = pairs_of(alloc, t, m, s, made, id)?;
     let row = class_row(alloc, t, made, &pairs, id)?;
     Ok(row)
 }
@@ -327,10 +325,10 @@ pub fn class_rows(
     ensures slots { IfOk result (λ rows. (n : Naming) (i : Image) → RowsAsked p.now t.now m.now g.now s.now names.now n
         → i.classes ≡ rows → SlotsAre p.now i n) }
 {
-    let made = make(alloc, p, t, g)?;
+    let made = make(alloc, p, t, g, names)?;
     let mut rows = Items::new(alloc);
     for k in 0..t.known().len() {
-        let row = row_of(alloc, t, m, s, names, &made, ClassId(k as u16))?;
+        let row = row_of(alloc, t, m, s, &made, ClassId(k as u16))?;
         rows.push(row)?;
     }
     Ok(rows)

@@ -15,7 +15,7 @@ loop-k-preserved c = record {
   below = omega (arith, c.loop-k-test.true, ap (λ (xs : List _). length xs) c.known-k-end.ensures);
   right = λ n asked.
       rows_more c.args.p.now n c.args.s.now c.loop-k.k c.loop-k.rows c.push.new.self c.in_ok-row.row c.in_ok-push.ensures.ok
-      (λ R a. c.in_ok-row.ensures c.args.g.now c.args.p.now n asked R c.in_ok-made.ensures (at_class c.args.t.now n asked.naming.classes c.loop-k.k R a))
+      (λ R a. c.in_ok-row.ensures c.args.g.now c.args.names.now c.args.p.now n asked R c.in_ok-made.ensures (at_class c.args.t.now n asked.naming.classes c.loop-k.k R a))
       (c.loop-k.invariant.right n asked);
 }
 

@@ -9,7 +9,7 @@ use Rattle.jn_layout.proofs.rows.field_pairs.Goals.{in-None, in-Some+in_ok-push-
 
 pub loop-name-init : goal.loop-name-init
 loop-name-init c = record {
-  is = λ p t n R a i. gathers_none (FieldPair p n c.args.s.now c.args.id R) c.new-all.result.items c.new-all.ensures.items;
+  is = λ p t n R names a o i. gathers_none (FieldPair p n c.args.s.now c.args.id R) c.new-all.result.items c.new-all.ensures.items;
   small = small_none c.new-all.result.items c.new-all.ensures.items;
 }
 
@@ -21,9 +21,9 @@ loop-name-preserved c = elim c.match-field_at.branch [
       let j = get_or xs k (record { 0 = 0 }) in
       rw w.all-is
       (record {
-        is = λ p t n R a i.
+        is = λ p t n R names a o i.
             gathers_pass (FieldPair p n c.args.s.now c.args.id R) _ _ j c.loop-name.all.items c.field_at.result w.in-None.is
-            (take_one xs k j c.loop-name-test.true (any_default xs k (record { 0 = 0 }) j c.loop-name-test.true)) (c.field_at.ensures.is p t n R a i) (c.loop-name.invariant.is p t n R a i);
+            (take_one xs k j c.loop-name-test.true (any_default xs k (record { 0 = 0 }) j c.loop-name-test.true)) (c.field_at.ensures.is p t n R names a o i) (c.loop-name.invariant.is p t n R names a o i);
         small = c.loop-name.invariant.small;
       })
   | in-Some+in_ok-push-in-Some w ↦
@@ -32,17 +32,17 @@ loop-name-preserved c = elim c.match-field_at.branch [
       let j = get_or xs k (record { 0 = 0 }) in
       rw w.all-is
       (record {
-        is = λ p t n R a i.
+        is = λ p t n R names a o i.
             gathers_take (FieldPair p n c.args.s.now c.args.id R) _ _ j c.loop-name.all.items _ w.in-Some.pair c.field_at.result w.in-Some.is
             (take_one xs k j c.loop-name-test.true (any_default xs k (record { 0 = 0 }) j c.loop-name-test.true)) w.in_ok-push-in-Some.ensures.items
-            (c.field_at.ensures.is p t n R a i) (c.loop-name.invariant.is p t n R a i);
+            (c.field_at.ensures.is p t n R names a o i) (c.loop-name.invariant.is p t n R names a o i);
         small = small_more c.loop-name.all.items _ w.in-Some.pair c.field_at.result w.in-Some.is c.field_at.ensures.small w.in_ok-push-in-Some.ensures.items c.loop-name.invariant.small;
       })
 ]
 
 pub returns-clause-is : goal.returns-clause-is
-returns-clause-is c = λ p t n R a i.
-    gathers_all (FieldPair p n c.args.s.now c.args.id R) c.args.list.now c.loop-name.name-index c.loop-name.all.items c.loop-name-test.false (c.loop-name.invariant.is p t n R a i)
+returns-clause-is c = λ p t n R names a o i.
+    gathers_all (FieldPair p n c.args.s.now c.args.id R) c.args.list.now c.loop-name.name-index c.loop-name.all.items c.loop-name-test.false (c.loop-name.invariant.is p t n R names a o i)
 
 pub returns-clause-small : goal.returns-clause-small
 returns-clause-small c = c.loop-name.invariant.small
