@@ -11,7 +11,7 @@ nothing_more : (t : Option (List ℕ)) → t ≡ append_known t []
 nothing_more None = refl
 nothing_more (Some bytes) = ap Some (sym (append-nil bytes))
 
-append_twice : (t : Option (List ℕ)) (xs ys : List ℕ) → append_known (append_known t xs) ys ≡ append_known t (xs ++ ys)
+pub append_twice : (t : Option (List ℕ)) (xs ys : List ℕ) → append_known (append_known t xs) ys ≡ append_known t (xs ++ ys)
 append_twice None xs ys = refl
 append_twice (Some zs) xs ys = ap Some (append_assoc zs xs ys)
 
