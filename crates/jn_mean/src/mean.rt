@@ -13,10 +13,10 @@ use jn_io::Sink;
 use jn_meaning::{MeanFault, World, run_with};
 use jn_sem::outcome::Outcome;
 use jn_table::Table;
-use std::alloc::Global;
+use std::alloc::{AllocError, Global};
 
 /// The parts of a program that its meaning asks.
-fn parts_of(alloc: Global, p: &Program, table: &mut Table) -> Result<Headers, MeanFault>
+fn parts_of(alloc: Global, p: &Program, table: &mut Table) -> Result<Headers, AllocError>
     requires limits { IsWithinLimits p.now }
     requires once { duplicates p.now ≡ [] }
     requires table { IsTableOf p.now table.old }
@@ -25,7 +25,7 @@ fn parts_of(alloc: Global, p: &Program, table: &mut Table) -> Result<Headers, Me
     let mut pool = Pool::new(alloc)?;
     match check_headers(alloc, p, table, &mut pool) {
         Ok(headers) => Ok(headers),
-        Err(_) => Err(MeanFault::Memory),
+        Err(_) => Err(AllocError),
     }
 }
 

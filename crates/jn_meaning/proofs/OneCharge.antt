@@ -87,6 +87,6 @@ module _ (p : Program) (known : List ShownPath) (arena depth : ℕ) (f : Frame) 
       (record {
         did = did_of known d (frame_of known x) (heap_of known i);
         does = subst (λ (vs : List Variable). does.Does p arena (act_of due.act) (record (frame_of known f) { vars = vs; todo = rest }) (heap_of known h) (did_of known d (frame_of known x) (heap_of known i)))
-        (without w due.scope l vars values) acted;
+            (without w due.scope l vars values) acted;
         proceeds = k out;
       })

@@ -128,8 +128,8 @@ module _ (p : Program) (a d : ℕ) where
           ends le e is r same = record {
             output = put so.out l;
             run = subst (λ (z : Outcome). Run p b a d z (put so.out l)) (sym same)
-            (run_over (k + 1) b (omega (arith, le)) (ending_of e) (put so.out l)
-            (subst (λ (z : Option Ending). ComesTo (k + 1) (then_of z (frames_of known g gs) (heap_of known i) (put so.out l))) is next));
+                (run_over (k + 1) b (omega (arith, le)) (ending_of e) (put so.out l)
+                (subst (λ (z : Option Ending). ComesTo (k + 1) (then_of z (frames_of known g gs) (heap_of known i) (put so.out l))) is next));
             wrote = both_wrote;
           }
 

@@ -80,13 +80,7 @@ fn has_null(locals: &Locals) -> bool
 }
 
 /// Whether each variable has a value of its type.
-fn all_fit(
-    alloc: Global,
-    w: &World,
-    t: &Table,
-    h: &Heap,
-    f: &Frame,
-) -> Result<bool, MeanFault>
+fn all_fit(alloc: Global, w: &World, t: &Table, h: &Heap, f: &Frame) -> Result<bool, MeanFault>
     requires { Stands w.now t.now }
     ensures { IfOk result (λ b. IsTrue b ↔ AreIn w.now.program.now (frame_of t.now.known.items f.now) (heap_of t.now.known.items h.now)) }
 {

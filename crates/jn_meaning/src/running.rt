@@ -110,7 +110,16 @@ fn step<'a>(
     ensures kept { t.new ≡ t.old }
 {
     let now = &mut run.now;
-    match charge(alloc, w, t, arena, depth, now, &mut run.waiting, &mut run.heap) {
+    match charge(
+        alloc,
+        w,
+        t,
+        arena,
+        depth,
+        now,
+        &mut run.waiting,
+        &mut run.heap,
+    ) {
         Ok(charged) => Ok(charged),
         Err(_) => Err(AllocError),
     }

@@ -34,8 +34,11 @@ const KEYS: [&str; 12] = [
 
 /// The bounds of a run and the room of an output whose case doesn't say them.
 const STEPS: i64 = 1_000_000;
+
 const ARENA: i64 = 1_048_576;
+
 const DEPTH: i64 = 1_000;
+
 const ROOM: i64 = 65_536;
 
 struct MeanRows;
@@ -43,12 +46,21 @@ struct MeanRows;
 impl Rows for MeanRows {
     fn run(&self, alloc: Global, case: &Case, tally: &mut Tally) -> Result<(), CasesFault> {
         tally.keys(case, &KEYS)?;
-        let steps = case.number("charges").unwrap_or(case.number("steps").unwrap_or(STEPS));
+        let steps = case
+            .number("charges")
+            .unwrap_or(case.number("steps").unwrap_or(STEPS));
         let wanted = case.text("outcome").unwrap_or("no outcome");
         check_run(alloc, case, steps, wanted, true, tally)?;
         match case.number("charges") {
             None => Ok(()),
-            Some(charges) => check_run(alloc, case, charges.saturating_sub(1), "More", false, tally),
+            Some(charges) => check_run(
+                alloc,
+                case,
+                charges.saturating_sub(1),
+                "More",
+                false,
+                tally,
+            ),
         }
     }
 }
@@ -108,5 +120,9 @@ fn check_output(
     let wanted = case.numbers(alloc, "pieces")?;
     let wanted = format!(in alloc; "{:?}", wanted.as_slice())?;
     let came = format!(in alloc; "{:?}", out.sizes.as_slice())?;
-    Ok(tally.bytes("pieces", wanted.as_str().as_bytes(), came.as_str().as_bytes())?)
+    Ok(tally.bytes(
+        "pieces",
+        wanted.as_str().as_bytes(),
+        came.as_str().as_bytes(),
+    )?)
 }
