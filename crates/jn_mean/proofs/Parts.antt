@@ -1,8 +1,6 @@
 -- What the judgement of a program gives is what a run of it asks.
 use Rattle.std.proofs.Common.{◌≡◌, []}
-use Rattle.jn_base.specs.declared.tree.Name.{Name}
 use Rattle.jn_base.specs.declared.tree.Program.{Program}
-use Rattle.jn_base.specs.Paths.{Path}
 use Rattle.jn_base.specs.Duplicates.{duplicates}
 use Rattle.jn_base.specs.ProgramNames.{IsNamed}
 use Rattle.jn_base.specs.WithinLimits.{IsWithinLimits}

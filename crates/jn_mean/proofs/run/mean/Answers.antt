@@ -6,7 +6,7 @@ use Rattle.jn_meaning.specs.World.{AreParts}
 use Rattle.jn_meaning.proofs.Underway.{cut_at_start}
 use Rattle.jn_meaning.proofs.Causes.{of_memory}
 use Rattle.jn_mean.proofs.Parts.{named, parts_stand}
-use Rattle.jn_mean.proofs.mean.mean.Goals as goal
+use Rattle.jn_mean.proofs.run.mean.Goals as goal
 
 pub parts_of-requires-clause-table : goal.parts_of-requires-clause-table
 parts_of-requires-clause-table g c = c.in_ok-table.ensures.table (named c.args.p.now c.requires.limits)
