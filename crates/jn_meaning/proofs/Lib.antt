@@ -25,3 +25,8 @@ pub mod NewObjects
 pub mod Begins
 pub mod Ends
 pub mod Supers
+pub mod CalledFrames
+pub mod OneCharge
+pub mod ActsDone
+pub mod Underway
+pub mod Causes

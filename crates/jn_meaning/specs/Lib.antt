@@ -20,3 +20,4 @@ pub mod Viewing
 pub mod Creating
 pub mod Opening
 pub mod Running
+pub mod Ran

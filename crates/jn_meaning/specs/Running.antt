@@ -4,6 +4,8 @@ use Rattle.std.specs.Option.{option_map}
 use Rattle.jn_steps.specs.Runs.{On, End}
 use Rattle.jn_base.specs.declared.path.Path.{Path as ShownPath}
 use Rattle.jn_base.specs.declared.tree.Program.{Program}
+use Rattle.jn_base.specs.declared.names.Var.{Var}
+use Rattle.jn_sem.specs.declared.outcome.Outcome.{Outcome}
 use Rattle.jn_sem.specs.State as state
 use Rattle.jn_sem.specs.Asks.{OnIf, It}
 use Rattle.jn_sem.specs.Does as does
@@ -11,6 +13,7 @@ use Rattle.jn_sem.specs.Run as run
 use Rattle.jn_sem.specs.Run.{Running, Then, running, over, settled, resumed, given_first, enters, begins, proceeds, Charge}
 use Rattle.jn_meaning.specs.declared.heap.Heap.{Heap}
 use Rattle.jn_meaning.specs.declared.frame.Frame.{Frame}
+use Rattle.jn_meaning.specs.declared.locals.Locals.{Locals}
 use Rattle.jn_meaning.specs.declared.did.Did.{Did}
 use Rattle.jn_meaning.specs.declared.did.Called.{Called}
 use Rattle.jn_meaning.specs.declared.did.Callee.{Callee}
@@ -65,6 +68,11 @@ Leaves fs v o g gs = (known : List ShownPath) (H : state.Heap) (out : List ℕ) 
 
 -- ---- a body begins
 
+-- the variables with these values
+pub record HasBoth (l : Locals) (xs : List Var) (vs : List Value) : Type 0 where
+  pub vars : l.vars.list ≡ xs
+  pub values : l.values.items ≡ vs
+
 abbrev pub IsFrameOf : Callee → Value → List Value → Frame → Type 0
 IsFrameOf c r args f = (known : List ShownPath) → frame_of known f ≡ run.frame_of (entry_of known c) (value_of known r) (values_of known args)
 
@@ -96,3 +104,17 @@ running_of known f fs h out = running (frames_of known f fs) (heap_of known h) o
 abbrev pub Charges : Program → List ShownPath → (arena depth : ℕ) → Frame → List Frame → Heap → Option Line → Option Ending → Frame → List Frame → Heap → Type 0
 Charges p known arena depth f fs h l o g gs i = (out : List ℕ) →
     Charge p arena depth (running_of known f fs h out) (then_of o (frames_of known g gs) (heap_of known i) (put out l))
+
+-- ---- the start
+
+-- the frame that starts the program
+abbrev pub IsStart : Frame → Type 0
+IsStart f = (known : List ShownPath) → frame_of known f ≡ run.start_frame
+
+-- a run is at its start
+abbrev pub Starts : Frame → List Frame → Heap → Type 0
+Starts f fs h = (known : List ShownPath) → running_of known f fs h [] ≡ run.start
+
+-- how the meaning calls an ending
+abbrev pub IsOutcome : Ending → Outcome → Type 0
+IsOutcome o r = r ≡ run.outcome_of (Some (ending_of o))

@@ -113,7 +113,7 @@ pub fn fits(
 }
 
 /// Whether it is in the type of the variable at that place.
-fn fits_at(
+pub fn fits_at(
     alloc: Global,
     w: &World,
     t: &Table,

@@ -1,3 +1,4 @@
+use jn_io::Failed;
 use std::alloc::{AllocError, AllocFailed};
 
 /// Why a run was broken off.
@@ -28,5 +29,16 @@ impl<T: Drop> From<AllocFailed<T>> for MeanFault {
 
     fn from(_error: AllocFailed<T>) -> MeanFault {
         MeanFault::Memory
+    }
+}
+
+impl From<Failed> for MeanFault {
+    ghost use Rattle.std.specs.Prelude.{◌≡◌};
+    ghost use Rattle.jn_meaning.specs.declared.fault.MeanFault.TheVariants.{WriteFault};
+
+    ghost from_gives = { λ _ e. e ≡ WriteFault };
+
+    fn from(_error: Failed) -> MeanFault {
+        MeanFault::WriteFault
     }
 }
