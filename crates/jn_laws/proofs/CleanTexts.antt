@@ -204,7 +204,7 @@ texts_name_few p bytes text =
     let are = text.spelled.are_words in
     mentioned_few 65535 are.words 0 (length p.names) are.names_numbered.by_mention
     (λ w m n e. names_below p bytes text w
-      (subst (λ (ws : List Lexeme). Among ws w) (sym are.whole) (among_left are.words (last_word bytes are.fault ∷ []) w m)) n e)
+    (subst (λ (ws : List Lexeme). Among ws w) (sym are.whole) (among_left are.words (last_word bytes are.fault ∷ []) w m)) n e)
     (omega arith)
 
 -- ---- numbers
