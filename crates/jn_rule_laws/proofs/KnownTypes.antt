@@ -156,10 +156,13 @@ made_known p at t x deep ok n i = record {
 -- the declared type with the path put, and its normal form
 field_fits : (p : Program) (s : Scope) (t : Ty) (f : Name) (c : FoundField) (q : ℕ) → Shallow p → WellFormed p → IsFoundField p s t f c → PathKnown s q t
     → MovedFits s (swapped (0 ∷ []) (q ∷ [])) c.ty × (BindsFit s → TypeKnown s (put_in s (0 ∷ []) (q ∷ []) c.ty))
-field_fits p s t f c q deep w i k = (moves.moved, λ g. record {
-  fits = moves.substituted g;
-  named = λ y n. let o = subst_from s (swapped (0 ∷ []) (q ∷ [])) c.ty y n in subst (λ (l : ℕ). 0 < l) (sym (moves.depth g o.0 y o.1 n)) (there.named o.0 o.1);
-}) where
+field_fits p s t f c q deep w i k = (
+  moves.moved,
+  λ g. record {
+    fits = moves.substituted g;
+    named = λ y n. let o = subst_from s (swapped (0 ∷ []) (q ∷ [])) c.ty y n in subst (λ (l : ℕ). 0 < l) (sym (moves.depth g o.0 y o.1 n)) (there.named o.0 o.1);
+  },
+) where
   Q : Path
   Q = i.type.class
 
