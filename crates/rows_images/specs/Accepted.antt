@@ -1,9 +1,11 @@
 -- What is known of the program of a case.
+use Rattle.std.specs.Prelude.{ℕ, List}
 use Rattle.jn_base.specs.declared.tree.Program.{Program}
-use Rattle.jn_base.specs.WithinLimits.{IsWithinLimits}
+use Rattle.jn_base.specs.Spelling.{IsTextOf}
 use Rattle.jn_rules.specs.Verdict.{TreePasses}
 
--- it is within the limits, and accepted
+-- a source spells it, and it is accepted
 pub record IsAccepted (p : Program) : Type 0 where
-  pub limits : IsWithinLimits p
+  pub bytes : List ℕ
+  pub text : IsTextOf p bytes
   pub passes : TreePasses p

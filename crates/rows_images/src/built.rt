@@ -1,5 +1,5 @@
 //! From a source to the file of its image, and back to the image.
-ghost use Rattle.std.specs.Prelude.{◌≡◌, List, ℕ, IfOk};
+ghost use Rattle.std.specs.Prelude.{IfOk};
 ghost use Rattle.jn_base.specs.Spelling.{IsTextOf};
 ghost use Rattle.jn_base.specs.WithinLimits.{IsWithinLimits};
 ghost use Rattle.jn_rules.specs.Verdict.{TreePasses};
@@ -89,9 +89,9 @@ fn accepted(alloc: Global, p: &Program) -> Result<World, Unbuilt>
 
 /// The image of an accepted program.
 fn image_of(alloc: Global, p: &Program, w: &World) -> Result<Image, AllocError>
-    requires passes { TreePasses p.now }
+    requires accepted { IsAccepted p.now }
     requires world { IsWorld p.now w.now }
-    ensures { IfOk result (λ i. (bytes : List ℕ) → IsTextOf p.now bytes → IsImageOf p.now i) }
+    ensures { IfOk result (λ i. IsImageOf p.now i) }
 {
     image(
         alloc,
@@ -106,8 +106,7 @@ fn image_of(alloc: Global, p: &Program, w: &World) -> Result<Image, AllocError>
 
 /// The file of the image of an accepted program.
 fn file_of(alloc: Global, p: &Program, w: &World) -> Result<Vec<u8>, AllocError>
-    requires limits { IsWithinLimits p.now }
-    requires passes { TreePasses p.now }
+    requires accepted { IsAccepted p.now }
     requires world { IsWorld p.now w.now }
 {
     let image = image_of(alloc, p, w)?;

@@ -52,7 +52,7 @@ pub fn meant(alloc: Global, p: &Program, bounds: Bounds) -> Result<Ran, AllocErr
 }
 
 /// The first so many bytes, or all where there are fewer.
-fn front_of(bytes: &[u8], len: usize) -> &[u8] {
+pub fn front_of(bytes: &[u8], len: usize) -> &[u8] {
     match bytes.get(..len) {
         Some(front) => front,
         None => bytes,

@@ -2,7 +2,7 @@
 ghost use Rattle.rows_images.specs.Accepted.{IsAccepted};
 
 use crate::built::{Built, loaded, tell_fault};
-use crate::meaning::{Bounds, ROOM, check_meaning};
+use crate::meaning::{Bounds, ROOM, check_meaning, front_of};
 use jn_cases::{Case, CasesFault, Tally, bytes_of};
 use jn_io::MemSink;
 use jn_machine::{Halt, Machine};
@@ -49,10 +49,10 @@ fn front_lines(bytes: &[u8], lines: usize) -> &[u8] {
     let mut left = lines;
     for (k, byte) in bytes.iter().enumerate() {
         if left == 0 {
-            return &bytes[..k];
+            return front_of(bytes, k);
         }
         if *byte == 10 {
-            left -= 1;
+            left = left.saturating_sub(1);
         }
     }
     bytes
