@@ -6,8 +6,9 @@
 //! its name with the kinds of its parameters and its result, a field as its name with its kind.
 //!
 //! With the job `run` each text of `runs` has the cells of the arena, the greatest depth, the steps, the halt, and how many lines of
-//! `out` come: the machine runs the image so, and the program's meaning has to agree. With the job `ratio` it tells how many
-//! instructions the image takes for how many charges. With `family` a family of packages stands before the source.
+//! `out` come: the machine runs the image so, and the program's meaning has to agree, also for each number of steps up to the last
+//! number of `sweep`, within the arena and the depth before it. With the job `ratio` it tells how many instructions the image takes
+//! for how many charges. With `family` a family of packages stands before the source.
 #![tactic(auto)]
 
 mod body;
@@ -18,6 +19,7 @@ mod labels;
 mod meaning;
 mod ratio;
 mod running;
+mod sweep;
 
 ghost use Rattle.rows_images.specs.Accepted.{IsAccepted};
 
@@ -26,10 +28,11 @@ use crate::built::{Built, Unbuilt, build};
 use crate::family::source_of;
 use crate::ratio::tell_ratio;
 use crate::running::check_runs;
+use crate::sweep::check_sweep;
 use jn_cases::{Case, CasesFault, Rows, Tally, run_files};
 use std::alloc::Global;
 
-const KEYS: [&str; 14] = [
+const KEYS: [&str; 15] = [
     "job",
     "source",
     "source_parts",
@@ -42,6 +45,7 @@ const KEYS: [&str; 14] = [
     "code",
     "code_parts",
     "runs",
+    "sweep",
     "out",
     "out_parts",
 ];
@@ -67,7 +71,10 @@ fn do_job(alloc: Global, case: &Case, made: &Built, tally: &mut Tally) -> Result
 {
     match case.text("job").unwrap_or("none") {
         "code" => check_body(alloc, case, made, tally),
-        "run" => check_runs(alloc, case, made, tally),
+        "run" => {
+            check_runs(alloc, case, made, tally)?;
+            check_sweep(alloc, case, made, tally)
+        }
         "ratio" => tell_ratio(alloc, made, tally),
         job => Ok(tally.fault("job", job)?),
     }

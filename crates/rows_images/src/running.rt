@@ -92,6 +92,22 @@ fn compare(
     check_meaning(alloc, &made.program, wanted.bounds, came, tally)
 }
 
+/// What the image in a file does within bounds, none where it is no image: then that is told.
+pub fn run_file(
+    alloc: Global,
+    file: &[u8],
+    bounds: Bounds,
+    tally: &mut Tally,
+) -> Result<Option<Ran>, AllocError> {
+    match loaded(alloc, file) {
+        Ok(good) => Ok(Some(run_image(alloc, good, bounds)?)),
+        Err(fault) => {
+            tell_fault(alloc, fault, tally)?;
+            Ok(None)
+        }
+    }
+}
+
 fn check_run(
     alloc: Global,
     made: &Built,
@@ -101,12 +117,9 @@ fn check_run(
 ) -> Result<(), AllocError>
     requires { IsAccepted made.now.program }
 {
-    match loaded(alloc, made.file.as_slice()) {
-        Err(fault) => tell_fault(alloc, fault, tally),
-        Ok(good) => {
-            let came = run_image(alloc, good, wanted.bounds)?;
-            compare(alloc, made, wanted, out, &came, tally)
-        }
+    match run_file(alloc, made.file.as_slice(), wanted.bounds, tally)? {
+        None => Ok(()),
+        Some(came) => compare(alloc, made, wanted, out, &came, tally),
     }
 }
 
