@@ -11,7 +11,7 @@ use jn_sem::outcome::Outcome;
 use std::alloc::{AllocError, Global};
 
 /// How many bytes an output has room for.
-pub const ROOM: usize = 1_048_576;
+pub const ROOM: usize = 65_536;
 
 /// The arena, the depth, and how many steps or charges.
 #[derive(Clone, Copy)]
