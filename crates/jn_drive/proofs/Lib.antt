@@ -1,12 +1,12 @@
 pub mod Judging
-pub mod Linking
 pub mod Pieces
-pub mod Plainness
 pub mod Reading
 pub mod Running
 pub mod ShownAgain
 pub mod Wording
-mod CheckReplies
+mod Agreeing
+mod Building
+mod Meanings
 mod Coming
 mod Ending
 mod OneReply

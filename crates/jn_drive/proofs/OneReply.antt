@@ -1,5 +1,5 @@
--- A job has one reply to some bytes.
-use Rattle.std.proofs.Common.{take, drop, min, ◌≡◌, ◌∙◌, ℕ, ◌≤◌, ◌<◌, ◌+◌, ◌⊎◌, inl, inr, List, [], ◌∷◌, ◌++◌, length, sym, ap, subst, refl, append-nil, length-append, Ok, Err, None, Some, arith, Bool, nat_lt, true, false, Result}
+-- A job but `run` has one reply to some bytes.
+use Rattle.std.proofs.Common.{take, drop, min, ◌≡◌, ◌≢◌, ◌∙◌, ℕ, ◌≤◌, ◌<◌, ◌+◌, ◌⊎◌, inl, inr, List, [], ◌∷◌, ◌++◌, length, sym, ap, subst, refl, append-nil, length-append, Ok, Err, None, Some, arith, Bool, nat_lt, true, false, Result}
 use Rattle.std.proofs.lemmas.Bool.{ltb-true, ltb-false}
 use Rattle.std.proofs.lemmas.List.{take_all, length-take}
 use Rattle.std.specs.declared.option.Option.{Option}
@@ -31,8 +31,6 @@ use Rattle.jn_drive.specs.declared.halt.Halt.TheVariants as halt
 use Rattle.jn_drive.specs.declared.words.SourceJob.{SourceJob}
 use Rattle.jn_drive.specs.declared.words.SourceJob.TheVariants as sources
 use Rattle.jn_printer.specs.DeclText.{program_text}
-use Rattle.jn_drive.specs.Meaning.{output_of}
-use Rattle.jn_drive.specs.Plain.{IsPlain}
 use Rattle.jn_drive.specs.Reply.{Reply, TreeReply, SourceReply, JobReply, ReplyBy, ImageReply, RunReply, IsToldAs, refused_reply}
 use Rattle.jn_base.proofs.SpelledNames.{spelled_is_named}
 
@@ -49,10 +47,6 @@ refused_once p named r s h k = same ((one_tree p named).one (Err r) (Err s) h k)
 -- A tree has one reply.
 tree_once : (p : Program) → IsNamed p → (kind : SourceJob) (a b : Reply) → TreeReply p kind a → TreeReply p kind b → a ≡ b
 tree_once p named kind a b TreeReply.shown TreeReply.shown = refl
-tree_once p named kind a b (TreeReply.ran is) (TreeReply.ran is') = refl
-tree_once p named kind a b (TreeReply.ran is) (TreeReply.not_taken not) = absurd (not is)
-tree_once p named kind a b (TreeReply.not_taken not) (TreeReply.ran is) = absurd (not is)
-tree_once p named kind a b (TreeReply.not_taken not) (TreeReply.not_taken not') = refl
 tree_once p named kind a b (TreeReply.passed is) (TreeReply.passed is') = refl
 tree_once p named kind a b (TreeReply.passed is) (TreeReply.not_passed r by) = absurd (not_both p named r by is)
 tree_once p named kind a b (TreeReply.not_passed r by) (TreeReply.passed is) = absurd (not_both p named r by is)
@@ -87,9 +81,10 @@ image_once : (job : Job) (image : Result Image ImageFault) (a b : Reply) → Ima
 image_once job (Ok i) a b x y = run_once (mach i job.arena job.depth job.steps) a b x y
 image_once job (Err f) a b x y = x ∙ sym y
 
-reply_once : (kind : JobKind) (job : Job) (bytes : List ℕ) (a b : Reply) → ReplyBy kind job bytes a → ReplyBy kind job bytes b → a ≡ b
-reply_once (kinds.OnSource kind) job bytes a b x y = source_once kind bytes a b (one_verdict bytes) x y
-reply_once kinds.Exec job bytes a b x y = image_once job (valid_image_of bytes) a b x y
+reply_once : (kind : JobKind) (job : Job) (bytes : List ℕ) (a b : Reply) → kind ≢ kinds.Run → ReplyBy kind job bytes a → ReplyBy kind job bytes b → a ≡ b
+reply_once (kinds.OnSource kind) job bytes a b not x y = source_once kind bytes a b (one_verdict bytes) x y
+reply_once kinds.Run job bytes a b not x y = absurd (not refl)
+reply_once kinds.Exec job bytes a b not x y = image_once job (valid_image_of bytes) a b x y
 
-pub one_reply : (job : Job) (bytes : List ℕ) (a b : Reply) → JobReply job bytes a → JobReply job bytes b → a ≡ b
-one_reply job bytes a b x y = reply_once job.kind job bytes a b x y
+pub one_reply : (job : Job) (bytes : List ℕ) (a b : Reply) → job.kind ≢ kinds.Run → JobReply job bytes a → JobReply job bytes b → a ≡ b
+one_reply job bytes a b not x y = reply_once job.kind job bytes a b not x y

@@ -16,7 +16,7 @@ use Rattle.jn_drive.specs.declared.words.SourceJob.{SourceJob}
 use Rattle.jn_drive.specs.declared.words.SourceJob.TheVariants as sources
 use Rattle.jn_drive.specs.Words.{Job}
 use Rattle.jn_drive.specs.Reading.{most_read}
-use Rattle.jn_drive.specs.Reply.{Reply, JobReply, ReplyBy, ImageReply, RunReply, IsToldAs, SourceReply, TreeReply, unread_reply, memory_reply}
+use Rattle.jn_drive.specs.Reply.{Reply, JobReply, ReplyBy, ImageReply, RunReply, IsToldAs, SourceReply, SourceRunReply, TreeReply, unread_reply, memory_reply}
 use Rattle.jn_drive.specs.Seen.{Seen, SinkSeen, IsSource, IsToldSource, IsLeft, IsQuiet, IsCut, IsDelivered}
 use Rattle.jn_drive.specs.Job.{Does, Replies, MayReply, IsUnread, IsOfReply, Gives, Cuts, GivesUnlessMemory, GivesSome}
 
@@ -33,8 +33,6 @@ status_is s t e is = subst IsOfReply (sym e) is
 
 tree_status : (p : Program) (kind : SourceJob) (r : Reply) → TreeReply p kind r → IsOfReply r.status
 tree_status p kind r TreeReply.shown = tt
-tree_status p kind r (TreeReply.ran is) = tt
-tree_status p kind r (TreeReply.not_taken not) = tt
 tree_status p kind r (TreeReply.passed is) = tt
 tree_status p kind r (TreeReply.not_passed f by) = tt
 
@@ -55,8 +53,13 @@ image_status : (job : Job) (image : Result Image ImageFault) (r : Reply) → Ima
 image_status job (Ok i) r is = end_status _ r.status r.line is.ended
 image_status job (Err f) r is = status_is r.status statuses.BadImage (ap (λ (x : Reply). x.status) is) tt
 
+run_status : (job : Job) (bytes : List ℕ) (r : Reply) → SourceRunReply job bytes r → IsOfReply r.status
+run_status job bytes r (SourceRunReply.refused line by e) = status_is r.status statuses.Refused (ap (λ (x : Reply). x.status) e) tt
+run_status job bytes r (SourceRunReply.ran p is passes tells) = end_status _ r.status r.line tells.steps.ended
+
 reply_status : (kind : JobKind) (job : Job) (bytes : List ℕ) (r : Reply) → ReplyBy kind job bytes r → IsOfReply r.status
 reply_status (kinds.OnSource kind) job bytes r is = source_status kind bytes r is
+reply_status kinds.Run job bytes r is = run_status job bytes r is
 reply_status kinds.Exec job bytes r is = image_status job (valid_image_of bytes) r is
 
 job_status : (job : Job) (bytes : List ℕ) (r : Reply) → JobReply job bytes r → IsOfReply r.status

@@ -1,15 +1,14 @@
 //! The top call: what `jandc` does with its words, its files and its outputs.
 #![tactic(auto)]
 
-mod code;
 mod exec;
 mod halt;
 mod job;
 pub mod laws;
-mod machine;
-mod plain;
 mod put;
 mod read;
+mod run;
+mod source;
 mod status;
 mod words;
 
