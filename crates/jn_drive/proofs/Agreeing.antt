@@ -13,11 +13,11 @@ use Rattle.jn_sem.specs.Run.{Run}
 use Rattle.jn_code.specs.declared.image.Image.{Image}
 use Rattle.jn_code.specs.Machine.{mach, rules, boot}
 use Rattle.jn_code.specs.Machine as code
-use Rattle.jn_agree.specs.Agrees.{AgreesAt, InRange, SameEnd, halt_as}
+use Rattle.jn_agree.specs.Agrees.{AgreesAt, InRange, SameEnd}
 use Rattle.jn_link.specs.Joined.{IsImageOf}
 use Rattle.jn_drive.specs.declared.status.Status.{Status}
 use Rattle.jn_drive.specs.declared.status.Status.TheVariants as statuses
-use Rattle.jn_drive.specs.Reply.{Reply, RunReply, IsToldAs, IsRightImage, TellsEnd, TellsRun}
+use Rattle.jn_drive.specs.Reply.{Reply, RunReply, IsToldAs, TellsEnd, TellsRun}
 
 -- ---- how ends are told
 
@@ -37,13 +37,13 @@ no_end code.Depth s line t e = let h = sym t.0 ∙ e in absurd (cc)
 no_end code.Stuck s line t e = t
 
 more_or_end : (o : Outcome) → (o ≢ outcome.More → ⊥) → o ≡ outcome.More
-more_or_end outcome.More no = refl
-more_or_end outcome.Ends no = absurd (no (λ e. absurd cc))
-more_or_end outcome.Null no = absurd (no (λ e. absurd cc))
-more_or_end outcome.Zero no = absurd (no (λ e. absurd cc))
-more_or_end outcome.Arena no = absurd (no (λ e. absurd cc))
-more_or_end outcome.Depth no = absurd (no (λ e. absurd cc))
-more_or_end (outcome.Stuck why) no = absurd (no (λ e. absurd cc))
+more_or_end outcome.More never = refl
+more_or_end outcome.Ends never = absurd (never (λ e. absurd cc))
+more_or_end outcome.Null never = absurd (never (λ e. absurd cc))
+more_or_end outcome.Zero never = absurd (never (λ e. absurd cc))
+more_or_end outcome.Arena never = absurd (never (λ e. absurd cc))
+more_or_end outcome.Depth never = absurd (never (λ e. absurd cc))
+more_or_end (outcome.Stuck why) never = absurd (never (λ e. absurd cc))
 
 -- ---- more steps
 
@@ -55,7 +55,7 @@ stays : (i : Image) (a d m n : ℕ) (o : Outcome) (printed : List ℕ) → m ≤
     → SameEnd i a d n o printed
 stays i a d m n o printed le same =
     let on = mach_goes_on i a d m n le in
-    let later : mach i a d n ≡ mach i a d m = on.ended (subst IsSome (sym same.halted) tt) in
+    let later : mach i a d n ≡ mach i a d m = on.ended (subst IsSome (sym same.halted) refl) in
     record {
       halt = same.halt;
       ended = same.ended;
@@ -100,11 +100,10 @@ module _ (p : Program) (i : Image) (is : IsImageOf p i) (a d n : ℕ) (range : I
     halted = halted_as;
     printed = λ b le o printed ran. subst (λ (out : List ℕ). IsPrefix printed out) (sym run.output)
         (prefix_trans printed (mach i a d (32 * b + 32)).output (mach i a d n).output (at.printed b o printed ran)
-            (mach_goes_on i a d (32 * b + 32) n le).output);
+        (mach_goes_on i a d (32 * b + 32) n le).output);
     ended = ended_within;
     goes_on = not_ended;
     image = i;
     right = record { valid = is.valid; rows = is.rows; agrees = is.agrees };
     steps = run;
   }
-

@@ -1,30 +1,24 @@
 -- What jobs on sources and on images reply, and runs.
-use Rattle.std.proofs.Common.{◌≡◌, ◌≢◌, ◌∙◌, ℕ, ◌⊎◌, List, [], drop, take, sym, ap, subst, refl, Result, Ok, Err, Some, None, ◌<◌, true}
+use Rattle.std.proofs.Common.{◌≡◌, ◌≢◌, ◌∙◌, ℕ, List, drop, take, sym, ap, subst, refl, Result, Ok, Err, ◌<◌, true}
 use Rattle.std.specs.declared.option.Option.{Option}
-use Rattle.std.specs.Io.KnownBytes.{append_known}
-use Rattle.jn_steps.specs.Runs.{Report}
-use Rattle.jn_io.specs.Causes.{Rose}
-use Rattle.jn_io.specs.Told.{Files, Lacks}
+use Rattle.jn_io.specs.Told.{Files}
 use Rattle.jn_code.specs.declared.image.Image.{Image}
 use Rattle.jn_code.specs.declared.fault.ImageFault.{ImageFault}
 use Rattle.jn_code.specs.declared.fault.ImageFault.TheVariants as fault
-use Rattle.jn_code.specs.Machine as code
 use Rattle.jn_code.specs.Machine.{mach}
 use Rattle.jn_code.specs.Valid.{IsValid}
 use Rattle.jn_exec.specs.Images.{valid_image_of, IsFaultOf, IsMachineFor}
 use Rattle.jn_exec.proofs.ImageLaws.{front_enough, is_valid}
-use Rattle.jn_exec.specs.Lines.{fault_line}
 use Rattle.jn_machine.specs.Machines.{MachineState}
 use Rattle.jn_drive.specs.declared.halt.Halt.{Halt}
 use Rattle.jn_drive.specs.declared.halt.Halt.TheVariants as halt
-use Rattle.jn_drive.specs.declared.status.Status.{Status}
 use Rattle.jn_drive.specs.declared.status.Status.TheVariants as statuses
 use Rattle.jn_drive.specs.declared.words.JobKind.{JobKind}
 use Rattle.jn_drive.specs.declared.words.JobKind.TheVariants as kinds
 use Rattle.jn_drive.specs.declared.words.SourceJob.{SourceJob}
 use Rattle.jn_drive.specs.Words.{Job}
 use Rattle.jn_drive.specs.Reading.{most_read, ReadsFile}
-use Rattle.jn_drive.specs.Reply.{Reply, told, JobReply, ReplyBy, SourceReply, SourceRunReply, IsRefusalLine, ImageReply, RunReply, refused_reply}
+use Rattle.jn_drive.specs.Reply.{Reply, told, JobReply, ReplyBy, SourceReply, SourceRunReply, ImageReply, RunReply}
 use Rattle.jn_drive.specs.Seen.{Seen, IsSource, IsLeft}
 use Rattle.jn_drive.specs.Answer.{Answer, Answers, reply_of}
 use Rattle.jn_drive.specs.Exec.{HasRead, Loads, IsBadImage}

@@ -1,5 +1,5 @@
 -- What bytes come to, and that the front of a file that was read is answered as the file is.
-use Rattle.std.proofs.Common.{take, drop, min, ◌≡◌, ◌∙◌, ℕ, ◌≤◌, ◌<◌, ◌+◌, ◌⊎◌, inl, inr, List, [], ◌∷◌, ◌++◌, length, sym, ap, subst, refl, append-nil, length-append, Ok, Err, None, Some, arith, Bool, nat_lt, true, false, Result}
+use Rattle.std.proofs.Common.{take, drop, min, ◌≡◌, ◌∙◌, ℕ, ◌≤◌, ◌<◌, ◌⊎◌, inl, inr, List, [], length, sym, ap, subst, refl, Ok, Err, None, arith, Bool, nat_lt, true, false}
 use Rattle.std.proofs.lemmas.Bool.{ltb-true, ltb-false}
 use Rattle.std.proofs.lemmas.List.{take_all, length-take}
 use Rattle.std.specs.declared.option.Option.{Option}
@@ -17,7 +17,7 @@ use Rattle.jn_drive.specs.declared.words.SourceJob.TheVariants as sources
 use Rattle.jn_printer.specs.DeclText.{program_text}
 use Rattle.jn_drive.specs.Reply.{Reply, TreeReply, SourceReply, refused_reply, output_reply}
 use Rattle.jn_drive.specs.Seen.{IsSource, IsLeft}
-use Rattle.jn_drive.specs.Answer.{Answer, Judges, Answers, AnswersTree, IsRefusedBy, IsOfFault, reply_of, too_long_refusal}
+use Rattle.jn_drive.specs.Answer.{Answer, Judges, Answers, AnswersTree, too_long_refusal}
 use Rattle.jn_drive.specs.Built.{IsTextHalt, IsTreeHalt}
 
 -- the program of a source is within the limits

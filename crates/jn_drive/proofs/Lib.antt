@@ -10,3 +10,4 @@ mod Meanings
 mod Coming
 mod Ending
 mod OneReply
+mod Ranges

@@ -5,7 +5,6 @@ use Rattle.jn_base.specs.Spelling.{IsTextOf}
 use Rattle.jn_rules.specs.Verdict.{Verdict}
 use Rattle.jn_drive.specs.declared.words.JobKind.{JobKind}
 use Rattle.jn_drive.specs.declared.words.JobKind.TheVariants as kinds
-use Rattle.jn_drive.specs.declared.words.SourceJob.{SourceJob}
 use Rattle.jn_drive.specs.declared.words.SourceJob.TheVariants as sources
 use Rattle.jn_drive.specs.Words.{Job}
 use Rattle.jn_sound_sources.proofs.Sources.{sources_halt}

@@ -1,11 +1,8 @@
 -- A job but `run` has one reply to some bytes.
-use Rattle.std.proofs.Common.{take, drop, min, ◌≡◌, ◌≢◌, ◌∙◌, ℕ, ◌≤◌, ◌<◌, ◌+◌, ◌⊎◌, inl, inr, List, [], ◌∷◌, ◌++◌, length, sym, ap, subst, refl, append-nil, length-append, Ok, Err, None, Some, arith, Bool, nat_lt, true, false, Result}
-use Rattle.std.proofs.lemmas.Bool.{ltb-true, ltb-false}
-use Rattle.std.proofs.lemmas.List.{take_all, length-take}
+use Rattle.std.proofs.Common.{◌≡◌, ◌≢◌, ◌∙◌, ℕ, List, sym, ap, subst, refl, Ok, Err, None, Some, Result}
 use Rattle.std.specs.declared.option.Option.{Option}
 use Rattle.jn_base.specs.declared.tree.Program.{Program}
 use Rattle.jn_base.specs.declared.refusal.Refusal.{Refusal}
-use Rattle.jn_base.specs.Spelling.{IsTextOf, IsTextRefused, greatest_source}
 use Rattle.jn_base.specs.ProgramNames.{IsNamed}
 use Rattle.jn_rules.specs.Plans.{Nothing}
 use Rattle.jn_rules.specs.Verdict.{TreePasses, TreeRefuses}
@@ -23,14 +20,7 @@ use Rattle.jn_drive.specs.declared.status.Status.{Status}
 use Rattle.jn_drive.specs.declared.words.JobKind.{JobKind}
 use Rattle.jn_drive.specs.declared.words.JobKind.TheVariants as kinds
 use Rattle.jn_drive.specs.Words.{Job}
-use Rattle.jn_parser.specs.declared.fault.ParseFault.{ParseFault}
-use Rattle.jn_parser.specs.declared.fault.ParseFault.TheVariants as parse_fault
-use Rattle.jn_parser.specs.Parsing.{IfRefused, IsRefused}
-use Rattle.jn_drive.specs.declared.halt.Halt.{Halt}
-use Rattle.jn_drive.specs.declared.halt.Halt.TheVariants as halt
 use Rattle.jn_drive.specs.declared.words.SourceJob.{SourceJob}
-use Rattle.jn_drive.specs.declared.words.SourceJob.TheVariants as sources
-use Rattle.jn_printer.specs.DeclText.{program_text}
 use Rattle.jn_drive.specs.Reply.{Reply, TreeReply, SourceReply, JobReply, ReplyBy, ImageReply, RunReply, IsToldAs, refused_reply}
 use Rattle.jn_base.proofs.SpelledNames.{spelled_is_named}
 

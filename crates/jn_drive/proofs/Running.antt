@@ -1,5 +1,5 @@
 -- What a job does, from what it replies and how that is delivered.
-use Rattle.std.proofs.Common.{◌≡◌, ◌≢◌, ◌∙◌, ℕ, ◌≤◌, ◌⊎◌, inl, inr, List, drop, sym, ap, subst, refl, Result, Ok, Err, Some, None, arith}
+use Rattle.std.proofs.Common.{◌≡◌, ◌≢◌, ◌∙◌, ℕ, ◌≤◌, ◌⊎◌, inl, inr, List, drop, sym, ap, subst, Result, Ok, Err, Some, None, arith}
 use Rattle.std.specs.declared.option.Option.{Option}
 use Rattle.std.proofs.lemmas.Option.{same_Some}
 use Rattle.jn_base.specs.declared.tree.Program.{Program}
@@ -13,10 +13,9 @@ use Rattle.jn_drive.specs.declared.status.Status.TheVariants as statuses
 use Rattle.jn_drive.specs.declared.words.JobKind.{JobKind}
 use Rattle.jn_drive.specs.declared.words.JobKind.TheVariants as kinds
 use Rattle.jn_drive.specs.declared.words.SourceJob.{SourceJob}
-use Rattle.jn_drive.specs.declared.words.SourceJob.TheVariants as sources
 use Rattle.jn_drive.specs.Words.{Job}
 use Rattle.jn_drive.specs.Reading.{most_read}
-use Rattle.jn_drive.specs.Reply.{Reply, JobReply, ReplyBy, ImageReply, RunReply, IsToldAs, SourceReply, SourceRunReply, TreeReply, unread_reply, memory_reply}
+use Rattle.jn_drive.specs.Reply.{Reply, JobReply, ReplyBy, ImageReply, IsToldAs, SourceReply, SourceRunReply, TreeReply, unread_reply, memory_reply}
 use Rattle.jn_drive.specs.Seen.{Seen, SinkSeen, IsSource, IsToldSource, IsLeft, IsQuiet, IsCut, IsDelivered}
 use Rattle.jn_drive.specs.Job.{Does, Replies, MayReply, IsUnread, IsOfReply, Gives, Cuts, GivesUnlessMemory, GivesSome}
 

@@ -1,5 +1,5 @@
 -- The job of the words by their parser, and what is done where they are none that there is.
-use Rattle.std.proofs.Common.{◌≡◌, ◌∙◌, ℕ, inl, inr, List, sym, ap, append-nil, refl, Some, None, Err, arith}
+use Rattle.std.proofs.Common.{◌≡◌, ◌∙◌, ℕ, inl, inr, List, sym, ap, append-nil, refl, Some, None, arith}
 use Rattle.std.specs.Prelude.{option_map, option_and_then}
 use Rattle.std.specs.declared.option.Option.{Option}
 use Rattle.std.specs.Prelude.{[]}
@@ -7,9 +7,7 @@ use Rattle.std.specs.Io.KnownBytes.{append_known}
 use Rattle.jn_jobs.specs.Jobs as words
 use Rattle.jn_drive.specs.declared.status.Status.{Status}
 use Rattle.jn_drive.specs.declared.status.Status.TheVariants as statuses
-use Rattle.jn_drive.specs.declared.halt.Halt.TheVariants as halt
 use Rattle.jn_drive.specs.declared.words.JobKind.{JobKind}
-use Rattle.jn_drive.specs.declared.words.Named.{Named}
 use Rattle.jn_drive.specs.Reply.{told, memory_reply}
 use Rattle.jn_drive.specs.Seen.{Seen, SinkSeen, TookAll, IsPut, IsCut, IsDelivered}
 use Rattle.jn_drive.specs.Words.{Job, kind_here, with_kind, here, job_of}

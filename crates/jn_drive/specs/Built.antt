@@ -1,5 +1,5 @@
 -- From the bytes of a source to the machine that runs its program.
-use Rattle.std.specs.Prelude.{◌≡◌, ℕ, ◌⊎◌, List, drop, true, None, Some, Result, Ok, Err, ⊤}
+use Rattle.std.specs.Prelude.{◌≡◌, ℕ, ◌⊎◌, List, true, None, Some, Result, Ok, Err, ⊤}
 use Rattle.std.specs.declared.option.Option.{Option}
 use Rattle.jn_base.specs.declared.tree.Program.{Program}
 use Rattle.jn_base.specs.declared.refusal.Refusal.{Refusal}
@@ -68,4 +68,3 @@ Makes job files rest' faults faults' (Err (halt.Refused line)) =
 Makes job files rest' faults faults' (Err halt.Unread) = Rose faults faults' ⊎ Lacks files job.file
 Makes job files rest' faults faults' (Err halt.Memory) = faults' ≡ faults
 Makes job files rest' faults faults' (Err (halt.BadImage line)) = ⊥
-

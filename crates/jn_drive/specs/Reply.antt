@@ -157,4 +157,3 @@ ReplyBy kinds.Exec job bytes reply = ImageReply job (valid_image_of bytes) reply
 
 abbrev pub JobReply : Job → List ℕ → Reply → Type 0
 JobReply job bytes reply = ReplyBy job.kind job bytes reply
-

@@ -1,5 +1,5 @@
 -- What `check` and `run` reply, as the verdict of the source and the meaning of its program.
-use Rattle.std.specs.Prelude.{◌≡◌, ℕ, List, [], Option, Ok, Err}
+use Rattle.std.specs.Prelude.{◌≡◌, ℕ, List, [], Option, Err}
 use Rattle.jn_base.specs.declared.tree.Program.{Program}
 use Rattle.jn_base.specs.declared.refusal.Refusal.{Refusal}
 use Rattle.jn_rules.specs.Verdict.{IsAccepted, Verdict}
@@ -34,4 +34,3 @@ abbrev pub RunsTellMeanings : Type 0
 RunsTellMeanings =
     (job : Job) (bytes : List ℕ) (reply : Reply) → job.kind ≡ kinds.Run → JobReply job bytes reply
     → MeaningReply job bytes reply
-

@@ -24,11 +24,11 @@ use jn_jobs::WordsFault;
 pub use status::Status;
 use std::alloc::Global;
 
-/// Does the job that the words are: `show FILE` puts the canonical text of the program that the file
-/// spells on `out`, `run FILE` runs it and puts what it prints, `check FILE` puts nothing, and `exec FILE` runs an image.
-/// A source that spells none is refused by a line on `err`, and by `check` each one that breaks a rule. The options
-/// `--arena`, `--depth` and `--steps` may come with each job, and bound what `exec` runs. All other words are answered by
-/// the usage line.
+/// Does the job that the words are: `show FILE` puts the canonical text of the program that the file spells on `out`,
+/// `check FILE` puts nothing, `run FILE` compiles the program and runs it, and `exec FILE` runs an image. A source that
+/// spells no program is refused by a line on `err`, and by `check` and `run` each one that breaks a rule. The options
+/// `--arena`, `--depth` and `--steps` may come with each job, and bound what `run` and `exec` run. All other words are
+/// answered by the usage line.
 ///
 /// `DoesJob` in specs/Job.antt says for each status when it comes, and what the files and the outputs
 /// then are.

@@ -109,4 +109,3 @@ pub fn run<S: Store, O: Sink, E: Sink>(
         Err(halt) => deliver(Err(halt), out, err),
     }
 }
-

@@ -73,4 +73,3 @@ fn refused(alloc: Global, program: Option<&Program>, refusal: &Refusal) -> Halt
         Err(_) => Halt::Memory,
     }
 }
-
