@@ -92,7 +92,7 @@ text_short p bytes is = elim (short_or_long (length bytes) (nat_lt greatest_sour
   | inr long ↦ absurd (is.not_refused too_long_refusal (IsTextRefused.too_long long))
 ]
 
-text_of_front : (p : Program) (bytes front : List ℕ) → front ≡ take 1048577 bytes → IsTextOf p front → IsTextOf p bytes
+pub text_of_front : (p : Program) (bytes front : List ℕ) → front ≡ take 1048577 bytes → IsTextOf p front → IsTextOf p bytes
 text_of_front p bytes front is text = subst (λ (bs : List ℕ). IsTextOf p bs) (front_whole bytes front is (text_short p front text)) text
 
 -- The line of a source that is too long is that of each other one.
@@ -101,7 +101,7 @@ other_line bytes front line long long' (IsRefusalLine.of_text r by is) =
     IsRefusalLine.of_text too_long_refusal (IsTextRefused.too_long long) (is ∙ ap (λ (x : Refusal). line_of None x) (sym (long_only front long' r by)))
 other_line bytes front line long long' (IsRefusalLine.of_tree p r text by is) = absurd (text.not_refused too_long_refusal (IsTextRefused.too_long long'))
 
-line_of_front : (bytes front line : List ℕ) → front ≡ take 1048577 bytes → IsRefusalLine front line → IsRefusalLine bytes line
+pub line_of_front : (bytes front line : List ℕ) → front ≡ take 1048577 bytes → IsRefusalLine front line → IsRefusalLine bytes line
 line_of_front bytes front line is by = elim (short_or_long (length bytes) (nat_lt greatest_source (length bytes)) refl) [
   | inl short ↦ subst (λ (bs : List ℕ). IsRefusalLine bs line) (is ∙ take_all 1048577 bytes (omega (arith, short))) by
   | inr long ↦ other_line bytes front line long (subst (λ (xs : List ℕ). greatest_source < length xs) (sym is) (front_long bytes long)) by

@@ -25,7 +25,7 @@ use Rattle.jn_drive.specs.Exec.{HasRead, Loads, IsBadImage}
 use Rattle.jn_agree.specs.Agrees.{InRange}
 use Rattle.jn_drive.specs.Built.{Makes, IsMachineOf}
 use Rattle.jn_drive.proofs.Agreeing.{tells_run}
-use Rattle.jn_drive.proofs.Running.{Comes}
+use Rattle.jn_drive.proofs.Running.{Comes, ran_out}
 
 -- ---- sources
 
@@ -49,7 +49,7 @@ source_comes job source before after (Ok output) is (reads, more) = source_bytes
 source_comes job source before after (Err (halt.Refused line)) is (reads, more) = source_bytes job source before after _ is reads more
 source_comes job source before after (Err (halt.BadImage line)) is (reads, more) = source_bytes job source before after _ is reads more
 source_comes job source before after (Err halt.Unread) is ans = Comes.unread ans refl
-source_comes job source before after (Err halt.Memory) is ans = Comes.no_memory ans refl
+source_comes job source before after (Err halt.Memory) is ans = Comes.no_memory ans (ran_out job before after)
 
 -- ---- images
 
@@ -64,7 +64,7 @@ pub no_machine : (job : Job) (before after : Seen) (h : Halt) → job.kind ≡ k
 no_machine job before after (halt.BadImage line) is (bytes, read, (f, found, shown)) =
     has_read job before after bytes _ is read (subst (λ (r : Result Image ImageFault). ImageReply job r (told statuses.BadImage line)) (sym found) (ap (told statuses.BadImage) shown))
 no_machine job before after halt.Unread is loads = Comes.unread loads refl
-no_machine job before after halt.Memory is loads = Comes.no_memory loads refl
+no_machine job before after halt.Memory is loads = Comes.no_memory loads (ran_out job before after)
 no_machine job before after (halt.Refused line) is loads = absurd loads
 
 -- the run of the image
@@ -141,7 +141,7 @@ pub nothing_runs : (job : Job) (before after : Seen) (h : Halt) → job.kind ≡
 nothing_runs job before after (halt.Refused line) is (bytes, read, by) = run_read job before after bytes _ is read (SourceRunReply.refused line by refl)
 nothing_runs job before after (halt.BadImage line) is makes = absurd makes
 nothing_runs job before after halt.Unread is makes = Comes.unread makes refl
-nothing_runs job before after halt.Memory is makes = Comes.no_memory makes refl
+nothing_runs job before after halt.Memory is makes = Comes.no_memory makes (ran_out job before after)
 
 told_run : (job : Job) (bytes : List ℕ) (m : MachineState) (a : Reply) → InRange job.arena job.depth → IsMachineOf bytes job.arena job.depth m → RunReply (mach m.image m.arena m.depth job.steps) a → SourceRunReply job bytes a
 told_run job bytes m a range of run =

@@ -7,6 +7,7 @@ pub mod Wording
 mod Agreeing
 mod Building
 mod Meanings
+mod Means
 mod Coming
 mod Ending
 mod OneReply

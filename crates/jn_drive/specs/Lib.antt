@@ -3,6 +3,7 @@ pub mod Answer
 pub mod Built
 pub mod Exec
 pub mod Job
+pub mod Means
 pub mod Reading
 pub mod Reply
 pub mod Seen

@@ -14,6 +14,7 @@ use Rattle.jn_drive.specs.Seen.{IsSource, IsLeft}
 abbrev pub most_read : JobKind → ℕ
 most_read (kinds.OnSource kind) = 1048577
 most_read kinds.Run = 1048577
+most_read kinds.Mean = 1048577
 most_read kinds.Exec = 134217729
 
 -- reading failed, or memory ran out

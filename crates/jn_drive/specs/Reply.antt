@@ -44,8 +44,12 @@ usage_reply = told statuses.Usage (codes "usage: jandc JOB FILE [OUT] [--arena N
 abbrev pub unread_reply : Reply
 unread_reply = told statuses.ReadFault (codes "fault: read\n")
 
+-- Memory ran out behind this output.
+abbrev pub out_of_memory : List ℕ → Reply
+out_of_memory output = record { output = output; line = codes "fault: memory\n"; status = statuses.Memory }
+
 abbrev pub memory_reply : Reply
-memory_reply = told statuses.Memory (codes "fault: memory\n")
+memory_reply = out_of_memory []
 
 -- The line of a refusal.
 abbrev pub refused_reply : List ℕ → Reply
@@ -147,12 +151,37 @@ pub data SourceRunReply (job : Job) (bytes : List ℕ) (reply : Reply) : Type 0 
   ran : (p : Program) → IsTextOf p bytes → TreePasses p → TellsRun p job.arena job.depth job.steps reply
       → SourceRunReply job bytes reply
 
+-- How an outcome of a program's meaning is told: by its status and line, More as Steps. (The meaning of an accepted
+-- program is never stuck.)
+abbrev pub IsMeantAs : Outcome → Status → List ℕ → Type 0
+IsMeantAs outcome.Ends s line = (s ≡ statuses.Done) × (line ≡ [])
+IsMeantAs outcome.Null s line = (s ≡ statuses.Null) × (line ≡ codes "fault: null\n")
+IsMeantAs outcome.Zero s line = (s ≡ statuses.Zero) × (line ≡ codes "fault: zero divisor\n")
+IsMeantAs outcome.Arena s line = (s ≡ statuses.Arena) × (line ≡ codes "fault: arena full\n")
+IsMeantAs outcome.Depth s line = (s ≡ statuses.Depth) × (line ≡ codes "fault: call depth\n")
+IsMeantAs outcome.More s line = (s ≡ statuses.Steps) × (line ≡ codes "fault: steps\n")
+IsMeantAs (outcome.Stuck why) s line = ⊥
+
+-- The reply has the outcome of the program's meaning with at most n charges, an arena of a cells and at most d frames, and
+-- all that it prints.
+pub record TellsMeaning (p : Program) (a d n : ℕ) (reply : Reply) : Type 0 where
+  pub outcome : Outcome
+  pub ran : Run p n a d outcome reply.output
+  pub told : IsMeantAs outcome reply.status reply.line
+
+-- The reply of `mean` to the bytes of a source: the line of its refusal, or what its program means.
+pub data SourceMeanReply (job : Job) (bytes : List ℕ) (reply : Reply) : Type 0 where
+  refused : (line : List ℕ) → IsRefusalLine bytes line → reply ≡ refused_reply line → SourceMeanReply job bytes reply
+  meant : (p : Program) → IsTextOf p bytes → TreePasses p → TellsMeaning p job.arena job.depth job.steps reply
+      → SourceMeanReply job bytes reply
+
 -- ---- replies
 
 -- The reply of a job to the bytes of its file.
 abbrev pub ReplyBy : JobKind → Job → List ℕ → Reply → Type 0
 ReplyBy (kinds.OnSource kind) job bytes reply = SourceReply kind bytes reply
 ReplyBy kinds.Run job bytes reply = SourceRunReply job bytes reply
+ReplyBy kinds.Mean job bytes reply = SourceMeanReply job bytes reply
 ReplyBy kinds.Exec job bytes reply = ImageReply job (valid_image_of bytes) reply
 
 abbrev pub JobReply : Job → List ℕ → Reply → Type 0

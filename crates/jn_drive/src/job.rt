@@ -9,6 +9,7 @@ ghost use Rattle.jn_drive.specs.Job.{Does};
 
 use crate::exec::exec;
 use crate::halt::Halt;
+use crate::mean::mean;
 use crate::put::deliver;
 use crate::read::read_file;
 use crate::run::run;
@@ -140,6 +141,7 @@ pub fn do_job<S: Store, O: Sink, E: Sink>(
     match job.kind {
         JobKind::OnSource(kind) => on_source(alloc, kind, job, store, out, err),
         JobKind::Run => run(alloc, job, store, out, err),
+        JobKind::Mean => mean(alloc, job, store, out, err),
         JobKind::Exec => exec(alloc, job, store, out, err),
     }
 }

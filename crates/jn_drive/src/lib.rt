@@ -5,6 +5,7 @@ mod exec;
 mod halt;
 mod job;
 pub mod laws;
+mod mean;
 mod put;
 mod read;
 mod run;
@@ -25,10 +26,10 @@ pub use status::Status;
 use std::alloc::Global;
 
 /// Does the job that the words are: `show FILE` puts the canonical text of the program that the file spells on `out`,
-/// `check FILE` puts nothing, `run FILE` compiles the program and runs it, and `exec FILE` runs an image. A source that
-/// spells no program is refused by a line on `err`, and by `check` and `run` each one that breaks a rule. The options
-/// `--arena`, `--depth` and `--steps` may come with each job, and bound what `run` and `exec` run. All other words are
-/// answered by the usage line.
+/// `check FILE` puts nothing, `run FILE` compiles the program and runs it, `mean FILE` runs its meaning as it is defined,
+/// and `exec FILE` runs an image. A source that spells no program is refused by a line on `err`, and by `check`, `run` and
+/// `mean` each one that breaks a rule. The options `--arena`, `--depth` and `--steps` may come with each job, and bound
+/// what `run`, `mean` and `exec` run; the steps of `mean` are charges. All other words are answered by the usage line.
 ///
 /// `DoesJob` in specs/Job.antt says for each status when it comes, and what the files and the outputs
 /// then are.

@@ -21,6 +21,8 @@ pub enum JobKind {
     OnSource(SourceJob),
     /// Runs a program.
     Run,
+    /// Runs the meaning of a source.
+    Mean,
     /// Runs an image.
     Exec,
 }
@@ -55,6 +57,7 @@ fn kind_here(kind: jn_jobs::JobKind) -> Option<JobKind>
         jn_jobs::JobKind::Show => Some(JobKind::OnSource(SourceJob::Show)),
         jn_jobs::JobKind::Run => Some(JobKind::Run),
         jn_jobs::JobKind::Check => Some(JobKind::OnSource(SourceJob::Check)),
+        jn_jobs::JobKind::Mean => Some(JobKind::Mean),
         jn_jobs::JobKind::Exec => Some(JobKind::Exec),
         _ => None,
     }
