@@ -1,34 +1,31 @@
--- What jobs on sources and on images reply.
-use Rattle.std.proofs.Common.{◌≡◌, ◌≢◌, ◌∙◌, ℕ, ◌⊎◌, List, [], drop, take, sym, ap, subst, refl, Result, Ok, Err, Some, None, ◌<◌, true}
+-- What jobs on sources and on images reply, and runs.
+use Rattle.std.proofs.Common.{◌≡◌, ◌≢◌, ◌∙◌, ℕ, List, drop, take, sym, ap, subst, refl, Result, Ok, Err, ◌<◌, true}
 use Rattle.std.specs.declared.option.Option.{Option}
-use Rattle.std.specs.Io.KnownBytes.{append_known}
-use Rattle.jn_steps.specs.Runs.{Report}
-use Rattle.jn_io.specs.Causes.{Rose}
-use Rattle.jn_io.specs.Told.{Files, Lacks}
+use Rattle.jn_io.specs.Told.{Files}
 use Rattle.jn_code.specs.declared.image.Image.{Image}
 use Rattle.jn_code.specs.declared.fault.ImageFault.{ImageFault}
 use Rattle.jn_code.specs.declared.fault.ImageFault.TheVariants as fault
-use Rattle.jn_code.specs.Machine as code
 use Rattle.jn_code.specs.Machine.{mach}
 use Rattle.jn_code.specs.Valid.{IsValid}
 use Rattle.jn_exec.specs.Images.{valid_image_of, IsFaultOf, IsMachineFor}
 use Rattle.jn_exec.proofs.ImageLaws.{front_enough, is_valid}
-use Rattle.jn_exec.specs.Lines.{fault_line}
 use Rattle.jn_machine.specs.Machines.{MachineState}
 use Rattle.jn_drive.specs.declared.halt.Halt.{Halt}
 use Rattle.jn_drive.specs.declared.halt.Halt.TheVariants as halt
-use Rattle.jn_drive.specs.declared.status.Status.{Status}
 use Rattle.jn_drive.specs.declared.status.Status.TheVariants as statuses
 use Rattle.jn_drive.specs.declared.words.JobKind.{JobKind}
 use Rattle.jn_drive.specs.declared.words.JobKind.TheVariants as kinds
 use Rattle.jn_drive.specs.declared.words.SourceJob.{SourceJob}
 use Rattle.jn_drive.specs.Words.{Job}
 use Rattle.jn_drive.specs.Reading.{most_read, ReadsFile}
-use Rattle.jn_drive.specs.Reply.{Reply, told, JobReply, ReplyBy, SourceReply, ImageReply, RunReply}
+use Rattle.jn_drive.specs.Reply.{Reply, told, JobReply, ReplyBy, SourceReply, SourceRunReply, ImageReply, RunReply}
 use Rattle.jn_drive.specs.Seen.{Seen, IsSource, IsLeft}
 use Rattle.jn_drive.specs.Answer.{Answer, Answers, reply_of}
 use Rattle.jn_drive.specs.Exec.{HasRead, Loads, IsBadImage}
-use Rattle.jn_drive.proofs.Running.{Comes}
+use Rattle.jn_agree.specs.Agrees.{InRange}
+use Rattle.jn_drive.specs.Built.{Makes, IsMachineOf}
+use Rattle.jn_drive.proofs.Agreeing.{tells_run}
+use Rattle.jn_drive.proofs.Running.{Comes, ran_out}
 
 -- ---- sources
 
@@ -52,7 +49,7 @@ source_comes job source before after (Ok output) is (reads, more) = source_bytes
 source_comes job source before after (Err (halt.Refused line)) is (reads, more) = source_bytes job source before after _ is reads more
 source_comes job source before after (Err (halt.BadImage line)) is (reads, more) = source_bytes job source before after _ is reads more
 source_comes job source before after (Err halt.Unread) is ans = Comes.unread ans refl
-source_comes job source before after (Err halt.Memory) is ans = Comes.no_memory ans refl
+source_comes job source before after (Err halt.Memory) is ans = Comes.no_memory ans (ran_out job before after)
 
 -- ---- images
 
@@ -67,7 +64,7 @@ pub no_machine : (job : Job) (before after : Seen) (h : Halt) → job.kind ≡ k
 no_machine job before after (halt.BadImage line) is (bytes, read, (f, found, shown)) =
     has_read job before after bytes _ is read (subst (λ (r : Result Image ImageFault). ImageReply job r (told statuses.BadImage line)) (sym found) (ap (told statuses.BadImage) shown))
 no_machine job before after halt.Unread is loads = Comes.unread loads refl
-no_machine job before after halt.Memory is loads = Comes.no_memory loads refl
+no_machine job before after halt.Memory is loads = Comes.no_memory loads (ran_out job before after)
 no_machine job before after (halt.Refused line) is loads = absurd loads
 
 -- the run of the image
@@ -130,3 +127,39 @@ is_sound job files rest' f f' m loads = is_valid loads.0 m.image loads.2.image
 
 pub is_small : (job : Job) (files : Option Files) (rest' : Option (List ℕ)) (f f' : ℕ) (m : MachineState) → job.arena < 4294967296 → Loads job files rest' f f' (Ok m) → m.arena < 4294967296
 is_small job files rest' f f' m small loads = subst (λ (n : ℕ). n < 4294967296) (sym loads.2.arena_is) small
+
+-- ---- runs of sources
+
+run_reply : (job : Job) (bytes : List ℕ) (a : Reply) → job.kind ≡ kinds.Run → SourceRunReply job bytes a → JobReply job bytes a
+run_reply job bytes a is x = subst (λ (k : JobKind). ReplyBy k job bytes a) (sym is) x
+
+run_read : (job : Job) (before after : Seen) (bytes : List ℕ) (a : Reply) → job.kind ≡ kinds.Run → HasRead job before.store.files after.store.rest before.store.read_faults after.store.read_faults bytes → SourceRunReply job bytes a → Comes job before after a
+run_read job before after bytes a is read x = Comes.to_bytes bytes read.source read.reads read.left (run_reply job bytes a is x)
+
+-- the line of the refusal, or why nothing runs
+pub nothing_runs : (job : Job) (before after : Seen) (h : Halt) → job.kind ≡ kinds.Run → Makes job before.store.files after.store.rest before.store.read_faults after.store.read_faults (Err h) → Comes job before after (reply_of (Err h))
+nothing_runs job before after (halt.Refused line) is (bytes, read, by) = run_read job before after bytes _ is read (SourceRunReply.refused line by refl)
+nothing_runs job before after (halt.BadImage line) is makes = absurd makes
+nothing_runs job before after halt.Unread is makes = Comes.unread makes refl
+nothing_runs job before after halt.Memory is makes = Comes.no_memory makes (ran_out job before after)
+
+told_run : (job : Job) (bytes : List ℕ) (m : MachineState) (a : Reply) → InRange job.arena job.depth → IsMachineOf bytes job.arena job.depth m → RunReply (mach m.image m.arena m.depth job.steps) a → SourceRunReply job bytes a
+told_run job bytes m a range of run =
+    let bounds : RunReply (mach m.image job.arena job.depth job.steps) a
+    = subst (λ (n : ℕ). RunReply (mach m.image n job.depth job.steps) a) of.arena_is (subst (λ (d : ℕ). RunReply (mach m.image m.arena d job.steps) a) of.depth_is run) in
+    SourceRunReply.ran of.program of.text of.passes (tells_run of.program m.image of.image job.arena job.depth job.steps range a bounds)
+
+-- the run of the program
+pub program_runs : (job : Job) (before after : Seen) (m : MachineState) (a : Reply) → job.kind ≡ kinds.Run → InRange job.arena job.depth → Makes job before.store.files after.store.rest before.store.read_faults after.store.read_faults (Ok m)
+    → RunReply (mach m.image m.arena m.depth job.steps) a → Comes job before after a
+program_runs job before after m a is range (bytes, read, of) run = run_read job before after bytes a is read (told_run job bytes m a range of run)
+
+-- what the machine that was made is
+pub made_fresh : (job : Job) (files : Option Files) (rest' : Option (List ℕ)) (f f' : ℕ) (m : MachineState) → Makes job files rest' f f' (Ok m) → m.fresh ≡ true
+made_fresh job files rest' f f' m makes = makes.2.fresh
+
+pub made_sound : (job : Job) (files : Option Files) (rest' : Option (List ℕ)) (f f' : ℕ) (m : MachineState) → Makes job files rest' f f' (Ok m) → IsValid m.image
+made_sound job files rest' f f' m makes = makes.2.image.valid
+
+pub made_small : (job : Job) (files : Option Files) (rest' : Option (List ℕ)) (f f' : ℕ) (m : MachineState) → job.arena < 4294967296 → Makes job files rest' f f' (Ok m) → m.arena < 4294967296
+made_small job files rest' f f' m small makes = subst (λ (n : ℕ). n < 4294967296) (sym makes.2.arena_is) small

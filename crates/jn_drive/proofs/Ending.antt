@@ -1,19 +1,17 @@
 -- How the end of a run is told.
-use Rattle.std.proofs.Common.{◌≡◌, ◌∙◌, ◌≢◌, ℕ, ◌≤◌, ◌<◌, ◌^◌, ◌⊎◌, inl, inr, List, [], ◌++◌, take, length, sym, ap, subst, refl, Some, None, arith, append-nil, codes}
+use Rattle.std.proofs.Common.{◌≡◌, ◌∙◌, ◌≢◌, ℕ, ◌≤◌, inl, inr, List, [], take, length, sym, ap, subst, refl, Some, None, append-nil, codes}
 use Rattle.std.proofs.lemmas.List.{take_at}
 use Rattle.std.specs.declared.option.Option.{Option}
 use Rattle.std.specs.Io.KnownBytes.{append_known}
 use Rattle.jn_steps.specs.Runs.{Report}
-use Rattle.jn_io.specs.Causes.{Rose}
 use Rattle.jn_code.specs.Machine as code
 use Rattle.jn_machine.specs.declared.run.Halt.{Halt as RunHalt}
 use Rattle.jn_machine.specs.declared.run.Halt.TheVariants as ends
 use Rattle.jn_machine.specs.Ends.{Ended, CameTo, Failed}
-use Rattle.jn_machine.specs.Writes.{Cut}
 use Rattle.jn_drive.specs.declared.status.Status.{Status}
 use Rattle.jn_drive.specs.declared.status.Status.TheVariants as statuses
 use Rattle.jn_drive.specs.Reply.{Reply, RunReply, IsToldAs}
-use Rattle.jn_drive.specs.Seen.{SinkSeen, TookAll, TookSome, IsPut, IsGiven, IsCut, IsDelivered}
+use Rattle.jn_drive.specs.Seen.{SinkSeen, TookAll, TookSome, IsPut, IsCut}
 use Rattle.jn_drive.specs.Exec.{EndTold, Tells}
 
 append_nothing : (k : Option (List ℕ)) → k ≡ append_known k []

@@ -1,5 +1,5 @@
 -- What bytes come to, and that the front of a file that was read is answered as the file is.
-use Rattle.std.proofs.Common.{take, drop, min, ◌≡◌, ◌∙◌, ℕ, ◌≤◌, ◌<◌, ◌+◌, ◌⊎◌, inl, inr, List, [], ◌∷◌, ◌++◌, length, sym, ap, subst, refl, append-nil, length-append, Ok, Err, None, Some, arith, Bool, nat_lt, true, false, Result}
+use Rattle.std.proofs.Common.{take, drop, min, ◌≡◌, ◌∙◌, ℕ, ◌≤◌, ◌<◌, ◌⊎◌, inl, inr, List, [], length, sym, ap, subst, refl, Ok, Err, None, arith, Bool, nat_lt, true, false}
 use Rattle.std.proofs.lemmas.Bool.{ltb-true, ltb-false}
 use Rattle.std.proofs.lemmas.List.{take_all, length-take}
 use Rattle.std.specs.declared.option.Option.{Option}
@@ -7,38 +7,18 @@ use Rattle.jn_base.specs.declared.tree.Program.{Program}
 use Rattle.jn_base.specs.declared.refusal.Refusal.{Refusal}
 use Rattle.jn_base.specs.Spelling.{IsTextOf, IsTextRefused, greatest_source}
 use Rattle.jn_base.specs.WithinLimits.{IsWithinLimits}
-use Rattle.jn_heads.specs.declared.fault.CheckFault.{CheckFault}
-use Rattle.jn_heads.specs.declared.fault.CheckFault.TheVariants as check_fault
-use Rattle.jn_heads.specs.Told.{Told}
-use Rattle.jn_check.specs.declared.world.World.{World}
-use Rattle.jn_check.specs.Worlds.{nothing}
-use Rattle.jn_rules.specs.Verdict.{TreePasses, TreeRefuses, TreeVerdict}
+use Rattle.jn_rules.specs.Verdict.{TreePasses}
 use Rattle.jn_io.specs.Told.{Files}
 use Rattle.jn_words.specs.Line.{line_of}
-use Rattle.jn_parser.specs.declared.fault.ParseFault.{ParseFault}
-use Rattle.jn_parser.specs.declared.fault.ParseFault.TheVariants as parse_fault
-use Rattle.jn_parser.specs.Parsing.{IfRefused}
 use Rattle.jn_drive.specs.declared.halt.Halt.{Halt}
 use Rattle.jn_drive.specs.declared.halt.Halt.TheVariants as halt
 use Rattle.jn_drive.specs.declared.words.SourceJob.{SourceJob}
 use Rattle.jn_drive.specs.declared.words.SourceJob.TheVariants as sources
 use Rattle.jn_printer.specs.DeclText.{program_text}
-use Rattle.jn_drive.specs.Meaning.{output_of}
-use Rattle.jn_drive.specs.Plain.{IsPlain}
 use Rattle.jn_drive.specs.Reply.{Reply, TreeReply, SourceReply, refused_reply, output_reply}
 use Rattle.jn_drive.specs.Seen.{IsSource, IsLeft}
-use Rattle.jn_drive.specs.Answer.{Answer, Judges, Answers, AnswersTree, IsRefusedBy, IsOfFault, IsNotTaken, reply_of, too_long_refusal}
-
--- what the check of a program is refused by
-pub check_refused : (p : Program) (o : Result World CheckFault) (f : CheckFault) (r : Refusal) → o ≡ Err f → f ≡ check_fault.Refused r → Told (TreeVerdict p) nothing o → TreeRefuses p r
-check_refused p (Ok w) f r e g h = absurd (cc e)
-check_refused p (Err (check_fault.Refused s)) f r e g h =
-    let k : check_fault.Refused s ≡ f = cc e in
-    let same : check_fault.Refused s ≡ check_fault.Refused r = k ∙ g in
-    let is : s ≡ r = cc same in subst (λ (x : Refusal). TreeRefuses p x) is h
-check_refused p (Err check_fault.Memory) f r e g h =
-    let k : check_fault.Memory ≡ f = cc e in
-    let same : check_fault.Memory ≡ check_fault.Refused r = k ∙ g in absurd (cc same)
+use Rattle.jn_drive.specs.Answer.{Answer, Judges, Answers, AnswersTree, too_long_refusal}
+use Rattle.jn_drive.specs.Built.{IsTextHalt, IsTreeHalt}
 
 -- the program of a source is within the limits
 pub within_limits : (p : Program) (bytes : List ℕ) → IsTextOf p bytes → IsWithinLimits p
@@ -51,26 +31,17 @@ by_kind p known kind r is tree = subst (λ (k : SourceJob). TreeReply p k r) (sy
 pub tree_shown : (p : Program) (kind : SourceJob) (output : List ℕ) → kind ≡ sources.Show → output ≡ program_text p → TreeReply p kind (output_reply output)
 tree_shown p kind output k o = by_kind p sources.Show kind (output_reply output) k (subst (λ (o' : List ℕ). TreeReply p sources.Show (output_reply o')) (sym o) TreeReply.shown)
 
-pub tree_ran : (p : Program) (kind : SourceJob) (output : List ℕ) → kind ≡ sources.Run → IsPlain p → output ≡ output_of p → TreeReply p kind (output_reply output)
-tree_ran p kind output k plain o = by_kind p sources.Run kind (output_reply output) k (subst (λ (o' : List ℕ). TreeReply p sources.Run (output_reply o')) (sym o) (TreeReply.ran plain))
-
-pub tree_not_taken : (p : Program) (kind : SourceJob) (h : Halt) → kind ≡ sources.Run → (IsPlain p → ⊥) → IsNotTaken h → AnswersTree p kind (Err h)
-tree_not_taken p kind (halt.Refused line) k not is = by_kind p sources.Run kind (refused_reply line) k (subst (λ (r : Reply). TreeReply p sources.Run r) (sym is) (TreeReply.not_taken not))
-tree_not_taken p kind (halt.BadImage line) k not is = absurd is
-tree_not_taken p kind halt.Unread k not is = absurd is
-tree_not_taken p kind halt.Memory k not is = is
-
 pub tree_checked : (p : Program) (kind : SourceJob) (a : Answer) → kind ≡ sources.Check → AnswersTree p sources.Check a → AnswersTree p kind a
 tree_checked p kind a k is = subst (λ (j : SourceJob). AnswersTree p j a) (sym k) is
 
 pub tree_passed : (p : Program) (output : List ℕ) → output ≡ [] → TreePasses p → TreeReply p sources.Check (output_reply output)
 tree_passed p output e is = subst (λ (o : List ℕ). TreeReply p sources.Check (output_reply o)) (sym e) (TreeReply.passed is)
 
-pub tree_not_passed : (p : Program) (r : Refusal) (h : Halt) → TreeRefuses p r → IsRefusedBy (Some p) r h → AnswersTree p sources.Check (Err h)
-tree_not_passed p r (halt.Refused line) by is = subst (λ (l : List ℕ). TreeReply p sources.Check (refused_reply l)) (sym is) (TreeReply.not_passed r by)
-tree_not_passed p r (halt.BadImage line) by is = absurd is
-tree_not_passed p r halt.Unread by is = absurd is
-tree_not_passed p r halt.Memory by is = is
+pub tree_halted : (p : Program) (h : Halt) → IsTreeHalt p h → AnswersTree p sources.Check (Err h)
+tree_halted p (halt.Refused line) (r, by, is) = subst (λ (l : List ℕ). TreeReply p sources.Check (refused_reply l)) (sym is) (TreeReply.not_passed r by)
+tree_halted p (halt.BadImage line) is = absurd is
+tree_halted p halt.Unread is = absurd is
+tree_halted p halt.Memory is = is
 
 -- The reply to the bytes that spell a program is that to it.
 pub spelled : (kind : SourceJob) (bytes : List ℕ) (p : Program) → IsTextOf p bytes → (a : Answer) → AnswersTree p kind a → Judges kind bytes a
@@ -81,27 +52,20 @@ spelled kind bytes p is (Err halt.Unread) tree = absurd tree
 spelled kind bytes p is (Err halt.Memory) tree = tree
 
 -- The reply to bytes that the first steps refuse is the line of the refusal.
-pub refused_by : (kind : SourceJob) (bytes : List ℕ) (r : Refusal) (h : Halt) → IsRefusedBy None r h → IsTextRefused bytes r → Judges kind bytes (Err h)
-refused_by kind bytes r (halt.Refused line) is by = SourceReply.refused r by (ap refused_reply is)
-refused_by kind bytes r (halt.BadImage line) is by = absurd is
-refused_by kind bytes r halt.Unread is by = absurd is
-refused_by kind bytes r halt.Memory is by = is
-
-pub fault_judged : (kind : SourceJob) (bytes : List ℕ) (f : ParseFault) (h : Halt) → IsOfFault f h → IfRefused {T = Program} (Err f) (IsTextRefused bytes) → Judges kind bytes (Err h)
-fault_judged kind bytes (parse_fault.Refused r) h is by = refused_by kind bytes r h is by
-fault_judged kind bytes parse_fault.Memory h is by = subst (λ (x : Halt). Judges kind bytes (Err x)) (sym is) tt
-
-pub long_judged : (kind : SourceJob) (bytes : List ℕ) → greatest_source < length bytes → (h : Halt) → IsRefusedBy None too_long_refusal h → Judges kind bytes (Err h)
-long_judged kind bytes long h is = refused_by kind bytes too_long_refusal h is (IsTextRefused.too_long long)
+pub text_judged : (kind : SourceJob) (bytes : List ℕ) (h : Halt) → IsTextHalt bytes h → Judges kind bytes (Err h)
+text_judged kind bytes (halt.Refused line) (r, by, is) = SourceReply.refused r by (ap refused_reply is)
+text_judged kind bytes (halt.BadImage line) is = absurd is
+text_judged kind bytes halt.Unread is = absurd is
+text_judged kind bytes halt.Memory is = is
 
 -- ---- the front of a file
 
-short_or_long : (n : ℕ) → (b : Bool) → nat_lt greatest_source n ≡ b → (n ≤ greatest_source) ⊎ (greatest_source < n)
+pub short_or_long : (n : ℕ) → (b : Bool) → nat_lt greatest_source n ≡ b → (n ≤ greatest_source) ⊎ (greatest_source < n)
 short_or_long n true is = inr (ltb-true greatest_source n is)
 short_or_long n false is = inl (ltb-false greatest_source n is)
 
 -- Too many bytes are refused for that alone.
-long_only : (bytes : List ℕ) → greatest_source < length bytes → (s : Refusal) → IsTextRefused bytes s → too_long_refusal ≡ s
+pub long_only : (bytes : List ℕ) → greatest_source < length bytes → (s : Refusal) → IsTextRefused bytes s → too_long_refusal ≡ s
 long_only bytes long s (IsTextRefused.too_long is) = refl
 long_only bytes long s (IsTextRefused.not_utf8 short is) = absurd (omega arith)
 long_only bytes long s (IsTextRefused.word_refused names texts short are first) = absurd (omega arith)
@@ -112,7 +76,7 @@ other_long kind bytes front r long long' (SourceReply.refused f by is) =
     SourceReply.refused too_long_refusal (IsTextRefused.too_long long) (is ∙ ap (λ (x : Refusal). refused_reply (line_of None x)) (sym (long_only front long' f by)))
 other_long kind bytes front r long long' (SourceReply.to_tree p is tree) = absurd (is.not_refused too_long_refusal (IsTextRefused.too_long long'))
 
-front_long : (bytes : List ℕ) → greatest_source < length bytes → greatest_source < length (take 1048577 bytes)
+pub front_long : (bytes : List ℕ) → greatest_source < length bytes → greatest_source < length (take 1048577 bytes)
 front_long bytes long = let size : length (take 1048577 bytes) ≡ min 1048577 (length bytes) = length-take 1048577 bytes in omega (arith, long, size)
 
 -- one byte behind the greatest source decides it

@@ -1,12 +1,14 @@
 pub mod Judging
-pub mod Linking
 pub mod Pieces
-pub mod Plainness
 pub mod Reading
 pub mod Running
 pub mod ShownAgain
 pub mod Wording
-mod CheckReplies
+mod Agreeing
+mod Building
+mod Meanings
+mod Means
 mod Coming
 mod Ending
 mod OneReply
+mod Ranges

@@ -1,5 +1,5 @@
 -- The job of the words by their parser, and what is done where they are none that there is.
-use Rattle.std.proofs.Common.{◌≡◌, ◌∙◌, ℕ, inl, inr, List, sym, ap, append-nil, refl, Some, None, Err, arith}
+use Rattle.std.proofs.Common.{◌≡◌, ◌∙◌, ℕ, inl, inr, List, sym, ap, append-nil, refl, Some, None, arith}
 use Rattle.std.specs.Prelude.{option_map, option_and_then}
 use Rattle.std.specs.declared.option.Option.{Option}
 use Rattle.std.specs.Prelude.{[]}
@@ -7,14 +7,12 @@ use Rattle.std.specs.Io.KnownBytes.{append_known}
 use Rattle.jn_jobs.specs.Jobs as words
 use Rattle.jn_drive.specs.declared.status.Status.{Status}
 use Rattle.jn_drive.specs.declared.status.Status.TheVariants as statuses
-use Rattle.jn_drive.specs.declared.halt.Halt.TheVariants as halt
 use Rattle.jn_drive.specs.declared.words.JobKind.{JobKind}
-use Rattle.jn_drive.specs.declared.words.Named.{Named}
 use Rattle.jn_drive.specs.Reply.{told, memory_reply}
 use Rattle.jn_drive.specs.Seen.{Seen, SinkSeen, TookAll, IsPut, IsCut, IsDelivered}
 use Rattle.jn_drive.specs.Words.{Job, kind_here, with_kind, here, job_of}
 use Rattle.jn_drive.specs.Job.{DoesJob, Misused}
-use Rattle.jn_drive.proofs.Running.{Comes, does}
+use Rattle.jn_drive.proofs.Running.{Comes, does, ran_out}
 
 -- ---- the job of the words
 
@@ -40,8 +38,8 @@ line_put wanted line before err s (IsPut.cut is rose some) = inr (IsCut.at_line 
 abbrev pub with_err : Seen → SinkSeen → Seen
 with_err before err = record { store = before.store; out = before.out; err = err }
 
-out_of_memory : (before : Seen) (err : SinkSeen) (s : Status) → IsPut statuses.Memory memory_reply.line before.err err s → Misused before (with_err before err) s
-out_of_memory before err s (IsPut.whole is all) = record {
+memory_told : (before : Seen) (err : SinkSeen) (s : Status) → IsPut statuses.Memory memory_reply.line before.err err s → Misused before (with_err before err) s
+memory_told before err s (IsPut.whole is all) = record {
   usage = λ e. absurd (cc);
   memory = λ e. record { status = is; output = nothing_put before.out; line = all };
   exactly = λ quiet. inr (record { status = is; output = nothing_put before.out; line = all });
@@ -50,7 +48,7 @@ out_of_memory before err s (IsPut.whole is all) = record {
   out = refl;
   err_later = let same = all.faults in omega arith;
 }
-out_of_memory before err s (IsPut.cut is rose some) = record {
+memory_told before err s (IsPut.cut is rose some) = record {
   usage = λ e. absurd (cc);
   memory = λ e. absurd (cc);
   exactly = λ quiet. absurd (quiet rose);
@@ -64,6 +62,6 @@ out_of_memory before err s (IsPut.cut is rose some) = record {
 
 -- There was no memory to read the words.
 pub words_unread : (job : Option Job) (before : Seen) (err : SinkSeen) (s : Status) → IsPut statuses.Memory memory_reply.line before.err err s → DoesJob job before (with_err before err) s
-words_unread None before err s put = out_of_memory before err s put
+words_unread None before err s put = memory_told before err s put
 words_unread (Some job) before err s put =
-    does job before (with_err before err) memory_reply s (Comes.no_memory refl refl) (line_put statuses.Memory memory_reply.line before err s put) refl refl (omega arith)
+    does job before (with_err before err) memory_reply s (Comes.no_memory refl (ran_out job before (with_err before err))) (line_put statuses.Memory memory_reply.line before err s put) refl refl (omega arith)

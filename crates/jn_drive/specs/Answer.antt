@@ -1,5 +1,5 @@
 -- What a job comes to before anything is put: its output, or why there is none.
-use Rattle.std.specs.Prelude.{◌≡◌, ℕ, ◌⊎◌, List, drop, ⊤, Result, Ok, Err, Some, None}
+use Rattle.std.specs.Prelude.{◌≡◌, ℕ, ◌⊎◌, List, drop, ⊤, Result, Ok, Err, None}
 use Rattle.std.specs.declared.option.Option.{Option}
 use Rattle.jn_base.specs.declared.tree.Program.{Program}
 use Rattle.jn_base.specs.declared.refusal.Refusal.{Refusal}
@@ -13,7 +13,7 @@ use Rattle.jn_drive.specs.declared.halt.Halt.{Halt}
 use Rattle.jn_drive.specs.declared.halt.Halt.TheVariants as halt
 use Rattle.jn_drive.specs.declared.status.Status.TheVariants as statuses
 use Rattle.jn_drive.specs.declared.words.SourceJob.{SourceJob}
-use Rattle.jn_drive.specs.Reply.{Reply, told, refused_reply, not_taken_reply, unread_reply, memory_reply, output_reply, TreeReply, SourceReply}
+use Rattle.jn_drive.specs.Reply.{Reply, told, refused_reply, unread_reply, memory_reply, output_reply, TreeReply, SourceReply}
 use Rattle.jn_drive.specs.Seen.{IsSource, IsLeft}
 use Rattle.jn_words.specs.Line.{line_of}
 
@@ -55,12 +55,6 @@ IsRefusedBy p r _ = ⊥
 abbrev pub IsOfFault : ParseFault → Halt → Type 0
 IsOfFault (parse_fault.Refused r) h = IsRefusedBy None r h
 IsOfFault parse_fault.Memory h = h ≡ halt.Memory
-
--- It is refused as a tree that isn't taken yet, or memory ran out.
-abbrev pub IsNotTaken : Halt → Type 0
-IsNotTaken (halt.Refused line) = refused_reply line ≡ not_taken_reply
-IsNotTaken halt.Memory = ⊤
-IsNotTaken _ = ⊥
 
 -- The answer is that to the bytes of the file, which were read without a fault, and no more than `most` of them; or the
 -- file couldn't be read, or memory ran out.

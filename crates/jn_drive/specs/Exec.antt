@@ -1,5 +1,5 @@
 -- From the bytes of an image to how its run was told.
-use Rattle.std.specs.Prelude.{◌≡◌, ◌≢◌, ℕ, ◌⊎◌, List, drop, true, Result, Ok, Err, codes, ⊤}
+use Rattle.std.specs.Prelude.{◌≡◌, ◌≢◌, ℕ, ◌⊎◌, List, drop, Result, Ok, Err, codes, ⊤}
 use Rattle.std.specs.declared.option.Option.{Option}
 use Rattle.jn_steps.specs.Runs.{Report}
 use Rattle.jn_io.specs.Causes.{Rose}

@@ -1,13 +1,15 @@
 -- What a call of `top` does, job by job: the cause of each status, and what the files and the outputs
 -- then are.
-use Rattle.std.specs.Prelude.{◌≡◌, ◌≢◌, ℕ, ◌≤◌, ◌⊎◌, List, drop, ⊤, Some, None}
+use Rattle.std.specs.Prelude.{◌≡◌, ◌≢◌, ℕ, ◌≤◌, ◌⊎◌, List, [], drop, ⊤, Some, None}
 use Rattle.std.specs.declared.option.Option.{Option}
+use Rattle.jn_steps.specs.Laws.{IsPrefix}
 use Rattle.jn_io.specs.Causes.{Rose}
 use Rattle.jn_io.specs.Told.{Lacks}
 use Rattle.jn_drive.specs.declared.status.Status.{Status}
 use Rattle.jn_drive.specs.declared.status.Status.TheVariants as statuses
+use Rattle.jn_drive.specs.declared.words.JobKind.TheVariants as kinds
 use Rattle.jn_drive.specs.Words.{Job}
-use Rattle.jn_drive.specs.Reply.{Reply, JobReply, usage_reply, unread_reply, memory_reply}
+use Rattle.jn_drive.specs.Reply.{Reply, JobReply, usage_reply, unread_reply, output_reply, memory_reply, out_of_memory}
 use Rattle.jn_drive.specs.Seen.{Seen, IsSource, IsToldSource, IsLeft, IsQuiet, IsGiven, IsCut}
 use Rattle.jn_drive.specs.Reading.{most_read}
 
@@ -23,10 +25,6 @@ Cuts reply before after s = IsCut reply before.out after.out before.err after.er
 abbrev pub GivesUnlessMemory : Reply → Seen → Seen → Status → Type 0
 GivesUnlessMemory reply before after s = Gives reply before after s ⊎ Gives memory_reply before after s
 
--- One of these replies was given whole, or that memory ran out was told, with nothing on `out`.
-abbrev pub GivesSome : (Reply → Type 0) → Seen → Seen → Status → Type 0
-GivesSome P before after s = ((reply : Reply) × P reply × Gives reply before after s) ⊎ Gives memory_reply before after s
-
 -- A read failed in the call, or the file isn't there.
 abbrev pub IsUnread : List ℕ → Seen → Seen → Type 0
 IsUnread file before after = Rose before.store.read_faults after.store.read_faults ⊎ Lacks before.store.files file
@@ -40,12 +38,41 @@ pub record Replies (job : Job) (before after : Seen) (reply : Reply) : Type 0 wh
   pub left : IsLeft before.store.files (drop (most_read job.kind) bytes) after.store.rest
   pub is : JobReply job bytes reply
 
--- What the job may have begun to reply: what it replies to the bytes, or that the file can't be read,
--- or that memory ran out.
+-- The output is a first part of what the job replies to the bytes of the file, which were read without a fault. (The
+-- whole isn't known where the job gave up, but it is not so that there is none.)
+pub record IsFront (job : Job) (before after : Seen) (output : List ℕ) : Type 0 where
+  pub bytes : List ℕ
+  pub source : IsSource before.store.files job.file bytes
+  pub reads : after.store.read_faults ≡ before.store.read_faults
+  pub left : IsLeft before.store.files (drop (most_read job.kind) bytes) after.store.rest
+  pub front : (reply : Reply) → JobReply job bytes reply → IsPrefix output reply.output
+  pub there : ((reply : Reply) → JobReply job bytes reply → ⊥) → ⊥
+
+-- What a job had put on `out` where it gave up: nothing; or, in `mean`, a first part of its reply.
+pub data IsBegun (job : Job) (before after : Seen) (output : List ℕ) : Type 0 where
+  nothing : output ≡ [] → IsBegun job before after output
+  front : job.kind ≡ kinds.Mean → IsFront job before after output → IsBegun job before after output
+
+-- Memory ran out behind what was begun.
+pub record RunsOut (job : Job) (before after : Seen) (reply : Reply) : Type 0 where
+  pub output : List ℕ
+  pub begun : IsBegun job before after output
+  pub is : reply ≡ out_of_memory output
+
+-- One of these replies was given whole, or that memory ran out was told.
+abbrev pub GivesSome : Job → (Reply → Type 0) → Seen → Seen → Status → Type 0
+GivesSome job P before after s =
+    ((reply : Reply) × P reply × Gives reply before after s)
+    ⊎ ((reply : Reply) × RunsOut job before after reply × Gives reply before after s)
+
+-- What the job may have begun to reply: what it replies to the bytes, or a first part of that, or that the file can't be
+-- read, or that memory ran out.
 pub data MayReply (job : Job) (before after : Seen) (reply : Reply) : Type 0 where
   to_bytes : Replies job before after reply → MayReply job before after reply
+  begun : (output : List ℕ) → IsBegun job before after output → reply ≡ output_reply output
+      → MayReply job before after reply
   unread : IsUnread job.file before after → reply ≡ unread_reply → MayReply job before after reply
-  no_memory : reply ≡ memory_reply → MayReply job before after reply
+  no_memory : RunsOut job before after reply → MayReply job before after reply
 
 -- The statuses that are replies to the bytes of a file.
 abbrev pub IsOfReply : Status → Type 0
@@ -64,13 +91,15 @@ pub record Does (job : Job) (before after : Seen) (s : Status) : Type 0 where
   pub read_fault : s ≡ statuses.ReadFault → IsUnread job.file before after × Gives unread_reply before after s
   -- WriteFault: only where an output failed. Both took a prefix of what may be replied.
   pub write_fault : s ≡ statuses.WriteFault → (reply : Reply) × MayReply job before after reply × Cuts reply before after s
-  -- Memory: `out` took nothing, and no count rose.
-  pub memory : s ≡ statuses.Memory → Gives memory_reply before after s × (after.store.read_faults ≡ before.store.read_faults)
+  -- Memory: `out` took nothing, or in `mean` a first part of the reply, and no count rose.
+  pub memory : s ≡ statuses.Memory → ((reply : Reply) × RunsOut job before after reply × Gives reply before after s)
+      × (after.store.read_faults ≡ before.store.read_faults)
   -- The words are a job.
   pub usage : s ≢ statuses.Usage
-  -- Where the bytes are told and no count rises, a reply to them is given, or Memory. A job has one reply to some bytes, so
-  -- each status comes exactly where it is theirs.
-  pub exactly : (bytes : List ℕ) → IsToldSource before.store.files job.file bytes → IsQuiet before after → GivesSome (JobReply job bytes) before after s
+  -- Where the bytes are told and no count rises, a reply to them is given, or Memory. Each job but `run` has one reply to
+  -- some bytes, so each status comes exactly where it is theirs.
+  pub exactly : (bytes : List ℕ) → IsToldSource before.store.files job.file bytes → IsQuiet before after
+      → GivesSome job (JobReply job bytes) before after s
   -- Where the told files lack the file and no count rises, it is ReadFault.
   pub missing : Lacks before.store.files job.file → IsQuiet before after → GivesUnlessMemory unread_reply before after s
   -- No file changes, and nothing is saved.

@@ -1,11 +1,9 @@
 pub mod Again
 pub mod Answer
-pub mod Code
+pub mod Built
 pub mod Exec
 pub mod Job
-pub mod Machine
-pub mod Meaning
-pub mod Plain
+pub mod Means
 pub mod Reading
 pub mod Reply
 pub mod Seen

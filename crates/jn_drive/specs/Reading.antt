@@ -13,6 +13,8 @@ use Rattle.jn_drive.specs.Seen.{IsSource, IsLeft}
 -- No more of a file than this is read: one byte more than a source, or an image, may have.
 abbrev pub most_read : JobKind → ℕ
 most_read (kinds.OnSource kind) = 1048577
+most_read kinds.Run = 1048577
+most_read kinds.Mean = 1048577
 most_read kinds.Exec = 134217729
 
 -- reading failed, or memory ran out

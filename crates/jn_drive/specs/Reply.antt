@@ -1,5 +1,5 @@
 -- The reply of a job: what is put on `out`, the line on `err`, and the status.
-use Rattle.std.specs.Prelude.{◌≡◌, ℕ, List, [], codes, Some, None, Result, Ok, Err}
+use Rattle.std.specs.Prelude.{◌≡◌, ◌≢◌, ◌≤◌, ◌+◌, ◌*◌, suc, ℕ, List, [], codes, Some, None, Result, Ok, Err}
 use Rattle.std.specs.declared.option.Option.{Option}
 use Rattle.jn_base.specs.declared.tree.Program.{Program}
 use Rattle.jn_base.specs.declared.refusal.Refusal.{Refusal}
@@ -8,10 +8,17 @@ use Rattle.jn_printer.specs.DeclText.{program_text}
 use Rattle.jn_rules.specs.Verdict.{TreePasses, TreeRefuses}
 use Rattle.jn_words.specs.Line.{line_of}
 use Rattle.jn_steps.specs.Runs.{Report}
+use Rattle.jn_steps.specs.Laws.{IsPrefix}
+use Rattle.jn_sem.specs.declared.outcome.Outcome.{Outcome}
+use Rattle.jn_sem.specs.declared.outcome.Outcome.TheVariants as outcome
+use Rattle.jn_sem.specs.Run.{Run}
+use Rattle.jn_agree.specs.Rows.{Rows}
+use Rattle.jn_agree.specs.Agrees.{Agrees, halt_as}
 use Rattle.jn_code.specs.declared.image.Image.{Image}
 use Rattle.jn_code.specs.declared.fault.ImageFault.{ImageFault}
 use Rattle.jn_code.specs.Machine.{mach}
 use Rattle.jn_code.specs.Machine as code
+use Rattle.jn_code.specs.Valid.{IsValid}
 use Rattle.jn_exec.specs.Images.{valid_image_of}
 use Rattle.jn_exec.specs.Lines.{fault_line}
 use Rattle.jn_drive.specs.declared.words.JobKind.{JobKind}
@@ -21,8 +28,6 @@ use Rattle.jn_drive.specs.declared.words.SourceJob.TheVariants as sources
 use Rattle.jn_drive.specs.Words.{Job}
 use Rattle.jn_drive.specs.declared.status.Status.{Status}
 use Rattle.jn_drive.specs.declared.status.Status.TheVariants as statuses
-use Rattle.jn_drive.specs.Meaning.{output_of}
-use Rattle.jn_drive.specs.Plain.{IsPlain}
 
 pub record Reply : Type 0 where
   pub output : List ℕ
@@ -39,16 +44,16 @@ usage_reply = told statuses.Usage (codes "usage: jandc JOB FILE [OUT] [--arena N
 abbrev pub unread_reply : Reply
 unread_reply = told statuses.ReadFault (codes "fault: read\n")
 
+-- Memory ran out behind this output.
+abbrev pub out_of_memory : List ℕ → Reply
+out_of_memory output = record { output = output; line = codes "fault: memory\n"; status = statuses.Memory }
+
 abbrev pub memory_reply : Reply
-memory_reply = told statuses.Memory (codes "fault: memory\n")
+memory_reply = out_of_memory []
 
 -- The line of a refusal.
 abbrev pub refused_reply : List ℕ → Reply
 refused_reply line = told statuses.Refused line
-
--- A tree that a job doesn't take yet is refused by this line.
-abbrev pub not_taken_reply : Reply
-not_taken_reply = refused_reply (codes "1:1: E01 Syntax\n")
 
 -- What a job that was done put on `out`, and no line.
 abbrev pub output_reply : List ℕ → Reply
@@ -56,13 +61,10 @@ output_reply output = record { output = output; line = []; status = statuses.Don
 
 -- ---- replies to a source
 
--- The reply of a job to the program that the bytes of its file spell: `show` puts its canonical text; `run` runs a program
--- of the plain form, and puts what it prints; `check` puts nothing where the program passes, and else tells the line of its
--- refusal, which names classes and members of the program.
+-- The reply of a job to the program that the bytes of its file spell: `show` puts its canonical text; `check` puts nothing
+-- where the program passes, and else tells the line of its refusal, which names classes and members of the program.
 pub data TreeReply (p : Program) : SourceJob → Reply → Type 0 where
   shown : TreeReply p sources.Show (output_reply (program_text p))
-  ran : IsPlain p → TreeReply p sources.Run (output_reply (output_of p))
-  not_taken : (IsPlain p → ⊥) → TreeReply p sources.Run not_taken_reply
   passed : TreePasses p → TreeReply p sources.Check (output_reply [])
   not_passed : (r : Refusal) → TreeRefuses p r → TreeReply p sources.Check (refused_reply (line_of (Some p) r))
 
@@ -99,11 +101,87 @@ abbrev pub ImageReply : Job → Result Image ImageFault → Reply → Type 0
 ImageReply job (Ok i) reply = RunReply (mach i job.arena job.depth job.steps) reply
 ImageReply job (Err f) reply = reply ≡ bad_image_reply f
 
+-- ---- replies of a run to a source
+
+-- The line of the first refusal of the bytes: of their text and words, or else of the tree that they spell, whose names it
+-- tells.
+pub data IsRefusalLine (bytes line : List ℕ) : Type 0 where
+  of_text : (r : Refusal) → IsTextRefused bytes r → line ≡ line_of None r → IsRefusalLine bytes line
+  of_tree : (p : Program) (r : Refusal) → IsTextOf p bytes → TreeRefuses p r → line ≡ line_of (Some p) r
+      → IsRefusalLine bytes line
+
+-- An image of the program: it is valid, has the program's rows, and agrees with the program's meaning.
+pub record IsRightImage (p : Program) (i : Image) : Type 0 where
+  pub valid : IsValid i
+  pub rows : Rows p i
+  pub agrees : Agrees i p
+
+-- The reply has the status and the line of the outcome, which is an end, and puts all that was printed.
+pub record TellsEnd (o : Outcome) (printed : List ℕ) (reply : Reply) : Type 0 where
+  pub halt : code.Halt
+  pub ended : halt_as o ≡ Some halt
+  pub told : IsToldAs (Some halt) reply.status reply.line
+  pub output : reply.output ≡ printed
+
+-- What a run of the program replies, with an arena of a cells, at most d frames and at most n steps. b counts charges of
+-- the program's meaning.
+pub record TellsRun (p : Program) (a d n : ℕ) (reply : Reply) : Type 0 where
+  -- What is put is the first part of what n + 1 charges print.
+  pub wrote : (o : Outcome) (printed : List ℕ) → Run p (suc n) a d o printed → IsPrefix reply.output printed
+  -- Where the status isn't Steps, n + 1 charges end so, and all that they print is put.
+  pub halted : reply.status ≢ statuses.Steps → (o : Outcome) (printed : List ℕ) → Run p (suc n) a d o printed
+      → TellsEnd o printed reply
+  -- What b charges print is put, where n steps allow 32 for each of them and 32 more.
+  pub printed : (b : ℕ) → 32 * b + 32 ≤ n → (o : Outcome) (printed : List ℕ) → Run p b a d o printed
+      → IsPrefix printed reply.output
+  -- Where b such charges end, the reply tells that end.
+  pub ended : (b : ℕ) → 32 * b + 32 ≤ n → (o : Outcome) (printed : List ℕ) → Run p b a d o printed → o ≢ outcome.More
+      → TellsEnd o printed reply
+  -- Where the status is Steps, no such charges end.
+  pub goes_on : reply.status ≡ statuses.Steps → (b : ℕ) → 32 * b + 32 ≤ n → (o : Outcome) (printed : List ℕ)
+      → Run p b a d o printed → o ≡ outcome.More
+  -- Output and status are those of a right image's own steps.
+  pub image : Image
+  pub right : IsRightImage p image
+  pub steps : RunReply (mach image a d n) reply
+
+-- The reply of `run` to the bytes of a source: the line of its refusal, or what a run of its program replies.
+pub data SourceRunReply (job : Job) (bytes : List ℕ) (reply : Reply) : Type 0 where
+  refused : (line : List ℕ) → IsRefusalLine bytes line → reply ≡ refused_reply line → SourceRunReply job bytes reply
+  ran : (p : Program) → IsTextOf p bytes → TreePasses p → TellsRun p job.arena job.depth job.steps reply
+      → SourceRunReply job bytes reply
+
+-- How an outcome of a program's meaning is told: by its status and line, More as Steps. (The meaning of an accepted
+-- program is never stuck.)
+abbrev pub IsMeantAs : Outcome → Status → List ℕ → Type 0
+IsMeantAs outcome.Ends s line = (s ≡ statuses.Done) × (line ≡ [])
+IsMeantAs outcome.Null s line = (s ≡ statuses.Null) × (line ≡ codes "fault: null\n")
+IsMeantAs outcome.Zero s line = (s ≡ statuses.Zero) × (line ≡ codes "fault: zero divisor\n")
+IsMeantAs outcome.Arena s line = (s ≡ statuses.Arena) × (line ≡ codes "fault: arena full\n")
+IsMeantAs outcome.Depth s line = (s ≡ statuses.Depth) × (line ≡ codes "fault: call depth\n")
+IsMeantAs outcome.More s line = (s ≡ statuses.Steps) × (line ≡ codes "fault: steps\n")
+IsMeantAs (outcome.Stuck why) s line = ⊥
+
+-- The reply has the outcome of the program's meaning with at most n charges, an arena of a cells and at most d frames, and
+-- all that it prints.
+pub record TellsMeaning (p : Program) (a d n : ℕ) (reply : Reply) : Type 0 where
+  pub outcome : Outcome
+  pub ran : Run p n a d outcome reply.output
+  pub told : IsMeantAs outcome reply.status reply.line
+
+-- The reply of `mean` to the bytes of a source: the line of its refusal, or what its program means.
+pub data SourceMeanReply (job : Job) (bytes : List ℕ) (reply : Reply) : Type 0 where
+  refused : (line : List ℕ) → IsRefusalLine bytes line → reply ≡ refused_reply line → SourceMeanReply job bytes reply
+  meant : (p : Program) → IsTextOf p bytes → TreePasses p → TellsMeaning p job.arena job.depth job.steps reply
+      → SourceMeanReply job bytes reply
+
 -- ---- replies
 
 -- The reply of a job to the bytes of its file.
 abbrev pub ReplyBy : JobKind → Job → List ℕ → Reply → Type 0
 ReplyBy (kinds.OnSource kind) job bytes reply = SourceReply kind bytes reply
+ReplyBy kinds.Run job bytes reply = SourceRunReply job bytes reply
+ReplyBy kinds.Mean job bytes reply = SourceMeanReply job bytes reply
 ReplyBy kinds.Exec job bytes reply = ImageReply job (valid_image_of bytes) reply
 
 abbrev pub JobReply : Job → List ℕ → Reply → Type 0

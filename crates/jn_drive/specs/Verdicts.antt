@@ -1,13 +1,15 @@
--- What `check` replies, as the verdict of the source.
-use Rattle.std.specs.Prelude.{◌≡◌, ℕ, List, [], Option, Ok, Err}
+-- What `check` and `run` reply, as the verdict of the source and the meaning of its program.
+use Rattle.std.specs.Prelude.{◌≡◌, ℕ, List, [], Option, Err}
 use Rattle.jn_base.specs.declared.tree.Program.{Program}
 use Rattle.jn_base.specs.declared.refusal.Refusal.{Refusal}
 use Rattle.jn_rules.specs.Verdict.{IsAccepted, Verdict}
+use Rattle.jn_base.specs.Spelling.{IsTextOf}
+use Rattle.jn_agree.specs.Agrees.{NeverStuck}
 use Rattle.jn_words.specs.Line.{line_of}
 use Rattle.jn_drive.specs.declared.words.JobKind.TheVariants as kinds
 use Rattle.jn_drive.specs.declared.words.SourceJob.TheVariants as sources
 use Rattle.jn_drive.specs.Words.{Job}
-use Rattle.jn_drive.specs.Reply.{Reply, JobReply, output_reply, refused_reply}
+use Rattle.jn_drive.specs.Reply.{Reply, JobReply, TellsRun, output_reply, refused_reply}
 
 -- The source is accepted, and nothing is put; or it is refused, and the reply is the line of the refusal.
 pub data VerdictReply (bytes : List ℕ) (reply : Reply) : Type 0 where
@@ -19,3 +21,16 @@ abbrev pub ChecksAreVerdicts : Type 0
 ChecksAreVerdicts =
     (job : Job) (bytes : List ℕ) (reply : Reply) → job.kind ≡ kinds.OnSource sources.Check → JobReply job bytes reply
     → VerdictReply bytes reply
+
+-- THE HEADLINE. The source is accepted: then its meaning is never stuck, whatever the arena, the depth and the charges, and
+-- the reply tells its run. Or it is refused, and the reply is the line of the first rule broken.
+pub data MeaningReply (job : Job) (bytes : List ℕ) (reply : Reply) : Type 0 where
+  accepted : IsAccepted bytes → (p : Program) → IsTextOf p bytes → NeverStuck p
+      → TellsRun p job.arena job.depth job.steps reply → MeaningReply job bytes reply
+  refused : (p : Option Program) (r : Refusal) → Verdict bytes (Err r) → reply ≡ refused_reply (line_of p r)
+      → MeaningReply job bytes reply
+
+abbrev pub RunsTellMeanings : Type 0
+RunsTellMeanings =
+    (job : Job) (bytes : List ℕ) (reply : Reply) → job.kind ≡ kinds.Run → JobReply job bytes reply
+    → MeaningReply job bytes reply

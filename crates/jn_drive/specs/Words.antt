@@ -9,11 +9,12 @@ use Rattle.jn_drive.specs.declared.words.JobKind.TheVariants as kinds
 use Rattle.jn_drive.specs.declared.words.SourceJob.TheVariants as sources
 use Rattle.jn_drive.specs.declared.words.Named.{Named}
 
--- The jobs that there are: `show`, `run` and `check` on a source, and `exec`. The others are no jobs until they come.
+-- The jobs that there are: `show`, `check`, `run`, `mean` and `exec`. The others are no jobs until they come.
 abbrev pub kind_here : WordKind → Option JobKind
 kind_here word.Show = Some (kinds.OnSource sources.Show)
-kind_here word.Run = Some (kinds.OnSource sources.Run)
+kind_here word.Run = Some kinds.Run
 kind_here word.Check = Some (kinds.OnSource sources.Check)
+kind_here word.Mean = Some kinds.Mean
 kind_here word.Exec = Some kinds.Exec
 kind_here other = None
 

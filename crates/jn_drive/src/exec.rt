@@ -70,7 +70,7 @@ fn tell_end<E: Sink>(end: RunHalt, err: &mut E) -> Status
 }
 
 /// Runs the machine for at most so many steps, and tells how it ended.
-fn run_and_tell<O: Sink, E: Sink>(
+pub fn run_and_tell<O: Sink, E: Sink>(
     mut machine: Machine,
     steps: u64,
     out: &mut O,

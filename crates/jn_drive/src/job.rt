@@ -1,34 +1,26 @@
-ghost use Rattle.std.specs.Prelude.{◌≡◌, ◌≤◌, IfOk, None, option_copied};
+ghost use Rattle.std.specs.Prelude.{◌≡◌, ◌≤◌};
 ghost use Rattle.jn_base.specs.WithinLimits.{IsWithinLimits};
+ghost use Rattle.jn_agree.specs.Agrees.{InRange};
 ghost use Rattle.jn_drive.specs.declared.words.SourceJob.TheVariants.{Check};
 ghost use Rattle.jn_drive.specs.declared.words.JobKind.TheVariants.{OnSource};
 ghost use Rattle.jn_drive.specs.Words.{named};
-ghost use Rattle.jn_drive.specs.Meaning.{output_of};
-ghost use Rattle.jn_drive.specs.Answer.{AnswersTree, IsRefusedBy, IsOfFault, IsNotTaken, Judges, Answers, too_long_refusal};
+ghost use Rattle.jn_drive.specs.Answer.{AnswersTree, Judges, Answers};
 ghost use Rattle.jn_drive.specs.Job.{Does};
 
-use crate::code::code_of;
 use crate::exec::exec;
 use crate::halt::Halt;
-use crate::machine::run_code;
-use crate::plain::is_plain;
+use crate::mean::mean;
 use crate::put::deliver;
 use crate::read::read_file;
+use crate::run::run;
+use crate::source::{LIMIT, accepted, parsed};
 use crate::status::Status;
 use crate::words::{JobKind, Named, SourceJob};
-use jn_base::refusal::{Refusal, Rule};
-use jn_base::tree::{Place, Program};
-use jn_check::check;
-use jn_heads::CheckFault;
+use jn_base::tree::Program;
 use jn_io::{Sink, Store};
-use jn_parser::{ParseFault, parse};
 use jn_printer::print_program;
-use jn_words::refusal_line;
 use sqlite_items::Items;
-use std::alloc::{AllocError, Global};
-
-/// How many bytes a source may have.
-const LIMIT: usize = 1_048_576;
+use std::alloc::Global;
 
 /// What the file's bytes come to.
 ///
@@ -53,46 +45,8 @@ fn answer<S: Store>(
 fn judge(alloc: Global, kind: SourceJob, source: &[u8]) -> Result<Items<u8>, Halt>
     ensures { Judges kind source.now result }
 {
-    if source.len() > LIMIT {
-        return Err(refused(alloc, None, &too_long()));
-    }
-    match parse(alloc, source) {
-        Ok(program) => answer_tree(alloc, kind, &program),
-        Err(fault) => Err(unparsed(alloc, &fault)),
-    }
-}
-
-/// Why there is no tree.
-fn unparsed(alloc: Global, fault: &ParseFault) -> Halt
-    ensures { IsOfFault fault.now result }
-{
-    match fault {
-        ParseFault::Refused(refusal) => refused(alloc, None, refusal),
-        ParseFault::Memory => Halt::Memory,
-    }
-}
-
-/// The refusal of a source that has too many bytes.
-fn too_long() -> Refusal
-    ensures { result ≡ too_long_refusal }
-{
-    Refusal {
-        rule: Rule::E02,
-        at: Place { line: 1, column: 1 },
-        class: None,
-        member: None,
-        limit: None,
-    }
-}
-
-/// A refusal of a source, with its line. Where there is a tree, the line tells its names.
-fn refused(alloc: Global, program: Option<&Program>, refusal: &Refusal) -> Halt
-    ensures { IsRefusedBy (option_copied program.entry) refusal.now result }
-{
-    match refusal_line(alloc, program, refusal) {
-        Ok(line) => Halt::Refused(Items::from_vec(line)),
-        Err(_) => Halt::Memory,
-    }
+    let program = parsed(alloc, source)?;
+    answer_tree(alloc, kind, &program)
 }
 
 /// What a tree comes to.
@@ -102,8 +56,6 @@ fn answer_tree(alloc: Global, kind: SourceJob, program: &Program) -> Result<Item
 {
     match kind {
         SourceJob::Show => Ok(Items::from_vec(print_program(alloc, program)?)),
-        SourceJob::Run if is_plain(program) => Ok(output(alloc, program)?),
-        SourceJob::Run => Err(not_taken(alloc)),
         SourceJob::Check => checked(alloc, program),
     }
 }
@@ -113,30 +65,8 @@ fn checked(alloc: Global, program: &Program) -> Result<Items<u8>, Halt>
     requires { IsWithinLimits program.now }
     ensures { AnswersTree program.now Check result }
 {
-    match check(alloc, program) {
-        Ok(_) => Ok(Items::new(alloc)),
-        Err(CheckFault::Refused(refusal)) => Err(refused(alloc, Some(program), &refusal)),
-        Err(CheckFault::Memory) => Err(Halt::Memory),
-    }
-}
-
-/// A tree that isn't taken yet.
-fn not_taken(alloc: Global) -> Halt
-    ensures { IsNotTaken result }
-{
-    match Items::from_slice(alloc, b"1:1: E01 Syntax\n") {
-        Ok(line) => Halt::Refused(line),
-        Err(_) => Halt::Memory,
-    }
-}
-
-/// What the program prints: it is turned into plain code, and that is run.
-fn output(alloc: Global, program: &Program) -> Result<Items<u8>, AllocError>
-    ensures { IfOk result (λ bytes. bytes ≡ output_of program.now) }
-{
-    let code = code_of(alloc, program)?;
-    let bytes = run_code(alloc, code.as_slice())?;
-    Ok(Items::from_vec(bytes))
+    let _ = accepted(alloc, program)?;
+    Ok(Items::new(alloc))
 }
 
 /// A job on a source. Its reply is made first, and then put.
@@ -176,7 +106,7 @@ fn on_source<S: Store, O: Sink, E: Sink>(
     deliver(answer, out, err)
 }
 
-/// A job on a file.
+/// A job on a file. Its arena and its depth are in their ranges.
 pub fn do_job<S: Store, O: Sink, E: Sink>(
     alloc: Global,
     job: &Named,
@@ -184,6 +114,7 @@ pub fn do_job<S: Store, O: Sink, E: Sink>(
     out: &mut O,
     err: &mut E,
 ) -> Status
+    requires { InRange (named job.now).arena (named job.now).depth }
     ensures { Does (named job.now)
         (record {
           store = record {
@@ -209,6 +140,8 @@ pub fn do_job<S: Store, O: Sink, E: Sink>(
 {
     match job.kind {
         JobKind::OnSource(kind) => on_source(alloc, kind, job, store, out, err),
+        JobKind::Run => run(alloc, job, store, out, err),
+        JobKind::Mean => mean(alloc, job, store, out, err),
         JobKind::Exec => exec(alloc, job, store, out, err),
     }
 }

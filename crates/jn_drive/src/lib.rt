@@ -1,15 +1,15 @@
 //! The top call: what `jandc` does with its words, its files and its outputs.
 #![tactic(auto)]
 
-mod code;
 mod exec;
 mod halt;
 mod job;
 pub mod laws;
-mod machine;
-mod plain;
+mod mean;
 mod put;
 mod read;
+mod run;
+mod source;
 mod status;
 mod words;
 
@@ -25,11 +25,11 @@ use jn_jobs::WordsFault;
 pub use status::Status;
 use std::alloc::Global;
 
-/// Does the job that the words are: `show FILE` puts the canonical text of the program that the file
-/// spells on `out`, `run FILE` runs it and puts what it prints, `check FILE` puts nothing, and `exec FILE` runs an image.
-/// A source that spells none is refused by a line on `err`, and by `check` each one that breaks a rule. The options
-/// `--arena`, `--depth` and `--steps` may come with each job, and bound what `exec` runs. All other words are answered by
-/// the usage line.
+/// Does the job that the words are: `show FILE` puts the canonical text of the program that the file spells on `out`,
+/// `check FILE` puts nothing, `run FILE` compiles the program and runs it, `mean FILE` runs its meaning as it is defined,
+/// and `exec FILE` runs an image. A source that spells no program is refused by a line on `err`, and by `check`, `run` and
+/// `mean` each one that breaks a rule. The options `--arena`, `--depth` and `--steps` may come with each job, and bound
+/// what `run`, `mean` and `exec` run; the steps of `mean` are charges. All other words are answered by the usage line.
 ///
 /// `DoesJob` in specs/Job.antt says for each status when it comes, and what the files and the outputs
 /// then are.

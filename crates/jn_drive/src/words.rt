@@ -1,4 +1,5 @@
 ghost use Rattle.std.specs.Prelude.{◌≡◌, IfErr, IfOk, None, Some, map, string_bytes};
+ghost use Rattle.jn_agree.specs.Agrees.{InRange};
 ghost use Rattle.jn_drive.specs.Words.{job_of, kind_here, named};
 
 use jn_jobs::{JobWords, WordsFault, job};
@@ -9,8 +10,6 @@ use std::alloc::Global;
 pub enum SourceJob {
     /// Puts the canonical text of a program.
     Show,
-    /// Runs a program.
-    Run,
     /// Tells what is refused of a program.
     Check,
 }
@@ -18,8 +17,12 @@ pub enum SourceJob {
 /// The jobs that there are.
 #[derive(Clone, Copy, Debug, PartialEq, Eq)]
 pub enum JobKind {
-    /// One on a source.
+    /// One that puts what a source comes to.
     OnSource(SourceJob),
+    /// Runs a program.
+    Run,
+    /// Runs the meaning of a source.
+    Mean,
     /// Runs an image.
     Exec,
 }
@@ -35,6 +38,8 @@ pub struct Named {
 #[tactic(auto, using(crate::proofs::Wording::job_named, crate::proofs::Wording::not_here))]
 pub fn job_in(alloc: Global, words: &[String]) -> Result<Named, WordsFault>
     ensures ok { IfOk result (λ n. job_of (map string_bytes words.now) ≡ Some (named n)) }
+    // Its bounds are in their ranges.
+    ensures range { IfOk result (λ n. InRange (named n).arena (named n).depth) }
     ensures usage { IfErr result (λ e. e ≡ WordsFault.Usage → job_of (map string_bytes words.now) ≡ None) }
 {
     let words = job(alloc, words)?;
@@ -50,8 +55,9 @@ fn kind_here(kind: jn_jobs::JobKind) -> Option<JobKind>
 {
     match kind {
         jn_jobs::JobKind::Show => Some(JobKind::OnSource(SourceJob::Show)),
-        jn_jobs::JobKind::Run => Some(JobKind::OnSource(SourceJob::Run)),
+        jn_jobs::JobKind::Run => Some(JobKind::Run),
         jn_jobs::JobKind::Check => Some(JobKind::OnSource(SourceJob::Check)),
+        jn_jobs::JobKind::Mean => Some(JobKind::Mean),
         jn_jobs::JobKind::Exec => Some(JobKind::Exec),
         _ => None,
     }

@@ -1,5 +1,5 @@
 use Rattle.jn_drive.proofs.Running.{does}
-use Rattle.jn_drive.proofs.Coming.{no_machine, machine_runs, is_fresh, is_sound, is_small}
+use Rattle.jn_drive.proofs.Coming.{no_machine, machine_runs}
 use Rattle.jn_drive.proofs.exec.exec.Goals as goal
 
 pub returns-in-Ok : goal.returns-in-Ok

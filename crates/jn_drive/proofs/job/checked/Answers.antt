@@ -1,12 +1,12 @@
-use Rattle.std.proofs.Common.{rules}
-use Rattle.jn_drive.proofs.Judging.{tree_passed, tree_not_passed, check_refused}
+use Rattle.jn_drive.specs.declared.words.SourceJob.TheVariants.{Check}
+use Rattle.jn_drive.specs.Answer.{AnswersTree}
+use Rattle.jn_drive.proofs.Judging.{tree_passed, tree_halted}
+use Rattle.jn_drive.proofs.Building.{handed}
 use Rattle.jn_drive.proofs.job.checked.Goals as goal
 
-pub returns-in-Ok : goal.returns-in-Ok
-returns-in-Ok c = tree_passed _ _ (search rules) c.in-Ok.ensures.told
+pub returns-in_err-accepted : goal.returns-in_err-accepted
+returns-in_err-accepted c =
+    handed c.from_residual.result c.in_err-accepted.field-0.0 c.from_residual.ensures.1 (AnswersTree c.args.program.now Check) (tree_halted c.args.program.now c.in_err-accepted.field-0.0 c.in_err-accepted.ensures)
 
-pub returns-in-Err-Refused : goal.returns-in-Err-Refused
-returns-in-Err-Refused c =
-    tree_not_passed c.args.program.now _ _
-    (check_refused c.args.program.now c.check.result c.in-Err-Refused.field-0 c.in-Err-Refused.refusal c.in-Err-Refused.is c.in-Err-Refused.field-0-is c.check.ensures.told)
-    c.refused.ensures
+pub returns : goal.returns
+returns c = tree_passed c.args.program.now _ c.new.ensures c.in_ok-accepted.ensures.0

@@ -1,4 +1,4 @@
-use Rattle.jn_drive.proofs.CheckReplies.{checks_are_verdicts}
+use Rattle.jn_drive.proofs.Meanings.{checks_are_verdicts}
 use Rattle.jn_drive.proofs.laws.checks_are_verdicts.Goals as goal
 
 pub returns : goal.returns

@@ -1,0 +1,5 @@
+use Rattle.jn_drive.proofs.Ranges.{job_range}
+use Rattle.jn_drive.proofs.words.job_in.Goals as goal
+
+pub returns-in-Some-clause-range : goal.returns-in-Some-clause-range
+returns-in-Some-clause-range c = job_range _ _ c.in_ok-words.ensures.ok
