@@ -1,5 +1,5 @@
 -- From the bytes of a source to how the run of its meaning was told.
-use Rattle.std.proofs.Common.{take, drop, ◌≡◌, ◌∙◌, ℕ, ◌≤◌, ◌⊎◌, inl, inr, List, [], ◌++◌, length, append-nil, sym, ap, subst, refl, codes, Result, Ok, Err, None, Some, arith, Bool, true, false, bytes_eq}
+use Rattle.std.proofs.Common.{drop, ◌≡◌, ◌∙◌, ℕ, ◌≤◌, inl, inr, List, [], ◌++◌, length, append-nil, sym, ap, subst, refl, codes, Result, Ok, Err, None, Some, arith, Bool, true, false, bytes_eq}
 use Rattle.std.proofs.lemmas.List.{take_all}
 use Rattle.std.proofs.lemmas.Option.{same_Some}
 use Rattle.std.proofs.lemmas.Slice.Eq.{bytes_eq-Decides}
@@ -30,11 +30,11 @@ use Rattle.jn_drive.specs.declared.words.JobKind.TheVariants as kinds
 use Rattle.jn_drive.specs.Words.{Job}
 use Rattle.jn_drive.specs.Reading.{most_read, ReadsFile}
 use Rattle.jn_drive.specs.Reply.{Reply, JobReply, ReplyBy, SourceMeanReply, TellsMeaning, IsMeantAs, IsRefusalLine, refused_reply, output_reply, memory_reply, out_of_memory}
-use Rattle.jn_drive.specs.Seen.{Seen, SinkSeen, IsSource, IsLeft, TookAll, TookSome, IsPut, IsGiven, IsCut, IsDelivered}
+use Rattle.jn_drive.specs.Seen.{Seen, SinkSeen, IsSource, IsLeft, IsPut, IsCut}
 use Rattle.jn_drive.specs.Answer.{reply_of}
 use Rattle.jn_drive.specs.Exec.{HasRead}
 use Rattle.jn_drive.specs.Built.{IsTextHalt, IsTreeHalt}
-use Rattle.jn_drive.specs.Job.{Does, IsFront, IsBegun}
+use Rattle.jn_drive.specs.Job.{Does, IsBegun}
 use Rattle.jn_drive.specs.Means.{Accepts, Finds, IsUnstuck, OutcomeTold, IsPrintedFirst, MeaningTold}
 use Rattle.jn_drive.proofs.Building.{text_of_front, line_of_front}
 use Rattle.jn_drive.proofs.Judging.{within_limits}

@@ -96,8 +96,8 @@ pub record Does (job : Job) (before after : Seen) (s : Status) : Type 0 where
       × (after.store.read_faults ≡ before.store.read_faults)
   -- The words are a job.
   pub usage : s ≢ statuses.Usage
-  -- Where the bytes are told and no count rises, a reply to them is given, or Memory. A job has one reply to some bytes, so
-  -- each status comes exactly where it is theirs.
+  -- Where the bytes are told and no count rises, a reply to them is given, or Memory. Each job but `run` has one reply to
+  -- some bytes, so each status comes exactly where it is theirs.
   pub exactly : (bytes : List ℕ) → IsToldSource before.store.files job.file bytes → IsQuiet before after
       → GivesSome job (JobReply job bytes) before after s
   -- Where the told files lack the file and no count rises, it is ReadFault.

@@ -1,18 +1,16 @@
 -- From the bytes of a source to how the run of its meaning was told.
-use Rattle.std.specs.Prelude.{◌≡◌, ℕ, ◌⊎◌, List, None, Some, Result, Ok, Err, ⊤}
+use Rattle.std.specs.Prelude.{◌≡◌, ℕ, ◌⊎◌, List, Result, Ok, Err, codes, ⊤}
 use Rattle.std.specs.declared.option.Option.{Option}
 use Rattle.jn_steps.specs.Laws.{IsPrefix}
 use Rattle.jn_base.specs.declared.tree.Program.{Program}
-use Rattle.jn_base.specs.declared.refusal.Refusal.{Refusal}
-use Rattle.jn_base.specs.Spelling.{IsTextOf, IsTextRefused}
-use Rattle.jn_rules.specs.Verdict.{TreePasses, TreeRefuses}
+use Rattle.jn_base.specs.Spelling.{IsTextOf}
+use Rattle.jn_rules.specs.Verdict.{TreePasses}
 use Rattle.jn_io.specs.Causes.{Rose}
 use Rattle.jn_io.specs.Told.{Files, Lacks}
 use Rattle.jn_sem.specs.declared.outcome.Outcome.{Outcome}
 use Rattle.jn_sem.specs.declared.outcome.Outcome.TheVariants as outcome
 use Rattle.jn_sem.specs.declared.outcome.Why.{Why}
 use Rattle.jn_sem.specs.Run.{Run}
-use Rattle.jn_words.specs.Line.{line_of}
 use Rattle.jn_drive.specs.declared.halt.Halt.{Halt}
 use Rattle.jn_drive.specs.declared.halt.Halt.TheVariants as halt
 use Rattle.jn_drive.specs.declared.status.Status.{Status}
@@ -21,7 +19,6 @@ use Rattle.jn_drive.specs.Words.{Job}
 use Rattle.jn_drive.specs.Reply.{Reply, TellsMeaning, IsRefusalLine, output_reply, out_of_memory}
 use Rattle.jn_drive.specs.Seen.{SinkSeen, IsPut, IsCut, IsDelivered}
 use Rattle.jn_drive.specs.Exec.{HasRead}
-use Rattle.std.specs.Prelude.{codes}
 
 -- ---- the program
 

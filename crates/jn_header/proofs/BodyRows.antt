@@ -1,11 +1,13 @@
 -- The heads of declared bodies: what is refused of none, how rows are made, and what is found in them.
-use Rattle.std.proofs.Common.{◌≡◌, ◌<◌, ◌≤◌, ◌+◌, ◌⊎◌, ℕ, zero, suc, List, [], ◌∷◌, ◌++◌, length, take, get_or, slice_get, reverse, Contains, Option, Some, None, inl, inr, refl, sym, ap, ◌∙◌, subst, arith, Result, Ok, Err}
+use Rattle.std.proofs.Common.{◌≡◌, ◌<◌, ◌≤◌, ◌+◌, ◌⊎◌, ℕ, zero, suc, List, [], ◌∷◌, ◌++◌, length, take, get_or, slice_get, reverse, Contains, Option, Some, nat_eq, inl, inr, refl, sym, ap, ◌∙◌, subst, arith, Result, Ok, Err}
 use Rattle.std.proofs.lemmas.List.{reverse-reverse, take_more, take_all, length-map}
 use Rattle.std.proofs.lemmas.Bool.{cases_lt}
-use Rattle.std.proofs.lemmas.Option.{slice_get_read, slice_get_within, get_or_from_slice_get}
+use Rattle.std.proofs.lemmas.Option.{slice_get_within}
+use Rattle.indexmap.specs.IndexMap.{get}
+use Rattle.std.specs.declared.alloc.Global.{Global}
+use Rattle.std.specs.declared.vec.Vec.{Vec}
 use Rattle.jn_reach.specs.Each.{Each, none, more}
-use Rattle.jn_reach.proofs.Eachs.{Each-more, Each-at, Each-back, Each-length}
-use Rattle.jn_reach.proofs.Searches.{same_some}
+use Rattle.jn_reach.proofs.Eachs.{Each-at, Each-back, Each-length}
 use Rattle.jn_base.specs.declared.tree.Name.{Name}
 use Rattle.jn_base.specs.declared.tree.Constraint.{Constraint}
 use Rattle.jn_base.specs.declared.tree.Decl.{Decl}
@@ -30,12 +32,10 @@ use Rattle.jn_table.specs.Rows.{IsNumber, IsRow}
 use Rattle.jn_table.specs.Tables.{IsTableOf, IsFilled, SaysRow}
 use Rattle.jn_table.proofs.Shown.{same_id}
 use Rattle.jn_homes.specs.Homes.{DeclIs}
-use Rattle.jn_sem.specs.Does.{Body}
 use Rattle.jn_heads.specs.declared.fault.CheckFault.{CheckFault}
 use Rattle.jn_heads.specs.declared.fault.CheckFault.TheVariants.{Refused, Memory}
 use Rattle.jn_heads.specs.declared.params.Header.{Header as NumberHeader}
 use Rattle.jn_heads.specs.declared.sides.Pledge.{Pledge as NumberPledge}
-use Rattle.jn_heads.specs.Params.{header_in}
 use Rattle.jn_heads.specs.Sides.{IsPledge, PledgeTold}
 use Rattle.jn_heads.specs.Told.{Told}
 use Rattle.jn_rules.specs.Plans.{Pledge}
@@ -47,7 +47,7 @@ use Rattle.jn_rule_laws.proofs.RepliesOne.{constraint_once}
 use Rattle.jn_rule_laws.proofs.Replies.{one_outcome}
 use Rattle.jn_header.specs.declared.bodies.BodyHead.{BodyHead}
 use Rattle.jn_header.specs.declared.bodies.HeadRow.{HeadRow}
-use Rattle.jn_header.specs.Bodies.{IsJudged, OrMemory, body_at, head_header, IsHeadOf, HeadAt, AreHeads, HeadRowAt, AreHeadRows, FindsHead, HeadIs}
+use Rattle.jn_header.specs.Bodies.{IsJudged, OrMemory, body_at, head_header, HeadAt, AreHeads, HeadRowAt, AreHeadRows, ArePlaced}
 use Rattle.jn_header.specs.BodySteps.{AddsHeads}
 use Rattle.jn_header.proofs.Numbers.{in_list, contained, number_there}
 
@@ -236,11 +236,15 @@ declared_in p t filled id l row says class is d stands ms e x c =
 
 pub heads_here : (p : Program) (t : Table) → IsFilled p t → duplicates p ≡ [] → (id : ClassId) (row : Row) → SaysRow t id row → (class : Path)
     → ((p : Program) (R : Path) → IsTableOf p t → IsNumber t.known.items id R → class ≡ R) → (d : Decl) → DeclIs p (reverse row.path.names) (Some d) → (ms : List Member) → ms ≡ d.members
-    → (heads : List BodyHead) → Each (HeadAt p class) (methods ms) heads → (R : Path) → IsNumber t.known.items id R → AreHeads p R heads
-heads_here p t filled once id row says class is d stands ms e heads each R n =
-    heads_are p R (one_decl p once R) d heads (decl_here p t id row says filled.table R n (Some d) stands)
-    (subst (λ (S : Path). Each (HeadAt p S) (methods d.members) heads) (is p R filled.table n)
-    (subst (λ (xs : List Member). Each (HeadAt p class) (methods xs) heads) e each))
+    → (o : Result (Vec BodyHead Global) CheckFault) → OrMemory (λ all. Each (HeadAt p class) (methods ms) all.items) o
+    → OrMemory (λ all. (R : Path) → IsNumber t.known.items id R → AreHeads p R all.items) o
+heads_here p t filled once id row says class is d stands ms e (Err f) told =
+    memory_of (λ (all : Vec BodyHead Global). Each (HeadAt p class) (methods ms) all.items) (λ (all : Vec BodyHead Global). (R : Path) → IsNumber t.known.items id R → AreHeads p R all.items) f told
+heads_here p t filled once id row says class is d stands ms e (Ok all) told = λ R n. here all.items told R n where
+  here : (heads : List BodyHead) → Each (HeadAt p class) (methods ms) heads → (R : Path) → IsNumber t.known.items id R → AreHeads p R heads
+  here heads each R n = heads_are p R (one_decl p once R) d heads (decl_here p t id row says filled.table R n (Some d) stands)
+      (subst (λ (S : Path). Each (HeadAt p S) (methods d.members) heads) (is p R filled.table n)
+      (subst (λ (xs : List Member). Each (HeadAt p class) (methods xs) heads) e each))
 
 -- ---- all rows
 
@@ -261,12 +265,13 @@ pub no_rows : (p : Program) (known : List ShownPath) (rows : List HeadRow) → H
 no_rows p known rows id R l n = absurd (omega (arith, l))
 
 pub rows_more : (p : Program) (known : List ShownPath) (rows new : List HeadRow) (row : HeadRow) (id : ClassId) → length rows ≡ id.0 → HeadRowsTo p known rows id.0
-    → ((R : Path) → IsNumber known id R → AreHeads p R row.heads.items) → new ≡ rows ++ row ∷ [] → HeadRowsTo p known new (id.0 + 1)
-rows_more p known rows new row id long h one e = λ other R l n. by_place other R n (cases_lt other.0 id.0) l where
+    → ((R : Path) → IsNumber known id R → AreHeads p R row.heads.items) → ArePlaced row.heads.items (get nat_eq row.places) → new ≡ rows ++ row ∷ []
+    → HeadRowsTo p known new (id.0 + 1)
+rows_more p known rows new row id long h one placed e = λ other R l n. by_place other R n (cases_lt other.0 id.0) l where
   by_place : (other : ClassId) (R : Path) → IsNumber known other R → (other.0 < id.0) ⊎ (id.0 ≤ other.0) → other.0 < id.0 + 1 → HeadRowAt p new other R
   by_place other R n (inl b) l =
       let r = h other R b n in
-      record { row = r.row; at = subst (λ (xs : List HeadRow). slice_get xs other.0 ≡ Some r.row) (sym e) (get_front rows (row ∷ []) other.0 r.row r.at); are = r.are }
+      record { row = r.row; at = subst (λ (xs : List HeadRow). slice_get xs other.0 ≡ Some r.row) (sym e) (get_front rows (row ∷ []) other.0 r.row r.at); are = r.are; placed = r.placed }
   by_place other R n (inr b) l =
       let s : other.0 ≡ id.0 = omega arith in
       let i : other ≡ id = same_id other id s in
@@ -275,6 +280,7 @@ rows_more p known rows new row id long h one e = λ other R l n. by_place other 
         at = subst (λ (xs : List HeadRow). slice_get xs other.0 ≡ Some row) (sym e)
             (subst (λ (k : ℕ). slice_get (rows ++ row ∷ []) k ≡ Some row) (long ∙ sym s) (get_last rows row));
         are = one R (subst (λ (x : ClassId). IsNumber known x R) i n);
+        placed = placed;
       }
 
 pub rows_all : (p : Program) (known : List ShownPath) (rows : List HeadRow) (k : ℕ) → length known ≤ k → HeadRowsTo p known rows k → AreHeadRows p known rows

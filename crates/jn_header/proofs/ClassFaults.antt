@@ -1,10 +1,8 @@
 -- What is refused of a class, from what is bad of it.
-use Rattle.std.proofs.Common.{◌≡◌, ◌<◌, ℕ, List, [], ◌∷◌, length, slice_get, reverse, Option, Some, None, refl, sym, ap, ◌∙◌, subst, Result, Ok, Err}
-use Rattle.std.proofs.lemmas.List.{reverse-reverse}
+use Rattle.std.proofs.Common.{◌≡◌, ◌<◌, ℕ, List, [], ◌∷◌, length, slice_get, reverse, Option, Some, None, refl, sym, ap, ◌∙◌, subst}
 use Rattle.jn_base.specs.declared.tree.Name.{Name}
 use Rattle.jn_base.specs.declared.tree.Named.{Named}
 use Rattle.jn_base.specs.declared.tree.Place.{Place}
-use Rattle.jn_base.specs.declared.tree.Kind.{Kind}
 use Rattle.jn_base.specs.declared.tree.Kind.TheVariants as kind
 use Rattle.jn_base.specs.declared.tree.Program.{Program}
 use Rattle.jn_base.specs.declared.path.Path.{Path as ShownPath}
@@ -13,7 +11,6 @@ use Rattle.jn_base.specs.declared.refusal.Rule.{Rule}
 use Rattle.jn_base.specs.declared.refusal.Rule.TheVariants as rule
 use Rattle.jn_base.specs.Paths.{Path, shown}
 use Rattle.jn_base.specs.Universe.{InUniverse}
-use Rattle.jn_base.specs.ClassOrder.{IsFirst}
 use Rattle.jn_base.specs.Members.{IsHome}
 use Rattle.jn_base.specs.ProgramNames.{IsNamed}
 use Rattle.jn_base.specs.TableRules.{DeclarationsPass}
@@ -25,7 +22,6 @@ use Rattle.jn_table.specs.declared.table.Table.{Table}
 use Rattle.jn_table.specs.Rows.{IsNumber}
 use Rattle.jn_table.specs.Tables.{IsTableOf, IsFilled, SaysRow}
 use Rattle.jn_sem.specs.Sharing.{IsClass}
-use Rattle.jn_sem.specs.Holds.{IsFirstName}
 use Rattle.jn_sem.specs.Does.{Body, IsBody}
 use Rattle.jn_rules.specs.Members.{of_member, BadMethod, no_least, other_signature, MethodRefused, conflict, override, BadField, ConstructorPasses, ConstructorRefused, at_body, at_home, NoName, HasBad, bad_method, bad_field, bad_constructor, BadClass, ClassRefused, method, field, constructor}
 use Rattle.jn_rule_laws.proofs.RepliesOne.{body_once}
@@ -34,7 +30,7 @@ use Rattle.jn_header.specs.declared.classes.ClassFault.{ClassFault}
 use Rattle.jn_header.specs.Bodies.{LeastHeadIs}
 use Rattle.jn_header.specs.Members.{FirstBad}
 use Rattle.jn_header.specs.Constructors.{last_of}
-use Rattle.jn_header.specs.Classes.{of_fault, IsPlaceOf, of_body, of_home, ConstructorTold, MembersTold, ClassTold, IsFirstRefused, FirstRefusedIs}
+use Rattle.jn_header.specs.Classes.{of_fault, IsPlaceOf, of_body, of_home, ConstructorTold, MembersTold, ClassTold, IsFirstRefused}
 use Rattle.jn_header.proofs.BodyRows.{path_is}
 use Rattle.jn_header.proofs.Numbers.{universe_of, NoneAt, first_of_table, number_there}
 

@@ -2,7 +2,6 @@
 use Rattle.std.proofs.Common.{◌≡◌, ◌↔◌, [], ◌∷◌, Bool, true, false, IsTrue, Option, Some, None, refl, sym, ap, ◌∙◌, subst}
 use Rattle.jn_base.specs.declared.tree.Name.{Name}
 use Rattle.jn_base.specs.declared.tree.Program.{Program}
-use Rattle.jn_base.specs.declared.types.Ty.{Ty}
 use Rattle.jn_base.specs.declared.types.Ty.TheVariants as ty
 use Rattle.jn_base.specs.Paths.{Path}
 use Rattle.jn_base.specs.Supers.{Sup}
@@ -13,7 +12,7 @@ use Rattle.jn_rules.specs.Questions.{Answers}
 use Rattle.jn_rules.specs.Members.{Signature, HasSignature, ConstructorSignature, declared, missing_one, ConstructorPasses}
 use Rattle.jn_rule_laws.proofs.RepliesOne.{constructor_once}
 use Rattle.jn_header.specs.declared.bodies.BodyHead.{BodyHead}
-use Rattle.jn_header.specs.Bodies.{LeastHeadIs, head_signature}
+use Rattle.jn_header.specs.Bodies.{LeastHeadIs}
 use Rattle.jn_header.specs.Constructors.{constructor_signature, last_of, PassesAt, SupersPass}
 use Rattle.jn_header.proofs.Finding.{has_signature, signature_is}
 

@@ -1,6 +1,5 @@
 -- The first class where a constraint fails, and its first such method.
-use Rattle.std.proofs.Common.{◌≡◌, ◌<◌, ℕ, List, length, slice_get, Contains, Bool, true, false, Option, Some, None, refl, sym, ap, ◌∙◌, subst}
-use Rattle.std.specs.Prelude.{Result, Ok, Err}
+use Rattle.std.proofs.Common.{◌≡◌, ◌<◌, ℕ, List, length, slice_get, Bool, true, false, Option, Some, None, ap, ◌∙◌, subst}
 use Rattle.jn_base.specs.declared.tree.Name.{Name}
 use Rattle.jn_base.specs.declared.tree.Place.{Place}
 use Rattle.jn_base.specs.declared.tree.Kind.TheVariants as kind
@@ -8,21 +7,19 @@ use Rattle.jn_base.specs.declared.tree.Program.{Program}
 use Rattle.jn_base.specs.declared.refusal.Refusal.{Refusal}
 use Rattle.jn_base.specs.declared.refusal.Rule.TheVariants as rule
 use Rattle.jn_base.specs.Paths.{Path, shown}
-use Rattle.jn_base.specs.ClassOrder.{IsFirst}
 use Rattle.jn_base.specs.ProgramNames.{IsNamed}
-use Rattle.jn_base.specs.TableRules.{DeclarationsPass, NoneIs}
+use Rattle.jn_base.specs.TableRules.{DeclarationsPass}
 use Rattle.jn_table.specs.declared.class.ClassId.{ClassId}
 use Rattle.jn_table.specs.declared.class.Row.{Row}
 use Rattle.jn_table.specs.declared.table.Table.{Table}
 use Rattle.jn_table.specs.Rows.{IsNumber, HasMethod}
 use Rattle.jn_table.specs.Tables.{IsFilled, SaysRow}
 use Rattle.jn_sem.specs.Sharing.{IsClass}
-use Rattle.jn_sem.specs.Does.{Body, IsBody}
+use Rattle.jn_sem.specs.Does.{Body}
 use Rattle.jn_rules.specs.Questions.{Answers}
-use Rattle.jn_rules.specs.Members.{of_member, NoName, SharingFails, FailsFor, FailsAt}
+use Rattle.jn_rules.specs.Members.{of_member, NoName, FailsFor, FailsAt}
 use Rattle.jn_rule_laws.proofs.RepliesOne.{body_once}
 use Rattle.jn_header.specs.declared.bodies.BodyHead.{BodyHead}
-use Rattle.jn_header.specs.declared.classes.ClassFault.{ClassFault}
 use Rattle.jn_header.specs.Bodies.{LeastHeadIs}
 use Rattle.jn_header.specs.Members.{FirstBad, FirstOf}
 use Rattle.jn_header.specs.Classes.{of_fault, IsPlaceOf}

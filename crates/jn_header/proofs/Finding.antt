@@ -1,9 +1,9 @@
 -- What a search for heads finds.
-use Rattle.std.proofs.Common.{◌≡◌, ◌↔◌, List, Contains, slice_get, Bool, true, false, Option, Some, None, refl, sym, ap, ◌∙◌, subst, Result, Ok, IsTrue}
+use Rattle.std.proofs.Common.{◌≡◌, List, slice_get, Bool, true, false, Option, Some, None, nat_eq, refl, sym, ap, ◌∙◌, subst, Result, Ok}
+use Rattle.indexmap.specs.IndexMap.{get}
 use Rattle.jn_reach.proofs.Searches.{same_some}
 use Rattle.jn_base.specs.declared.tree.Name.{Name}
 use Rattle.jn_base.specs.declared.tree.Named.{Named}
-use Rattle.jn_base.specs.declared.tree.Method.{Method}
 use Rattle.jn_base.specs.declared.tree.Program.{Program}
 use Rattle.jn_base.specs.declared.path.Path.{Path as ShownPath}
 use Rattle.jn_base.specs.declared.refusal.Refusal.{Refusal}
@@ -12,19 +12,17 @@ use Rattle.jn_base.specs.Members.{MethodAt, Least}
 use Rattle.jn_base.specs.ProgramNames.{IsNamed}
 use Rattle.jn_base.specs.TableRules.{DeclarationsPass}
 use Rattle.jn_table.specs.declared.class.ClassId.{ClassId}
-use Rattle.jn_table.specs.declared.table.Table.{Table}
 use Rattle.jn_table.specs.Rows.{IsNumber}
 use Rattle.jn_names.specs.declared.members.Least.TheVariants as least
 use Rattle.jn_names.specs.Members.{LeastIs}
-use Rattle.jn_sem.specs.Does.{Body, IsBody}
+use Rattle.jn_sem.specs.Does.{Body}
 use Rattle.jn_rules.specs.Questions.{Gives, Answers}
 use Rattle.jn_rules.specs.Headers.{Header, header_typed}
 use Rattle.jn_rules.specs.Members.{Signature, signature, HasSignature, SameSignature}
 use Rattle.jn_rule_laws.proofs.Replies.{one_outcome}
 use Rattle.jn_header.specs.declared.bodies.BodyHead.{BodyHead}
 use Rattle.jn_header.specs.declared.bodies.HeadRow.{HeadRow}
-use Rattle.jn_header.specs.declared.bodies.Bodies.{Bodies}
-use Rattle.jn_header.specs.Bodies.{body_at, head_header, head_signature, IsHeadOf, HeadAt, AreHeadRows, AreBodies, FindsHead, HeadIs, LeastHeadIs}
+use Rattle.jn_header.specs.Bodies.{body_at, head_header, head_signature, IsHeadOf, AreHeadRows, ArePlaced, FindsHead, HeadIs, LeastHeadIs}
 
 -- ---- whether it is so
 
@@ -41,16 +39,19 @@ answers_as false f g h = λ u. h (g u)
 -- ---- a row
 
 module _ (p : Program) (known : List ShownPath) (rows : List HeadRow) (are : AreHeadRows p known rows) (id : ClassId) (R : Path) (n : IsNumber known id R) (name : Name) where
-  pub head_told : (row : HeadRow) (heads : List BodyHead) → slice_get rows id.0 ≡ Some row → heads ≡ row.heads.items → (o : Option BodyHead) → FindsHead heads name o → HeadIs p R name o
-  head_told row heads at e o found = of_row o (subst (λ (xs : List BodyHead). FindsHead xs name o) (e ∙ ap (λ (r : HeadRow). r.heads.items) (same_some (slice_get rows id.0) row (are id R n).row at (are id R n).at)) found) where
-    of_row : (o : Option BodyHead) → FindsHead (are id R n).row.heads.items name o → HeadIs p R name o
-    of_row (Some x) f =
-        let h = (are id R n).are.each x f.0 in
-        let same : h.0.name.name ≡ name = ap (λ (y : Named). y.name) (sym h.2.name) ∙ f.1 in
-        (h.0, subst (λ (m : Name). MethodAt p R m h.0) same h.1, h.2)
-    of_row None f = λ m at.
-        let h = (are id R n).are.all name m at in
-        f h.0 h.1 (ap (λ (y : Named). y.name) h.2.name ∙ at.name)
+  pub head_told : (row : HeadRow) → slice_get rows id.0 ≡ Some row → (o : Option BodyHead)
+      → (ArePlaced row.heads.items (get nat_eq row.places) → FindsHead row.heads.items name o) → HeadIs p R name o
+  head_told row at o found =
+      let e : row ≡ (are id R n).row = same_some (slice_get rows id.0) row (are id R n).row at (are id R n).at in
+      of_row o (subst (λ (r : HeadRow). ArePlaced r.heads.items (get nat_eq r.places) → FindsHead r.heads.items name o) e found (are id R n).placed) where
+        of_row : (o : Option BodyHead) → FindsHead (are id R n).row.heads.items name o → HeadIs p R name o
+        of_row (Some x) f =
+            let h = (are id R n).are.each x f.0 in
+            let same : h.0.name.name ≡ name = ap (λ (y : Named). y.name) (sym h.2.name) ∙ f.1 in
+            (h.0, subst (λ (m : Name). MethodAt p R m h.0) same h.1, h.2)
+        of_row None f = λ m at.
+            let h = (are id R n).are.all name m at in
+            f h.0 h.1 (ap (λ (y : Named). y.name) h.2.name ∙ at.name)
 
   pub no_row : slice_get rows id.0 ≡ None → HeadIs p R name None
   no_row e = absurd (clash (are id R n).row ((sym e) ∙ (are id R n).at)) where

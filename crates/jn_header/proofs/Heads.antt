@@ -8,23 +8,21 @@ use Rattle.jn_base.specs.declared.tree.Method.{Method}
 use Rattle.jn_base.specs.declared.tree.Member.{Member}
 use Rattle.jn_base.specs.declared.tree.Member.TheVariants as member
 use Rattle.jn_base.specs.declared.tree.Member.TheVariants.{outs-Inner, outs-Slot, outs-Body}
-use Rattle.jn_base.specs.declared.tree.ViewTerm.{ViewTerm}
 use Rattle.jn_base.specs.declared.tree.Program.{Program}
 use Rattle.jn_base.specs.declared.types.Ty.{Ty}
-use Rattle.jn_base.specs.declared.names.Role.{Role}
 use Rattle.jn_base.specs.declared.names.Role.TheVariants as role
 use Rattle.jn_base.specs.declared.names.Spot.{Spot}
 use Rattle.jn_base.specs.declared.names.Vars.{Vars}
 use Rattle.jn_base.specs.declared.refusal.Refusal.{Refusal}
 use Rattle.jn_base.specs.Paths.{Path}
-use Rattle.jn_base.specs.ResolveTypes.{mask_names, ResolveType, ResolveView}
+use Rattle.jn_base.specs.ResolveTypes.{mask_names, ResolveType}
 use Rattle.jn_names.specs.Answers.{Told as NameTold}
 use Rattle.jn_names.specs.declared.fault.NameFault.{NameFault}
 use Rattle.jn_names.specs.declared.fault.NameFault.TheVariants as names
 use Rattle.jn_sem.specs.NotFamily.{own_listed}
 use Rattle.jn_sem.specs.Terms.{spot}
-use Rattle.jn_rules.specs.Plans.{Target, target_type, Plan, Nothing, in_turn}
-use Rattle.jn_rules.specs.Questions.{as_type, left_refused, right_refused, both, Gives}
+use Rattle.jn_rules.specs.Plans.{Plan, Nothing, in_turn}
+use Rattle.jn_rules.specs.Questions.{Gives}
 use Rattle.jn_rules.specs.Headers.{Header, header_typed, constraint_asked, method_asked, field_asked, listed_asked, decl_headers, asked_at, header_plan}
 use Rattle.jn_rules.specs.Forms.{member_headers, headers_in}
 use Rattle.jn_rules.proofs.PlanLaws.{then_gives, then_refuses}

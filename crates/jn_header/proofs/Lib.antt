@@ -16,4 +16,5 @@ pub mod Judging
 pub mod Listings
 pub mod MethodNames
 pub mod Numbers
+pub mod Placing
 pub mod Rooting

@@ -1,7 +1,6 @@
 -- Method names that are bad: those without a least body, and those with a body of another signature.
-use Rattle.std.proofs.Common.{◌≡◌, ◌↔◌, List, Bool, true, false, not, IsTrue, Option, Some, None, refl, sym, ap, ◌∙◌, subst}
+use Rattle.std.proofs.Common.{◌≡◌, ◌↔◌, List, Bool, true, false, not, IsTrue, Some, None, refl, sym, subst}
 use Rattle.jn_base.specs.declared.tree.Name.{Name}
-use Rattle.jn_base.specs.declared.tree.Method.{Method}
 use Rattle.jn_base.specs.declared.tree.Program.{Program}
 use Rattle.jn_base.specs.declared.path.Path.{Path as ShownPath}
 use Rattle.jn_base.specs.Paths.{Path}
@@ -15,8 +14,8 @@ use Rattle.jn_table.specs.Rows.{HasMethod as RowHasMethod}
 use Rattle.jn_names.specs.declared.members.Least.TheVariants as least
 use Rattle.jn_names.specs.Members.{LeastIs}
 use Rattle.jn_sem.specs.Does.{Body, IsBody}
-use Rattle.jn_rules.specs.Questions.{Answers, HasMethod}
-use Rattle.jn_rules.specs.Members.{IsBodyIn, BadMethod, no_least, other_signature, SameSignature}
+use Rattle.jn_rules.specs.Questions.{Answers}
+use Rattle.jn_rules.specs.Members.{BadMethod, no_least, other_signature, SameSignature}
 use Rattle.jn_rule_laws.proofs.RepliesOne.{body_once}
 use Rattle.jn_header.specs.declared.bodies.BodyHead.{BodyHead}
 use Rattle.jn_header.specs.Bodies.{body_at, head_signature, IsHeadOf, HeadIs, LeastHeadIs}

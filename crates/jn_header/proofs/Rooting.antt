@@ -1,10 +1,10 @@
 -- Constraints with `this` at a class: what they are there, and whether they hold.
-use Rattle.std.proofs.Common.{◌≡◌, ◌↔◌, ◌<◌, ◌≤◌, ◌+◌, ℕ, List, [], ◌∷◌, ◌++◌, length, get_or, slice_get, reverse, drop, map, Contains, Bool, true, false, IsTrue, Option, Some, None, inl, inr, refl, sym, ap, ◌∙◌, subst, arith}
-use Rattle.std.specs.Prelude.{Result, Ok, Err}
+use Rattle.std.proofs.Common.{◌≡◌, ◌↔◌, ◌<◌, ◌≤◌, ◌+◌, ℕ, List, [], ◌∷◌, ◌++◌, length, get_or, slice_get, reverse, drop, map, Bool, true, false, IsTrue, Option, Some, None, inl, inr, refl, sym, ap, ◌∙◌, subst, arith}
+use Rattle.std.specs.Prelude.{Result, Ok}
 use Rattle.std.proofs.lemmas.Bool.{cases_lt}
-use Rattle.std.proofs.lemmas.Option.{slice_get_read, slice_get_within, get_or_from_slice_get}
+use Rattle.std.proofs.lemmas.Option.{slice_get_read, slice_get_within}
 use Rattle.jn_reach.specs.Each.{Each}
-use Rattle.jn_reach.proofs.Eachs.{Each-at, Each-back, Each-length}
+use Rattle.jn_reach.proofs.Eachs.{Each-back, Each-length}
 use Rattle.jn_reach.proofs.Searches.{same_some}
 use Rattle.jn_base.specs.declared.tree.Name.{Name}
 use Rattle.jn_base.specs.declared.tree.Constraint.{Constraint}
@@ -23,10 +23,10 @@ use Rattle.jn_base.specs.ResolveTypes.{mask_names}
 use Rattle.jn_table.specs.declared.table.Table.{Table}
 use Rattle.jn_table.specs.Tables.{IsFilled}
 use Rattle.jn_sem.specs.Does.{Body}
-use Rattle.jn_sem.specs.Holds.{Sides, Holds, RefutedBy, rooted, rooted_at, with_this, HoldsAt}
+use Rattle.jn_sem.specs.Holds.{Sides, Holds, RefutedBy, rooted, rooted_at, HoldsAt}
 use Rattle.jn_heads.specs.declared.sides.Pledge.{Pledge as TypePledge}
 use Rattle.jn_heads.specs.Sides.{IsPledge}
-use Rattle.jn_rules.specs.Plans.{Pledge, Target, target_type}
+use Rattle.jn_rules.specs.Plans.{Pledge, target_type}
 use Rattle.jn_rules.specs.Questions.{Answers, header_site, ConstraintGives, masks_of}
 use Rattle.jn_rule_laws.proofs.RepliesOne.{constraint_once}
 use Rattle.jn_views.specs.declared.held.Held.{Held}

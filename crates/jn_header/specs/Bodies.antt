@@ -1,5 +1,6 @@
 -- The declared bodies of a program, each with its header and with what its constraints stand for.
-use Rattle.std.specs.Prelude.{◌≡◌, List, [], Contains, slice_get, Option, Some, None, Result, Ok, Err}
+use Rattle.std.specs.Prelude.{◌≡◌, ℕ, nat_eq, List, [], Contains, slice_get, Option, Some, None, Result, Ok, Err}
+use Rattle.indexmap.specs.IndexMap.{get}
 use Rattle.jn_reach.specs.Each.{Each}
 use Rattle.jn_base.specs.declared.tree.Name.{Name}
 use Rattle.jn_base.specs.declared.tree.Method.{Method}
@@ -65,10 +66,16 @@ pub record AreHeads (p : Program) (R : Path) (row : List BodyHead) : Type 0 wher
   pub each : (x : BodyHead) → Contains row x → (m : Method) × MethodAt p R m.name.name m × HeadAt p R m x
   pub all : (n : Name) (m : Method) → MethodAt p R n m → (x : BodyHead) × Contains row x × HeadAt p R m x
 
+-- by a number a place is found where a head has the name of this number, and by that of each head's name one is found
+pub record ArePlaced (heads : List BodyHead) (find : ℕ → Option ℕ) : Type 0 where
+  pub sound : (n k : ℕ) → find n ≡ Some k → (x : BodyHead) × (slice_get heads k ≡ Some x) × (x.name.name.0 ≡ n)
+  pub complete : (x : BodyHead) → Contains heads x → (k : ℕ) × (find x.name.name.0 ≡ Some k)
+
 pub record HeadRowAt (p : Program) (rows : List HeadRow) (id : ClassId) (R : Path) : Type 0 where
   pub row : HeadRow
   pub at : slice_get rows id.0 ≡ Some row
   pub are : AreHeads p R row.heads.items
+  pub placed : ArePlaced row.heads.items (get nat_eq row.places)
 
 -- the row of each number has the heads of its path
 abbrev pub AreHeadRows : Program → List ShownPath → List HeadRow → Type 0

@@ -1,4 +1,5 @@
-ghost use Rattle.std.specs.Prelude.{◌≡◌, ◌∷◌, [], Contains, IfOk};
+ghost use Rattle.std.specs.Prelude.{◌≡◌, ◌∷◌, [], nat_eq, Contains, IfOk};
+ghost use Rattle.indexmap.specs.IndexMap.{get};
 ghost use Rattle.jn_base.specs.declared.tree.Method.{Method as AMethod};
 ghost use Rattle.jn_base.specs.declared.tree.Program.{Program as AProgram};
 ghost use Rattle.jn_base.specs.Paths.{Path as APath, methods};
@@ -9,9 +10,11 @@ ghost use Rattle.jn_table.specs.Tables.{IsTableOf, IsFilledAt};
 ghost use Rattle.jn_intern.specs.Pools.{InPool, Keeps};
 ghost use Rattle.jn_heads.specs.Params.{header_in};
 ghost use Rattle.jn_heads.specs.Sides.{IsPledge};
-ghost use Rattle.jn_header.specs.Bodies.{IsJudged, OrMemory, head_header, HeadAt, AreHeads, AreHeadRows, AreBodies};
+ghost use Rattle.jn_header.specs.Bodies.{IsJudged, OrMemory, head_header, HeadAt, AreHeads, AreHeadRows, ArePlaced, AreBodies};
 ghost use Rattle.jn_header.specs.BodySteps.{AddsHeads};
 
+use crate::places::places_of;
+use indexmap::IndexMap;
 use jn_base::names::Vars;
 use jn_base::tree::{Constraint, Member, Method, Name, Named, Program};
 use jn_base::types::Ty;
@@ -32,10 +35,11 @@ pub struct BodyHead {
     pub pledges: Vec<Pledge>,
 }
 
-/// The heads of the methods that the declaration of a class has.
+/// The heads of the methods that the declaration of a class has, and by the number of a name the place of its head.
 #[derive(Drop)]
 pub struct HeadRow {
     pub heads: Vec<BodyHead>,
+    pub places: IndexMap<u32, usize>,
 }
 
 /// The methods of a program: which declarations are least, and the heads of the declared bodies of each class.
@@ -181,6 +185,37 @@ pub fn class_of(alloc: Global, t: &Table, id: ClassId) -> Result<Bound, AllocErr
 }
 
 /// The heads of the methods that the declaration of a class has; a class that isn't declared has none.
+fn heads_at(
+    alloc: Global,
+    p: &Program,
+    t: &mut Table,
+    masks: &[Name],
+    pool: &mut Pool,
+    id: ClassId,
+) -> Result<Vec<BodyHead>, CheckFault>
+    requires judged { IsJudged p.now t.old masks.now }
+    requires filled { IsFilledAt t.old id }
+    ensures told { OrMemory (λ all. (R : APath) → IsNumber t.old.known.items id R → AreHeads p.now R all.items) result }
+    ensures keeps { Keeps pool.old pool.new }
+    ensures kept { t.new ≡ t.old }
+{
+    let class = class_of(alloc, t, id)?;
+    match decl_at(p, &t.row(id).path) {
+        None => Ok(Vec::new(alloc)),
+        Some(decl) => heads_of(alloc, p, t, masks, pool, &class, decl.members.as_slice()),
+    }
+}
+
+/// The row of some heads.
+fn row_of(alloc: Global, heads: Vec<BodyHead>) -> Result<HeadRow, AllocError>
+    ensures heads { IfOk result (λ row. row.heads.items ≡ heads.items) }
+    ensures placed { IfOk result (λ row. ArePlaced row.heads.items (get nat_eq row.places)) }
+{
+    let places = places_of(alloc, &heads)?;
+    Ok(HeadRow { heads, places })
+}
+
+/// The row of a class.
 fn head_row(
     alloc: Global,
     p: &Program,
@@ -192,20 +227,13 @@ fn head_row(
     requires judged { IsJudged p.now t.old masks.now }
     requires filled { IsFilledAt t.old id }
     ensures told { OrMemory (λ row. (R : APath) → IsNumber t.old.known.items id R → AreHeads p.now R row.heads.items) result }
+    ensures placed { OrMemory (λ row. ArePlaced row.heads.items (get nat_eq row.places)) result }
     ensures keeps { Keeps pool.old pool.new }
     ensures kept { t.new ≡ t.old }
 {
-    let class = class_of(alloc, t, id)?;
-    match decl_at(p, &t.row(id).path) {
-        None => Ok(HeadRow {
-            heads: Vec::new(alloc),
-        }),
-        Some(decl) => {
-            match heads_of(alloc, p, t, masks, pool, &class, decl.members.as_slice()) {
-                Err(fault) => Err(fault),
-                Ok(heads) => Ok(HeadRow { heads }),
-            }
-        }
+    match heads_at(alloc, p, t, masks, pool, id) {
+        Err(fault) => Err(fault),
+        Ok(heads) => Ok(row_of(alloc, heads)?),
     }
 }
 

@@ -1,27 +1,26 @@
-ghost use Rattle.std.specs.Prelude.{◌≡◌, List, option_copied};
+ghost use Rattle.std.specs.Prelude.{◌≡◌, List, nat_eq, option_copied};
+ghost use Rattle.indexmap.specs.IndexMap.{get};
 ghost use Rattle.jn_base.specs.declared.tree.Program.{Program};
 ghost use Rattle.jn_base.specs.declared.path.Path.{Path as ShownPath};
 ghost use Rattle.jn_base.specs.Paths.{Path as APath};
 ghost use Rattle.jn_table.specs.Rows.{IsNumber};
-ghost use Rattle.jn_header.specs.Bodies.{AreHeadRows, FindsHead, HeadIs, LeastHeadIs, SaysOf};
+ghost use Rattle.jn_header.specs.Bodies.{AreHeadRows, ArePlaced, FindsHead, HeadIs, LeastHeadIs, SaysOf};
 
 use crate::bodies::{Bodies, BodyHead, HeadRow};
-use jn_base::compare::is_name;
 use jn_base::tree::Name;
 use jn_names::Least;
 use jn_table::ClassId;
 use sqlite_items::at;
 
 /// The head of this name.
-fn find_head(heads: &[BodyHead], name: Name) -> Option<&BodyHead>
-    ensures { FindsHead heads.now name (option_copied result) }
+fn find_head(row: &HeadRow, name: Name) -> Option<&BodyHead>
+    ensures { ArePlaced row.now.heads.items (get nat_eq row.now.places)
+        → FindsHead row.now.heads.items name (option_copied result) }
 {
-    for head in heads {
-        if is_name(head.name.name, name) {
-            return Some(head);
-        }
+    match row.places.get(&name.0) {
+        None => None,
+        Some(place) => at(&row.heads, *place),
     }
-    None
 }
 
 /// The head of a method that the declaration at the path of a number has itself.
@@ -30,7 +29,7 @@ pub fn head_at(rows: &[HeadRow], id: ClassId, name: Name) -> Option<&BodyHead>
 {
     match at(rows, id.0 as usize) {
         None => None,
-        Some(row) => find_head(&row.heads, name),
+        Some(row) => find_head(row, name),
     }
 }
 

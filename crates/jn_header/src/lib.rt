@@ -17,6 +17,7 @@ mod least;
 mod listed;
 mod members;
 mod methods;
+mod places;
 mod shared;
 mod twice;
 mod unknown;

@@ -59,7 +59,7 @@ use Rattle.jn_lower.proofs.Growing.{means}
 use Rattle.jn_lower.proofs.Calling.{super_so, bare_super_so}
 use Rattle.jn_lower.proofs.Heads.{head_is, header_silent}
 use Rattle.jn_lower.proofs.Noting.{taken_noted, wants_noted, found_noted, grants_silent}
-use Rattle.jn_lower.proofs.Taking.{term_ahead, member_ahead, ready_locals, ready_in, ready_typed, ready_tucked}
+use Rattle.jn_lower.proofs.Taking.{term_ahead, member_ahead, ready_locals, ready_in, ready_typed, ready_tucked, own_bound}
 use Rattle.jn_lower.proofs.Seen.{named_low, this_first}
 use Rattle.jn_lower.proofs.Chains.{is_it, regroup}
 use Rattle.jn_lower.proofs.Behind.{settles, put_kept}
@@ -179,7 +179,7 @@ found g n scratch h u m es sc x z ms rest w0 w1 parts ready ahead f c =
     let B = bound sc (atom_of c.atom) in
     let s = scope_at (spot_at (site_here h) role.Super) (vars_at (site_here h)) in
     let here : slice_get n.classes x.class ≡ Some B =
-    f.class n parts.classes sc (this_is g h sc ready.class ready.this)
+    f.class n parts.classes sc (this_is g h sc ready.class (own_bound g scratch h sc w0 ready))
     ∙ ap (λ (a : ShownAtom). Some (bound sc (atom_of a))) one.same in
     let there : slice_get n.classes x.class ≡ Some (bound s (atom_of c.atom)) =
     f.class n parts.classes s (this_is g h s ready.class (this_first (site_here h) ready.apart))

@@ -1,6 +1,7 @@
 -- A whole body stands where its parts were emitted one behind the other.
 use Rattle.std.proofs.Common.{◌≡◌, ℕ, suc, ◌+◌, ◌<◌, ◌≤◌, List, [], ◌∷◌, ◌++◌, length, map, Bool, true, false, Option, None, zero, refl, sym, ap, ◌∙◌, subst, arith, append-nil}
 use Rattle.std.proofs.lemmas.List.{length-map}
+use Rattle.std.proofs.lemmas.Option.{slice_get_within}
 use Rattle.std.specs.Prelude.{Result, Ok, Some, take, slice_get, ◌||◌}
 use Rattle.jn_base.specs.declared.tree.Method.{Method}
 use Rattle.jn_base.specs.declared.tree.Program.{Program}
@@ -36,7 +37,6 @@ use Rattle.jn_lower.specs.Lowering.{PartsAre, BodyIs}
 use Rattle.jn_lower.specs.Walks.{Ready, LowersStmts, Begun, Finished}
 use Rattle.jn_lower.proofs.Growing.{added, earlier}
 use Rattle.jn_lower.proofs.Finishing.{locals_fit}
-use Rattle.jn_lower.proofs.Seen.{this_first}
 use Rattle.jn_lower.proofs.Heads.{HeadIs, head_is, header_silent}
 
 header_same : {x y : Header} → ◌≡◌ {A = Result Header Refusal} (Ok x) (Ok y) → x ≡ y
@@ -108,7 +108,12 @@ body_stands g n m r b k c0 c1 c3 w1 w2 code parts class is begun tested at_first
           ∙ head.numbered v h;
       valued = head.valued;
       apart = head.above;
-      this = this_first (site_in b k.vars) head.above;
+      few = λ v h.
+          let l = slice_get_within (3 ∷ map param_kind m.params) v.path (kind_of_type v.ty) (head.numbered v h) in
+          let most = end.few in
+          omega (arith, l, most, length-map m.params param_kind);
+      paths = head.paths;
+      low = λ q l. refl;
     } in
     let d = (all n scratch (body_in b k) parts).done (at_start b k) noted.after is.resolved.marks [] ready
     (subst (λ (z : Method). Notes g.p.now (stmts_type (body_in b k) z.body (at_start b k)) is.resolved.marks noted.after) is.method noted.noted)

@@ -1,7 +1,7 @@
 -- Locals and assignments: each step of the walk, and what it does.
-use Rattle.std.proofs.Common.{◌≡◌, ℕ, List, [], ◌∷◌, ◌++◌, length, map, drop, Bool, true, false, ◌⊎◌, inl, inr, zero, suc, refl, sym, ap, ◌∙◌, subst, append-nil}
+use Rattle.std.proofs.Common.{◌≡◌, ◌<◌, ℕ, List, [], ◌∷◌, ◌++◌, length, map, drop, Bool, true, false, ◌⊎◌, inl, inr, zero, suc, refl, sym, ap, ◌∙◌, subst, append-nil}
 use Rattle.std.proofs.Math.Seq.{drop-append_seam}
-use Rattle.std.specs.Prelude.{Result, Ok, Option, Some, None, slice_get, not}
+use Rattle.std.specs.Prelude.{Result, Ok, Option, Some, None, slice_get, not, cond, nat_eq}
 use Rattle.jn_base.specs.declared.tree.Named.{Named}
 use Rattle.jn_base.specs.declared.tree.TypeTerm.{TypeTerm}
 use Rattle.jn_base.specs.declared.tree.Expr.{Expr}
@@ -14,8 +14,12 @@ use Rattle.jn_base.specs.declared.names.Role.TheVariants as role
 use Rattle.jn_base.specs.declared.names.Var.{Var}
 use Rattle.jn_base.specs.declared.refusal.Refusal.{Refusal}
 use Rattle.jn_base.specs.declared.refusal.Rule.TheVariants as rule
-use Rattle.jn_base.specs.Atoms.{Among, first, later}
-use Rattle.jn_base.specs.Resolve.{is_class, var_named, var_bind}
+use Rattle.jn_base.specs.Paths.{Path}
+use Rattle.jn_base.specs.Atoms.{Among, first, later, atoms_in, first_at}
+use Rattle.jn_base.specs.Scopes.{Scope, bound_of}
+use Rattle.jn_laws.specs.LawsOfWritten.{HeaderPaths}
+use Rattle.jn_laws.proofs.WrittenTypes.{written_kinds}
+use Rattle.jn_base.specs.Resolve.{is_class, var_named}
 use Rattle.jn_base.specs.ResolveTypes.{ResolveType, mask_names}
 use Rattle.jn_code.specs.declared.instr.Instr.TheVariants as ins
 use Rattle.jn_sem.specs.Terms.{spot_at, vars_at}
@@ -40,11 +44,11 @@ use Rattle.jn_lower.specs.Written.{written_kind, is_reference, written_terms}
 use Rattle.jn_lower.specs.Walks.{Pushed, BindsWritten, Ready, StmtDone, LowersValue, LowersStmt}
 use Rattle.jn_lower.proofs.Holding.{local_so, assign_so}
 use Rattle.jn_lower.proofs.Noting.{taken_noted, wants_noted}
-use Rattle.jn_lower.proofs.Taking.{var_ahead, ready_grown, ready_locals}
+use Rattle.jn_lower.proofs.Taking.{var_ahead, ready_grown, ready_locals, seen_bound}
 use Rattle.jn_lower.proofs.LeafForms.{named_among, newest_named}
 use Rattle.jn_lower.proofs.Written.{told, type_is, kind_kept, class_kept, void_kept}
 use Rattle.jn_lower.proofs.Chains.{regroup}
-use Rattle.jn_lower.proofs.Seen.{bound_passed}
+use Rattle.jn_lower.proofs.Seen.{first_low, scope_more, paths_more, among_more}
 use Rattle.jn_lower.proofs.Blocks.{behind_it}
 
 -- ---- the terms of a written type are passed over
@@ -110,15 +114,6 @@ below_noted p b x y z e t ms noted =
 
 -- ---- one more variable
 
-among_more : {A : Type 0} (xs : List A) (v u : A) → Among (xs ++ v ∷ []) u → Among xs u ⊎ (u ≡ v)
-among_more [] v _ first = inr refl
-among_more [] v u (later m) = elim m [ ]
-among_more (x ∷ xs) v _ first = inl first
-among_more (x ∷ xs) v u (later m) = further (among_more xs v u m) where
-  further : Among xs u ⊎ (u ≡ v) → Among (x ∷ xs) u ⊎ (u ≡ v)
-  further (inl m) = inl (later m)
-  further (inr e) = inr e
-
 last_kind : (ks : List ℕ) (k : ℕ) → slice_get (ks ++ k ∷ []) (length ks) ≡ Some k
 last_kind [] k = refl
 last_kind (j ∷ ks) k = last_kind ks k
@@ -133,19 +128,36 @@ front_kind (i ∷ ks) k (suc q) j e = front_kind ks k q j e
 ready_more : (g : Parts) (scratch : ℕ) (b : In) (x : Before) (v : Var) (old new : Walk)
     → Ready g scratch (here b x) x.scope old → new.out.locals.kinds ≡ old.out.locals.kinds ++ kind_of_type v.ty ∷ []
     → new.out.locals.scratch ≡ old.out.locals.scratch → v.path ≡ length old.out.locals.kinds
-    → (v.ty ≡ ty.Void → ⊥) → Ready g scratch (here b (with_local x v)) (with_local x v).scope new
-ready_more g scratch b x v old new ready kinds scr path valued = record {
+    → (v.ty ≡ ty.Void → ⊥) → v.path < 256 → HeaderPaths x.vars v.ty
+    → Ready g scratch (here b (with_local x v)) (with_local x v).scope new
+ready_more g scratch b x v old new ready kinds scr path valued few written = record {
   class = ready.class;
   above = scr ∙ ready.above;
   first = ap (λ (l : List ℕ). slice_get l 0) kinds ∙ front_kind old.out.locals.kinds (kind_of_type v.ty) 0 3 ready.first;
   kinds = λ u m. ap (λ (l : List ℕ). slice_get l u.path) kinds ∙ kind_at u (among_more vs v u m);
   valued = λ u m. valued_at u (among_more vs v u m);
   apart = λ u m. apart_at u (among_more vs v u m);
-  this = bound_passed (var_bind v) x.scope 0 (λ e. no_first old.out.locals.kinds 3 ready.first (sym path ∙ e)) ∙ ready.this;
+  few = λ u m. few_at u (among_more vs v u m);
+  paths = λ u m. paths_at u (among_more vs v u m);
+  low = λ q l. ap (λ (R : Path). cond (nat_eq q v.path) R (bound_of x.scope q))
+      (first_low (bound_of x.scope) (bound_of s) (atoms_in v.ty) (λ y r k m e. seen_bound g scratch (here b x) x.scope old ready r (written y r k m e)))
+      ∙ ap (λ (R : Path). cond (nat_eq q v.path) (first_at (bound_of s) (atoms_in v.ty)) R) (ready.low q l)
+      ∙ ap (λ (t : Scope). bound_of t q) (sym (scope_more (site_here (here b x)) v));
 }
   where
     vs : List Var
     vs = x.vars
+
+    s : Scope
+    s = scope_of (site_here (here b x))
+
+    few_at : (u : Var) → Among vs u ⊎ (u ≡ v) → u.path < 256
+    few_at u (inl m) = ready.few u m
+    few_at u (inr e) = subst (λ (w : Var). w.path < 256) (sym e) few
+
+    paths_at : (u : Var) → Among vs u ⊎ (u ≡ v) → HeaderPaths (vs ++ v ∷ []) u.ty
+    paths_at u (inl m) = paths_more vs v u.ty (ready.paths u m)
+    paths_at u (inr e) = subst (λ (w : Var). HeaderPaths (vs ++ v ∷ []) w.ty) (sym e) (paths_more vs v v.ty written)
 
     no_first : (ks : List ℕ) (k : ℕ) → slice_get ks 0 ≡ Some k → length ks ≡ 0 → ⊥
     no_first [] k e l = no e where
@@ -206,7 +218,8 @@ declared g fixed written name e q m1 m2 w0 w3 w4 terms took value binds n scratc
         ready = subst (λ (z : Before). Ready g scratch (here b z) z.scope w4) (sym c.is)
             (ready_more g scratch b x v w3 w4 ready3
             (binds.kinds ∙ ap (λ (i : ℕ). w3.out.locals.kinds ++ i ∷ []) (sym kind)) binds.scratch next
-            (λ z. f.valued (void_kept (scope_of at) k.given z)));
+            (λ z. f.valued (void_kept (scope_of at) k.given z)) (subst (λ (i : ℕ). i < 256) one.same binds.few)
+            ((written_kinds g.p.now).paths at written t ready.paths (type_is g.p.now at written k.given means)));
         behind = λ ss end all. local_so g.p.now n scratch b x fixed written name e t ss w0.out w3.out w4.out end d.emitted
             (type_is g.p.now at written k.given means) (sym next)
             (record {

@@ -1,5 +1,5 @@
 -- What a header has: the kinds of its parameters, and which of them are tested.
-use Rattle.std.proofs.Common.{◌≡◌, ℕ, suc, ◌+◌, List, [], ◌∷◌, ◌++◌, length, map, Bool, Option, Some, None, refl, sym, ap, ◌∙◌, subst, append_assoc, append-nil, arith, length-append}
+use Rattle.std.proofs.Common.{◌≡◌, ℕ, suc, ◌+◌, List, [], ◌∷◌, ◌++◌, length, map, Bool, Option, Some, None, ◌⊎◌, inl, inr, refl, sym, ap, ◌∙◌, subst, append_assoc, append-nil, arith, length-append}
 use Rattle.std.specs.Prelude.{Result, Ok, Err, slice_get, ◌&&◌}
 use Rattle.jn_base.specs.declared.tree.Param.{Param}
 use Rattle.jn_base.specs.declared.tree.TypeTerm.{TypeTerm}
@@ -25,7 +25,10 @@ use Rattle.jn_agree.specs.Rows.{kind_of_type, result_kind}
 use Rattle.jn_agree.specs.Places.{testing, tests}
 use Rattle.jn_lower.specs.Written.{written_kind, is_reference, param_kind, param_tests, written_result}
 use Rattle.jn_lower.proofs.Noting.{taken_noted}
-use Rattle.jn_lower.proofs.Written.{told, kind_kept, class_kept, void_kept}
+use Rattle.jn_laws.specs.LawsOfWritten.{HeaderPaths}
+use Rattle.jn_laws.proofs.WrittenTypes.{written_kinds}
+use Rattle.jn_lower.proofs.Seen.{paths_more, among_more}
+use Rattle.jn_lower.proofs.Written.{told, kind_kept, class_kept, void_kept, type_is}
 
 -- ---- parameters
 
@@ -84,6 +87,24 @@ params_are p b before (x ∷ xs) vars g =
     longer [] v = refl
     longer (w ∷ ws) v = ap suc (longer ws v)
 
+-- they mention `this` and final parameters of class type
+params_paths : (p : Program) (b : Body) (before : List Var) (xs : List Param) (vars : List Var)
+    → Gives p (params_typed b before xs) (Ok vars) → ((v : Var) → Among before v → HeaderPaths before v.ty) → (v : Var)
+    → Among vars v → HeaderPaths vars v.ty
+params_paths p b before [] vars g own =
+    subst (λ (vs : List Var). (v : Var) → Among vs v → HeaderPaths vs v.ty) (sym (list_same g)) own
+params_paths p b before (x ∷ xs) vars g own =
+    let at = site_in b before in
+    let h = took g.0 (λ t. params_typed b (before ++ param_after b before x t ∷ []) xs) vars g.2 in
+    let w = param_after b before x h.given in
+    let means = subst (λ (o : Result Ty Refusal). ResolveType p (mask_names p) (spot_at at role.Value) (vars_at at) x.ty o) h.is g.1 in
+    params_paths p b (before ++ w ∷ []) xs vars h.then
+    (λ v m. more w ((written_kinds p).paths at x.ty w.ty own (type_is p at x.ty h.given means)) v (among_more before w v m))
+  where
+    more : (w : Var) → HeaderPaths before w.ty → (v : Var) → Among before v ⊎ (v ≡ w) → HeaderPaths (before ++ w ∷ []) v.ty
+    more w mine v (inl m) = paths_more before w v.ty (own v m)
+    more w mine v (inr e) = subst (λ (u : Var). HeaderPaths (before ++ w ∷ []) u.ty) (sym e) (paths_more before w w.ty mine)
+
 -- ---- a header
 
 pub record HeadIs (xs : List Param) (t : Option TypeTerm) (k : Header) : Type 0 where
@@ -93,6 +114,7 @@ pub record HeadIs (xs : List Param) (t : Option TypeTerm) (k : Header) : Type 0 
   pub numbered : (v : Var) → Among k.vars v → slice_get (3 ∷ map param_kind xs) v.path ≡ Some (kind_of_type v.ty)
   pub valued : (v : Var) → Among k.vars v → v.ty ≡ ty.Void → ⊥
   pub above : (v : Var) → Among k.vars v → v.path ≡ 0 → ⊥
+  pub paths : (v : Var) → Among k.vars v → HeaderPaths k.vars v.ty
   pub result : result_kind k.result ≡ written_result t
 
 kinds_are : (n : ℕ) (xs : List Param) (vs : List Var) → AreThey n xs vs
@@ -181,6 +203,8 @@ head_is p b k g =
       numbered = numbered_by (3 ∷ []) 1 b.method.params r.more refl r.are;
       valued = valued_all 1 b.method.params r.more r.are;
       above = above_all 0 b.method.params r.more r.are;
+      paths = subst (λ (vs : List Var). (v : Var) → Among vs v → HeaderPaths vs v.ty) r.all
+          (params_paths p b [] b.method.params x.first x.gave (λ v m. elim m [ ]));
       result = result_is p b x.first b.method.result y.first y.gave;
     })
 

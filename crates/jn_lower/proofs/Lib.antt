@@ -31,4 +31,5 @@ pub mod Setting
 pub mod Bounding
 pub mod Making
 pub mod Above
+pub mod NamedClasses
 pub mod Forming

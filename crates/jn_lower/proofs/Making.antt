@@ -14,12 +14,17 @@ use Rattle.jn_base.specs.declared.types.Atom.{Atom as ShownAtom}
 use Rattle.jn_base.specs.declared.types.Ty.{Ty}
 use Rattle.jn_base.specs.declared.types.ValKind.TheVariants as kind
 use Rattle.jn_base.specs.declared.names.Role.TheVariants as role
+use Rattle.jn_base.specs.declared.tree.Kind.TheVariants as kinds
 use Rattle.jn_base.specs.declared.names.Var.{Var}
 use Rattle.jn_base.specs.declared.refusal.Refusal.{Refusal}
 use Rattle.jn_base.specs.declared.refusal.Rule.TheVariants as rule
 use Rattle.jn_base.specs.Parts.{expr}
 use Rattle.jn_base.specs.Paths.{Path, shown}
-use Rattle.jn_base.specs.Members.{MethodAt}
+use Rattle.jn_base.specs.Members.{MethodAt, HasKind}
+use Rattle.jn_base.proofs.Reaching.{declared_in_universe}
+use Rattle.jn_laws.proofs.Bounded.{heir_there}
+use Rattle.jn_laws.proofs.Terms.{header_path, case_path, term_case}
+use Rattle.jn_sem.specs.Sharing.{IsClass}
 use Rattle.jn_base.specs.Atoms.{Atom, atom_of, anchor_at}
 use Rattle.jn_base.specs.Scopes.{Scope, bound_of, bound}
 use Rattle.jn_base.specs.Resolve.{Resolve}
@@ -32,7 +37,7 @@ use Rattle.jn_sem.specs.Terms.{spot_at, vars_at, TermIs}
 use Rattle.jn_sem.specs.Does.{Body, IsBody, IsConstructorBody}
 use Rattle.jn_rules.specs.Plans.{Mark, AtomMark, MemberMark, KindMark, OfTerm, OfConstructor, Plan, note, then_do, wants}
 use Rattle.jn_rules.specs.Questions.{Means, Finds, Gives, Notes}
-use Rattle.jn_rules.specs.Headers.{Header, header_typed}
+use Rattle.jn_rules.specs.Headers.{scope_of, Header, header_typed}
 use Rattle.jn_rules.specs.Exprs.{Here, site_here, Typed, Passed, in_method, gives, replaced_paths, as_many, call_typed, made_exact, of_new, fresh_with, made_with, made_by, new_typed, expr_types}
 use Rattle.jn_rules.specs.Forms.{typed_args, typed_expr}
 use Rattle.jn_rules.proofs.FormLaws.{forms_are}
@@ -62,7 +67,7 @@ use Rattle.jn_lower.proofs.Calling.{new_so}
 use Rattle.jn_lower.proofs.CtorCodes.{ctors_found}
 use Rattle.jn_lower.proofs.Heads.{head_is, header_silent}
 use Rattle.jn_lower.proofs.Noting.{taken_noted, wants_noted, gives_noted}
-use Rattle.jn_lower.proofs.Taking.{term_ahead, member_ahead, had_ahead, ready_locals, ready_in}
+use Rattle.jn_lower.proofs.Taking.{term_ahead, member_ahead, had_ahead, ready_locals, ready_in, own_bound, same_bound}
 use Rattle.jn_lower.proofs.Seen.{named_low}
 use Rattle.jn_lower.proofs.Chains.{regroup, last_one}
 
@@ -110,7 +115,7 @@ shape_there names j C D shape other one two =
 -- ---- constructors
 
 -- the bound of an atom with a last name has that last name
-ends_so : (s : Scope) (x : Atom) (C : Name) (P : Path) → x.names ++ x.exact ≡ C ∷ P
+pub ends_so : (s : Scope) (x : Atom) (C : Name) (P : Path) → x.names ++ x.exact ≡ C ∷ P
     → bound s x ≡ C ∷ (P ++ anchor_at (bound_of s) x.anchor)
 ends_so s x C P named =
     sym (append_assoc x.names x.exact (anchor_at (bound_of s) x.anchor))
@@ -141,6 +146,21 @@ no_items [] e = refl
 no_items (x ∷ es) e = absurd (no e) where
   no : length (x ∷ es) ≡ 0 → ⊥
   no e = cc
+
+-- what `new` makes is a class
+made_class : (g : Parts) (scratch : ℕ) (h : Here) (sc : Scope) (w : Walk) (u : Term) (a : ShownAtom)
+    → Ready g scratch h sc w → TermIs g.p.now role.New (site_here h) u (atom_of a) → IsClass g.p.now (bound sc (atom_of a))
+made_class g scratch h sc w u a ready is =
+    let at = site_here h in
+    let t = term_case g.p.now (spot_at at role.New) (vars_at at) u is.0 is.1 in
+    let k : HasKind g.p.now (bound (scope_of at) (atom_of is.0)) kinds.Class = t.class in
+    let e : bound sc (atom_of a) ≡ bound (scope_of at) (atom_of is.0) =
+    ap (bound sc) is.2 ∙ same_bound g scratch h sc w ready (atom_of is.0)
+    (λ q j i. header_path role.New h.vars q (case_path (spot_at at role.New) (vars_at at) u.head is.0.anchor q j t.anchor i)) in
+    subst (λ (R : Path). IsClass g.p.now R) (sym e) (record {
+      universe = heir_there k.super (declared_in_universe g.p.now k.at k.decl k.stands);
+      kind = k;
+    })
 
 -- where there is no argument nothing stands
 nothing_stands : (p : Program) (n : Naming) (scratch : ℕ) (c : Code) (h : Here) (from to : List ℕ) (sc : Scope) (s t : ℕ)
@@ -272,15 +292,17 @@ module _ (g : Parts) (u : Term) (es : List Expr) (keeps : Bool) (pl : Place) (n 
       → Done (Value g.p.now n scratch h sc keeps (expr pl (node.New u es))) rest z.ty w0 w4
   by_either rest ms z (Some b) cons noted ready ahead (by so m) = by_one rest ms z b cons noted ready ahead m
   by_either rest ms z (Some b) cons noted ready ahead (without empty so stays found) =
-      absurd (so parts.filled sc (this_is g h sc ready.class ready.this)
+      absurd (so parts.filled sc (this_is g h sc ready.class (own_bound g scratch h sc w0 ready))
+      (made_class g scratch h sc w0 u a ready is)
       (b.class, (body_of g.p.now sc (atom_of a) C last.0 b last.1 cons).least.among))
   by_either rest ms z None none noted ready ahead (by so m) =
       let w = wants_noted (nat_eq (length (typed_args h es)) 0) (in_method rule.E17 h pl)
       (gives (of_new (normal_type sc (made_exact (atom_of a))) (fresh_with (normal_type sc (made_exact (atom_of a))) sc)
       (fresh_with (normal_type sc (made_exact (atom_of a))) sc).scope)) ms z noted in
       let empty = sym (length-map es (typed_expr h)) ∙ eqb-true (length (typed_args h es)) 0 w.test in
-      let has = so empty parts.filled sc (this_is g h sc ready.class ready.this) in
-      absurd (parts.least (bound sc (atom_of a)) C has.0 has.1
+      let class = made_class g scratch h sc w0 u a ready is in
+      let has = so empty parts.filled sc (this_is g h sc ready.class (own_bound g scratch h sc w0 ready)) class in
+      absurd (parts.least (bound sc (atom_of a)) C class has
       (λ b body. none b (constructor_of g.p.now sc (atom_of a) C last.0 b last.1 body)))
   by_either rest ms z None none noted ready ahead (without empty so stays found) =
       by_none rest ms z none noted ready ahead empty stays found

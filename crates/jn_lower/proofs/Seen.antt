@@ -1,8 +1,8 @@
 -- What the scopes have in which the parts of an expression are typed: each path below 256 has the bound that it had.
-use Rattle.std.proofs.Common.{◌≡◌, ◌<◌, ℕ, List, [], ◌∷◌, ◌++◌, length, map, drop, reverse, Option, Some, None, Bool, true, false, refl, sym, ap, ◌∙◌, subst, arith, append-nil}
+use Rattle.std.proofs.Common.{◌≡◌, ◌<◌, ℕ, List, [], ◌∷◌, ◌++◌, length, map, drop, reverse, Option, Some, None, Bool, true, false, ◌⊎◌, inl, inr, refl, sym, ap, ◌∙◌, subst, arith, append-nil}
 use Rattle.std.specs.Prelude.{cond, nat_eq, ◌&&◌, Result, Ok, Err}
 use Rattle.std.proofs.lemmas.Bool.{ne_eqb}
-use Rattle.std.proofs.lemmas.List.{reverse-append, reverse-reverse}
+use Rattle.std.proofs.lemmas.List.{reverse-append, reverse-reverse, map-append}
 use Rattle.jn_base.specs.declared.tree.Name.{Name}
 use Rattle.jn_base.specs.declared.tree.Named.{Named}
 use Rattle.jn_base.specs.declared.tree.Place.{Place}
@@ -34,6 +34,8 @@ use Rattle.jn_base.specs.Scopes.{Bind, Scope, bound_of, this_bind}
 use Rattle.jn_base.specs.Resolve.{is_class, class_of, var_bind, var_named}
 use Rattle.jn_base.specs.declared.names.Role.TheVariants as role
 use Rattle.jn_sem.specs.Terms.{Site, spot_at}
+use Rattle.jn_laws.specs.LawsOfWritten.{HeaderPath, of_this, of_param, HeaderPaths}
+use Rattle.jn_laws.proofs.Lists.{among_left}
 use Rattle.jn_laws.proofs.Terms.{reverse_among}
 use Rattle.jn_sem.specs.Does.{Body}
 use Rattle.jn_sem.specs.NormalFunction.{normal_type}
@@ -45,14 +47,12 @@ use Rattle.jn_rules.specs.Forms.{typed_args, given_args, typed_expr, typed_parts
 use Rattle.jn_rules.proofs.FormLaws.{forms_are}
 use Rattle.jn_rules.proofs.PlanLaws.{then_came, wanted, took, found_was}
 use Rattle.jn_rule_laws.specs.Behind.{MasksApart, none, one}
+use Rattle.jn_lower.specs.Walks.{Low}
 
 pub unlike : false ≡ true → ⊥
 unlike e = cc
 
 -- ---- scopes
-
-abbrev pub Low : Scope → Scope → Type 0
-Low s t = (q : ℕ) → q < 256 → bound_of t q ≡ bound_of s q
 
 pub low_itself : (s : Scope) → Low s s
 low_itself s q l = refl
@@ -83,6 +83,17 @@ anchor_same f g same (Up q k) = ap (λ (R : Path). drop k R) (same q)
 first_same : (f g : ℕ → Path) → ((q : ℕ) → f q ≡ g q) → (xs : List Atom) → first_at f xs ≡ first_at g xs
 first_same f g same [] = refl
 first_same f g same (x ∷ xs) = ap (λ (R : Path). x.names ++ (x.exact ++ R)) (anchor_same f g same x.anchor)
+
+-- where the paths that are mentioned have the same classes
+pub anchor_low : (f g : ℕ → Path) (a : Anchor) → ((q k : ℕ) → a ≡ Up q k → f q ≡ g q) → anchor_at f a ≡ anchor_at g a
+anchor_low f g Root same = refl
+anchor_low f g (Up q k) same = ap (λ (R : Path). drop k R) (same q k refl)
+
+pub first_low : (f g : ℕ → Path) (xs : List Atom)
+    → ((x : Atom) (q k : ℕ) → Among xs x → x.anchor ≡ Up q k → f q ≡ g q) → first_at f xs ≡ first_at g xs
+first_low f g [] same = refl
+first_low f g (x ∷ xs) same =
+    ap (λ (R : Path). x.names ++ (x.exact ++ R)) (anchor_low f g x.anchor (λ q k e. same x q k first e))
 
 -- the same scope but for masks has the same bounds
 pub apart_bound : (s t : Scope) → MasksApart s t → (q : ℕ) → bound_of t q ≡ bound_of s q
@@ -125,6 +136,29 @@ this_first at others =
     other b m e =
         let r = var_of_bind at.vars b (reverse_among (map var_bind at.vars) b m) in
         others r.0 r.1 (sym (ap (λ (c : Bind). c.path) r.2) ∙ e)
+
+-- ---- one more variable
+
+pub among_more : {A : Type 0} (xs : List A) (v u : A) → Among (xs ++ v ∷ []) u → Among xs u ⊎ (u ≡ v)
+among_more [] v _ first = inr refl
+among_more [] v u (later m) = elim m [ ]
+among_more (x ∷ xs) v _ first = inl first
+among_more (x ∷ xs) v u (later m) = further (among_more xs v u m) where
+  further : Among xs u ⊎ (u ≡ v) → Among (x ∷ xs) u ⊎ (u ≡ v)
+  further (inl m) = inl (later m)
+  further (inr e) = inr e
+
+pub scope_more : (at : Site) (v : Var)
+    → scope_of (record { class = at.class; method = at.method; vars = at.vars ++ v ∷ [] }) ≡ var_bind v ∷ scope_of at
+scope_more at v =
+    ap (λ (bs : List Bind). reverse (this_bind (class_of (spot_at at role.Value)) ∷ bs)) (map-append var_bind at.vars (v ∷ []))
+    ∙ reverse-append (this_bind (class_of (spot_at at role.Value)) ∷ map var_bind at.vars) (var_bind v ∷ [])
+
+pub paths_more : (vs : List Var) (v : Var) (t : Ty) → HeaderPaths vs t → HeaderPaths (vs ++ v ∷ []) t
+paths_more vs v t own x q k m e = at (own x q k m e) where
+  at : HeaderPath vs q → HeaderPath (vs ++ v ∷ []) q
+  at (of_this i) = of_this i
+  at (of_param y n i f c) = of_param y (among_left vs (v ∷ []) n) i f c
 
 -- ---- what is answered
 

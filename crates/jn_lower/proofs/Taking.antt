@@ -7,11 +7,15 @@ use Rattle.jn_base.specs.declared.path.Path.{Path as ShownPath}
 use Rattle.jn_base.specs.declared.names.Var.{Var}
 use Rattle.jn_base.specs.declared.tree.Expr.{Expr}
 use Rattle.jn_base.specs.Paths.{Path, shown}
-use Rattle.jn_base.specs.Atoms.{Among}
-use Rattle.jn_base.specs.Scopes.{Scope}
+use Rattle.jn_base.specs.declared.types.Anchor.TheVariants.{Up}
+use Rattle.jn_base.specs.Atoms.{Atom, Among}
+use Rattle.jn_base.specs.Scopes.{Scope, bound_of, bound}
+use Rattle.jn_sem.specs.Terms.{Site}
+use Rattle.jn_laws.specs.LawsOfWritten.{HeaderPath, of_this, of_param, HeaderPaths}
+use Rattle.jn_rules.specs.Headers.{scope_of}
 use Rattle.jn_rules.specs.Plans.{Mark, AtomMark, VarMark, MemberMark, KindMark}
 use Rattle.jn_rules.specs.Questions.{Notes}
-use Rattle.jn_rules.specs.Exprs.{Here, Typed, expr_types}
+use Rattle.jn_rules.specs.Exprs.{Here, site_here, Typed, expr_types}
 use Rattle.jn_rules.specs.Stmts.{In, Before, here}
 use Rattle.jn_rules.proofs.PlanLaws.{notes_give}
 use Rattle.jn_rule_laws.specs.Behind.{MasksApart}
@@ -23,8 +27,8 @@ use Rattle.jn_lower.specs.declared.walk.Walk.{Walk}
 use Rattle.jn_lower.specs.Cursors.{Ahead, TermTaken, VarTaken, MemberTaken, KindTaken}
 use Rattle.jn_lower.specs.Called.{Tucks}
 use Rattle.jn_lower.specs.Emitted.{Grown}
-use Rattle.jn_lower.specs.Walks.{kind_number, Had, Ready}
-use Rattle.jn_lower.proofs.Seen.{Low, apart_bound, expr_low}
+use Rattle.jn_lower.specs.Walks.{kind_number, Had, Low, Ready}
+use Rattle.jn_lower.proofs.Seen.{low_joined, anchor_low, apart_bound, this_first, expr_low}
 
 -- ---- lists
 
@@ -120,7 +124,9 @@ ready_grown g scratch h sc old new grown r = record {
   kinds = λ v m. grown.locals.kinds v.path _ (r.kinds v m);
   valued = r.valued;
   apart = r.apart;
-  this = r.this;
+  few = r.few;
+  paths = r.paths;
+  low = r.low;
 }
 
 pub ready_locals : (g : Parts) (scratch : ℕ) (h : Here) (sc : Scope) (old new : Walk)
@@ -132,7 +138,9 @@ ready_locals g scratch h sc old new e r = record {
   kinds = λ v m. ap (λ (o : Locals). slice_get o.kinds v.path) e ∙ r.kinds v m;
   valued = r.valued;
   apart = r.apart;
-  this = r.this;
+  few = r.few;
+  paths = r.paths;
+  low = r.low;
 }
 
 -- behind what brings `this` below the first argument of `super`
@@ -147,10 +155,29 @@ ready_tucked g scratch h sc kind old new t r =
       kinds = λ v m. ap (λ (l : List ℕ). slice_get l v.path) kinds ∙ r.kinds v m;
       valued = r.valued;
       apart = r.apart;
-      this = r.this;
+      few = r.few;
+      paths = r.paths;
+      low = r.low;
     }
 
 -- ---- scopes
+
+-- `this` has the class of the body
+pub own_bound : (g : Parts) (scratch : ℕ) (h : Here) (sc : Scope) (w : Walk) → Ready g scratch h sc w
+    → bound_of sc 0 ≡ h.class
+own_bound g scratch h sc w r = r.low 0 (omega arith) ∙ this_first (site_here h) r.apart
+
+-- a path that a term may mention has the bound that it has where terms are resolved, and so has an atom that hangs on one
+pub seen_bound : (g : Parts) (scratch : ℕ) (h : Here) (sc : Scope) (w : Walk) → Ready g scratch h sc w → (q : ℕ)
+    → HeaderPath h.vars q → bound_of sc q ≡ bound_of (scope_of (site_here h)) q
+seen_bound g scratch h sc w r q (of_this e) = r.low q (omega (arith, e))
+seen_bound g scratch h sc w r q (of_param v m e f c) = let l = r.few v m in r.low q (omega (arith, e, l))
+
+pub same_bound : (g : Parts) (scratch : ℕ) (h : Here) (sc : Scope) (w : Walk) → Ready g scratch h sc w → (x : Atom)
+    → ((q k : ℕ) → x.anchor ≡ Up q k → HeaderPath h.vars q) → bound sc x ≡ bound (scope_of (site_here h)) x
+same_bound g scratch h sc w r x own =
+    ap (λ (R : Path). x.names ++ (x.exact ++ R)) (anchor_low (bound_of sc) (bound_of (scope_of (site_here h))) x.anchor
+    (λ q k e. seen_bound g scratch h sc w r q (own q k e)))
 
 -- with fresh paths more
 pub ready_in : (g : Parts) (scratch : ℕ) (h : Here) (s t : Scope) (w : Walk) → Low s t → Ready g scratch h s w
@@ -162,7 +189,9 @@ ready_in g scratch h s t w low r = record {
   kinds = r.kinds;
   valued = r.valued;
   apart = r.apart;
-  this = low 0 (omega arith) ∙ r.this;
+  few = r.few;
+  paths = r.paths;
+  low = low_joined (scope_of (site_here h)) s t r.low low;
 }
 
 -- with other masks
@@ -175,8 +204,15 @@ ready_apart g scratch b x y w vars apart r = record {
   kinds = λ v m. r.kinds v (subst (λ (vs : List Var). Among vs v) vars m);
   valued = λ v m. r.valued v (subst (λ (vs : List Var). Among vs v) vars m);
   apart = λ v m. r.apart v (subst (λ (vs : List Var). Among vs v) vars m);
-  this = apart_bound x.scope y.scope apart 0 ∙ r.this;
+  few = λ v m. r.few v (subst (λ (vs : List Var). Among vs v) vars m);
+  paths = λ v m. subst (λ (vs : List Var). HeaderPaths vs v.ty) (sym vars)
+      (r.paths v (subst (λ (vs : List Var). Among vs v) vars m));
+  low = λ q l. apart_bound x.scope y.scope apart q ∙ r.low q l
+      ∙ ap (λ (vs : List Var). bound_of (scope_of (site_in_of vs)) q) (sym vars);
 }
+  where
+    site_in_of : List Var → Site
+    site_in_of vs = record { class = b.class; method = b.method.name.name; vars = vs }
 
 -- behind an expression
 pub ready_typed : (g : Parts) (scratch : ℕ) (h : Here) (sc : Scope) (e : Expr) (ms : List Mark) (x : Typed)

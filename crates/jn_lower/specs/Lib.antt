@@ -18,4 +18,5 @@ pub mod Lowering
 pub mod Walks
 pub mod Bounds
 pub mod Making
+pub mod Alike
 pub mod Formed

@@ -47,16 +47,17 @@ IsAtomBound class x B = (s : Scope) → IsThis class s → B ≡ bound s (atom_o
 abbrev pub IsLast : ShownAtom → Name → Type 0
 IsLast x C = (P : Path) × ((atom_of x).names ++ (atom_of x).exact ≡ C ∷ P)
 
--- the bound of the atom is a class that has a constructor
+-- where the bound of the atom is a class, it has a constructor
 abbrev pub Constructs : Parts → ShownAtom → Name → Type 0
 Constructs g x C =
-    IsFilled g.p.now g.t.now → (s : Scope) → IsThis g.class.now s
-    → IsClass g.p.now (bound s (atom_of x)) × HasMethod g.p.now (bound s (atom_of x)) C
+    IsFilled g.p.now g.t.now → (s : Scope) → IsThis g.class.now s → IsClass g.p.now (bound s (atom_of x))
+    → HasMethod g.p.now (bound s (atom_of x)) C
 
--- and has none
+-- or has none
 abbrev pub ConstructsNot : Parts → ShownAtom → Name → Type 0
 ConstructsNot g x C =
-    IsFilled g.p.now g.t.now → (s : Scope) → IsThis g.class.now s → HasMethod g.p.now (bound s (atom_of x)) C → ⊥
+    IsFilled g.p.now g.t.now → (s : Scope) → IsThis g.class.now s → IsClass g.p.now (bound s (atom_of x))
+    → HasMethod g.p.now (bound s (atom_of x)) C → ⊥
 
 -- whether it has one
 pub record SaysConstructs (g : Parts) (x : ShownAtom) (C : Name) (told : Bool) : Type 0 where

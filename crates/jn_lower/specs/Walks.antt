@@ -1,6 +1,6 @@
 -- What a walk over a body does: it takes the marks that the rules note of each form, in their order, and what it emits
 -- stands at the form's place.
-use Rattle.std.specs.Prelude.{◌≡◌, ℕ, zero, suc, List, [], ◌∷◌, ◌++◌, length, map, reverse, take, Bool, true, false, Option, Some, slice_get}
+use Rattle.std.specs.Prelude.{◌≡◌, ◌<◌, ◌≤◌, ℕ, zero, suc, List, [], ◌∷◌, ◌++◌, length, map, reverse, take, Bool, true, false, Option, Some, slice_get}
 use Rattle.jn_base.specs.declared.tree.Place.{Place}
 use Rattle.jn_base.specs.declared.tree.Op.{Op}
 use Rattle.jn_base.specs.declared.tree.Node.{Node}
@@ -37,7 +37,9 @@ use Rattle.jn_code.specs.declared.image.Code.{Code}
 use Rattle.jn_sem.specs.Acts.{path_behind}
 use Rattle.jn_rules.specs.Plans.{Mark}
 use Rattle.jn_rules.specs.Questions.{Notes}
-use Rattle.jn_rules.specs.Exprs.{Here, Typed, Passed, expr_types, links_typed, suffix_typed, suffixes_typed, args_typed}
+use Rattle.jn_laws.specs.LawsOfWritten.{HeaderPaths}
+use Rattle.jn_rules.specs.Headers.{scope_of}
+use Rattle.jn_rules.specs.Exprs.{Here, site_here, Typed, Passed, expr_types, links_typed, suffix_typed, suffixes_typed, args_typed}
 use Rattle.jn_rules.specs.Forms.{given_args, typed_links, typed_args, typed_parts}
 use Rattle.jn_rules.specs.Stmts.{In, Before, here, stmt_types, stmts_type}
 use Rattle.jn_agree.specs.Naming.{Naming}
@@ -143,6 +145,7 @@ pub record Repeated (start test : ℕ) (old new : Walk) : Type 0 where
 -- The next local, whose number is q, was bound as one of that written type.
 pub record BindsWritten (fixed : Bool) (tt : TypeTerm) (q : ℕ) (old new : Walk) : Type 0 where
   pub number : q ≡ length old.out.locals.kinds
+  pub few : q < 256
   pub instrs : new.out.instrs ≡ old.out.instrs ++ stored fixed (is_reference tt) (length old.out.locals.kinds)
   pub kinds : new.out.locals.kinds ≡ old.out.locals.kinds ++ written_kind tt ∷ []
   pub spare : new.out.locals.spare ≡ old.out.locals.spare
@@ -151,8 +154,13 @@ pub record BindsWritten (fixed : Bool) (tt : TypeTerm) (q : ℕ) (old new : Walk
 
 -- ---- what a walk stands on, and what it has done
 
+-- each path but the fresh ones, which are numbered from 256, has the bound that it has in the first scope
+abbrev pub Low : Scope → Scope → Type 0
+Low s t = (q : ℕ) → q < 256 → bound_of t q ≡ bound_of s q
+
 -- The body stands in the class that is told. Local 0 is a reference; the local of each variable in scope has the kind of
--- its type, none is `void`, and none has the number of `this`. The scope has the class for `this`.
+-- its type, none is `void`, and none has the number of `this`, or of a fresh path. Paths have the bounds that they have
+-- where terms are resolved.
 pub record Ready (g : Parts) (scratch : ℕ) (h : Here) (sc : Scope) (w : Walk) : Type 0 where
   pub class : g.class.now ≡ shown h.class
   pub above : w.out.locals.scratch ≡ scratch
@@ -160,7 +168,9 @@ pub record Ready (g : Parts) (scratch : ℕ) (h : Here) (sc : Scope) (w : Walk) 
   pub kinds : (v : Var) → Among h.vars v → slice_get w.out.locals.kinds v.path ≡ Some (kind_of_type v.ty)
   pub valued : (v : Var) → Among h.vars v → v.ty ≡ ty.Void → ⊥
   pub apart : (v : Var) → Among h.vars v → v.path ≡ 0 → ⊥
-  pub this : bound_of sc 0 ≡ h.class
+  pub few : (v : Var) → Among h.vars v → v.path < 256
+  pub paths : (v : Var) → Among h.vars v → HeaderPaths h.vars v.ty
+  pub low : Low (scope_of (site_here h)) sc
 
 -- These marks are left, the form stands where it was emitted, and the value that was had last has the type's kind.
 pub record Done (There : Code → ℕ → ℕ → Type 0) (rest : List Mark) (t : Ty) (old new : Walk) : Type 0 where
@@ -373,6 +383,7 @@ pub record Finished (m : Method) (x : Emitter) (code : Code) : Type 0 where
   pub params : code.params ≡ take (suc (length m.params)) x.locals.kinds
   pub locals : code.params ++ code.locals ≡ x.locals.kinds ++ x.locals.spare
   pub scratch : length x.locals.kinds ≡ x.locals.scratch
+  pub few : suc (length m.params) ≤ 16
   pub result : code.result ≡ written_result m.result
   pub instrs : code.instrs ≡ x.instrs
 

@@ -16,6 +16,7 @@ pub mod law;
 pub mod leaves;
 pub mod locals;
 pub mod members;
+pub mod named_classes;
 pub mod params;
 pub mod path_behind;
 pub mod selecting;

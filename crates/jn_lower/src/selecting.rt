@@ -97,7 +97,7 @@ pub fn field_number(names: &[FieldSel], name: Name, kind: u8) -> Result<Option<u
 }
 
 /// The last of the names, none where there is none.
-fn last_of(names: &[Name]) -> Option<Name>
+pub fn last_of(names: &[Name]) -> Option<Name>
     ensures { HeadIs (reverse names.now) result }
 {
     if names.is_empty() {

@@ -7,24 +7,48 @@ use crate::bounds::class_bound;
 use crate::calls::make;
 use crate::classes::class_of;
 use crate::members::{constructor_at, has_method};
+use crate::named_classes::named_construct;
 use crate::selecting::{constructor_number, name_of};
 use crate::walk::{Parts, Walk, had};
 use jn_base::tree::Name;
-use jn_base::types::Atom;
+use jn_base::types::{Anchor, Atom};
 use std::alloc::AllocError;
 
-/// Whether the class of the atom, whose last name that is, has a constructor. One that isn't in the table, or is no
-/// class, which no checked body makes, is refused for want of memory.
-fn constructs(g: &Parts, x: &Atom, name: Name) -> Result<bool, AllocError>
+/// Whether the class of the atom, by its bound, has a method of that name. One that isn't in the table, which no checked
+/// body makes, is refused for want of memory.
+fn bound_constructs(g: &Parts, x: &Atom, name: Name) -> Result<bool, AllocError>
     ensures { IfOk result (SaysConstructs g.now x.now name) }
 {
     let bound = class_bound(g.alloc, g.class, x)?;
-    if !bound.is_class(g.t) {
-        return Err(AllocError);
-    }
     match bound.number(g.t) {
         None => Err(AllocError),
         Some(id) => Ok(has_method(g.t, id, name)),
+    }
+}
+
+/// The same by its last name, which the atom has.
+fn name_constructs(g: &Parts, x: &Atom, name: Name) -> Result<bool, AllocError>
+    requires { IsLast x.now name }
+    ensures { IfOk result (SaysConstructs g.now x.now name) }
+{
+    named_construct(g.alloc, g.t, name)
+}
+
+/// Whether the class of the atom, whose last name that is, has a constructor. Where it hangs on a variable, and some
+/// classes of the name have one and others none, it is refused for want of memory.
+fn constructs(g: &Parts, x: &Atom, name: Name) -> Result<bool, AllocError>
+    requires { IsLast x.now name }
+    ensures { IfOk result (SaysConstructs g.now x.now name) }
+{
+    match x.anchor {
+        Anchor::Root => bound_constructs(g, x, name),
+        Anchor::Up(q, _) => {
+            if q == 0 {
+                bound_constructs(g, x, name)
+            } else {
+                name_constructs(g, x, name)
+            }
+        }
     }
 }
 
@@ -61,7 +85,8 @@ fn made_with(
     if count > 0 {
         return by_mark(g, w, x, count);
     }
-    if constructs(g, x, name)? {
+    let has = constructs(g, x, name)?;
+    if has {
         by_mark(g, w, x, count)
     } else {
         constructor_number(g.names.methods.as_slice(), x, &[])

@@ -15,7 +15,7 @@ returns-in-Err-clause-keeps c = keeps_more c.loop-k.invariant.3 c.in-Err.ensures
 pub loop-k-preserved : goal.loop-k-preserved
 loop-k-preserved c = (
   rows_more c.args.p.now c.args.t.now.known.items c.loop-k.rows.items c.push.new.self.items c.in-Ok.row (record { 0 = c.loop-k.k }) c.loop-k.invariant.1 c.loop-k.invariant.0
-      (λ R n. c.in-Ok.ensures.told R (subst (λ (t : Table). IsNumber t.known.items (record { 0 = c.loop-k.k }) R) (sym c.loop-k.invariant.2) n)) c.in_ok-push-in-Ok.ensures.items,
+      (λ R n. c.in-Ok.ensures.told R (subst (λ (t : Table). IsNumber t.known.items (record { 0 = c.loop-k.k }) R) (sym c.loop-k.invariant.2) n)) c.in-Ok.ensures.placed c.in_ok-push-in-Ok.ensures.items,
   ap length c.in_ok-push-in-Ok.ensures.items ∙ (length-append c.loop-k.rows.items (c.in-Ok.row ∷ []) ∙ ap (λ n. n + 1) c.loop-k.invariant.1),
   c.in-Ok.ensures.kept ∙ c.loop-k.invariant.2,
   keeps_more c.loop-k.invariant.3 c.in-Ok.ensures.keeps,

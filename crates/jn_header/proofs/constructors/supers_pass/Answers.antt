@@ -1,5 +1,4 @@
 use Rattle.std.proofs.Common.{rules, refl, ◌∷◌, option_copied}
-use Rattle.jn_base.specs.Paths.{Path}
 use Rattle.jn_base.specs.Supers.{Sup}
 use Rattle.jn_header.specs.Constructors.{constructor_signature, PassesAt}
 use Rattle.jn_header.proofs.Constructs.{fails_at}

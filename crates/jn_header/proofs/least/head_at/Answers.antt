@@ -7,5 +7,4 @@ returns-in-None c = λ p known R are n. no_row p known c.args.rows.now are c.arg
 
 pub returns-in-Some : goal.returns-in-Some
 returns-in-Some c = λ p known R are n.
-    head_told p known c.args.rows.now are c.args.id R n c.args.name c.in-Some.row.now c.deref.result.now (sym c.in-Some.ensures) c.deref.ensures.value (option_copied c.find_head.result)
-    c.find_head.ensures
+    head_told p known c.args.rows.now are c.args.id R n c.args.name c.in-Some.row.now (sym c.in-Some.ensures) (option_copied c.find_head.result) c.find_head.ensures

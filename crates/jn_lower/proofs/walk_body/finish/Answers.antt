@@ -1,4 +1,4 @@
-use Rattle.std.proofs.Common.{ℕ, suc, sym, ap, ◌∙◌}
+use Rattle.std.proofs.Common.{ℕ, suc, ◌≤◌, sym, ap, ◌∙◌, subst}
 use Rattle.std.specs.Prelude.{take}
 use Rattle.jn_lower.proofs.NextLocals.{if_ok}
 use Rattle.jn_lower.proofs.Forming.{code_formed}
@@ -10,6 +10,7 @@ returns-in-Some-clause-finished c =
       params = made.is.params ∙ ap (λ (k : ℕ). take k c.args.out.locals.kinds) (c.in-Some.ensures ∙ ap suc c.len.ensures);
       locals = made.is.locals;
       scratch = made.formed.locals.scratch;
+      few = subst (λ (k : ℕ). k ≤ 16) (c.in-Some.ensures ∙ ap suc c.len.ensures) made.formed.locals.few;
       result = made.is.result ∙ c.written_result.ensures;
       instrs = made.is.instrs;
     }) c.finish_with.ensures

@@ -11,6 +11,7 @@ returns c =
     let own = c.in_ok-own.ensures in
     on_ok c.stored.result (λ h. record {
       number = sym c.if-own-q.false ∙ own.number;
+      few = c.ranges.q.fits;
       instrs = h.instrs ∙ ap (λ (l : List Instr). l ++ stored c.args.fixed c.is_reference.result c.in_ok-own.own) own.declares.instrs
           ∙ ap (λ (b : Bool). c.args.w.now.out.instrs ++ stored c.args.fixed b c.in_ok-own.own) c.is_reference.ensures
           ∙ ap (λ (q : ℕ). c.args.w.now.out.instrs ++ stored c.args.fixed (is_reference c.args.ty.now) q) own.number;

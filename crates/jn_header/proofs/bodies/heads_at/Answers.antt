@@ -1,6 +1,6 @@
 use Rattle.std.proofs.Common.{None}
 use Rattle.jn_header.proofs.BodyRows.{no_heads, decl_here, declared_in, heads_here}
-use Rattle.jn_header.proofs.bodies.head_row.Goals as goal
+use Rattle.jn_header.proofs.bodies.heads_at.Goals as goal
 
 pub returns-in-None-clause-told : goal.returns-in-None-clause-told
 returns-in-None-clause-told c = λ R n.
@@ -15,4 +15,4 @@ heads_of-requires-clause-declared c =
 pub returns-clause-told : goal.returns-clause-told
 returns-clause-told c =
     heads_here c.args.p.now c.args.t.now c.requires.judged.ready.filled c.requires.judged.once c.args.id c.row.result.now c.row.ensures c.in_ok-class.class c.in_ok-class.ensures c.in-Some.decl.now
-    c.in-Some.ensures _ c.as_slice.ensures c.in-Ok.heads.items c.in-Ok.ensures.told
+    c.in-Some.ensures _ c.as_slice.ensures _ c.heads_of.ensures.told
