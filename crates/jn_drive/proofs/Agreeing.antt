@@ -17,7 +17,7 @@ use Rattle.jn_agree.specs.Agrees.{AgreesAt, InRange, SameEnd}
 use Rattle.jn_link.specs.Joined.{IsImageOf}
 use Rattle.jn_drive.specs.declared.status.Status.{Status}
 use Rattle.jn_drive.specs.declared.status.Status.TheVariants as statuses
-use Rattle.jn_drive.specs.Reply.{Reply, RunReply, IsToldAs, TellsEnd, TellsRun}
+use Rattle.jn_drive.specs.Reply.{Reply, RunReply, IsToldAs, IsRightImage, TellsEnd, TellsRun}
 
 -- ---- how ends are told
 
@@ -65,7 +65,11 @@ stays i a d m n o printed le same =
 
 -- ---- the reply
 
-module _ (p : Program) (i : Image) (is : IsImageOf p i) (a d n : ℕ) (range : InRange a d) (reply : Reply)
+-- what `image` gives is a right image
+pub right_image : (p : Program) (i : Image) → IsImageOf p i → IsRightImage p i
+right_image p i is = record { valid = is.valid; rows = is.rows; agrees = is.agrees }
+
+module _ (p : Program) (i : Image) (is : IsRightImage p i) (a d n : ℕ) (range : InRange a d) (reply : Reply)
     (run : RunReply (mach i a d n) reply) where
   at : AgreesAt i p a d
   at = is.agrees a d range
@@ -104,6 +108,6 @@ module _ (p : Program) (i : Image) (is : IsImageOf p i) (a d n : ℕ) (range : I
     ended = ended_within;
     goes_on = not_ended;
     image = i;
-    right = record { valid = is.valid; rows = is.rows; agrees = is.agrees };
+    right = is;
     steps = run;
   }

@@ -24,12 +24,12 @@ use Rattle.jn_drive.specs.declared.halt.Halt.TheVariants as halt
 use Rattle.jn_drive.specs.Words.{Job}
 use Rattle.jn_drive.specs.Reading.{ReadsFile, most_read}
 use Rattle.jn_drive.specs.declared.words.JobKind.{JobKind}
-use Rattle.jn_drive.specs.declared.words.JobKind.TheVariants as kinds
 use Rattle.jn_drive.specs.Reply.{IsRefusalLine}
 use Rattle.jn_drive.specs.Seen.{IsLeft}
 use Rattle.jn_drive.specs.Answer.{IsRefusedBy, too_long_refusal}
 use Rattle.jn_drive.specs.Exec.{HasRead}
-use Rattle.jn_drive.specs.Built.{IsTextHalt, IsTreeHalt, Builds, Makes}
+use Rattle.jn_drive.specs.Built.{IsTextHalt, IsTreeHalt, Builds, ReadsTo, Makes, Writes}
+use Rattle.jn_code.specs.Spells.{Spells}
 use Rattle.jn_drive.proofs.Judging.{short_or_long, long_only, front_long}
 
 -- A halt that is handed on.
@@ -115,10 +115,10 @@ pub record IsFrontOf (job : Job) (files : Option Files) (rest' : Option (List �
   pub read : HasRead job files rest' f f' bytes
   pub is : front ≡ take 1048577 bytes
 
-left_of : (files : Option Files) (bytes : List ℕ) (rest' : Option (List ℕ)) (kind : JobKind) → kind ≡ kinds.Run → IsLeft files (drop 1048577 bytes) rest' → IsLeft files (drop (most_read kind) bytes) rest'
-left_of files bytes rest' kind is left = subst (λ (k : ℕ). IsLeft files (drop k bytes) rest') (sym (ap most_read is)) left
+left_of : (files : Option Files) (bytes : List ℕ) (rest' : Option (List ℕ)) (kind : JobKind) → most_read kind ≡ 1048577 → IsLeft files (drop 1048577 bytes) rest' → IsLeft files (drop (most_read kind) bytes) rest'
+left_of files bytes rest' kind is left = subst (λ (k : ℕ). IsLeft files (drop k bytes) rest') (sym is) left
 
-pub front_of : (job : Job) (files : Option Files) (rest' : Option (List ℕ)) (f f' : ℕ) (front : List ℕ) → job.kind ≡ kinds.Run → ReadsFile 1048577 files job.file rest' f f' (Ok front) → IsFrontOf job files rest' f f' front
+pub front_of : (job : Job) (files : Option Files) (rest' : Option (List ℕ)) (f f' : ℕ) (front : List ℕ) → most_read job.kind ≡ 1048577 → ReadsFile 1048577 files job.file rest' f f' (Ok front) → IsFrontOf job files rest' f f' front
 front_of job files rest' f f' front is (same, (bytes, source, part, left)) = record {
   bytes = bytes;
   read = record { source = source; reads = same; left = left_of files bytes rest' job.kind is left };
@@ -141,8 +141,22 @@ machine_makes job files rest' f f' front i m x (p, text, passes, of) same = (
   },
 )
 
-pub halt_makes : (job : Job) (files : Option Files) (rest' : Option (List ℕ)) (f f' : ℕ) (front : List ℕ) (h : Halt) → IsFrontOf job files rest' f f' front → Builds front (Err h) → Makes job files rest' f f' (Err h)
-halt_makes job files rest' f f' front (halt.Refused line) x by = (x.bytes, x.read, line_of_front x.bytes front line x.is by)
-halt_makes job files rest' f f' front (halt.BadImage line) x by = absurd by
-halt_makes job files rest' f f' front halt.Unread x by = absurd by
-halt_makes job files rest' f f' front halt.Memory x by = x.read.reads
+pub file_written : (job : Job) (files : Option Files) (rest' : Option (List ℕ)) (f f' : ℕ) (front : List ℕ) (i : Image) (saved : List ℕ) → IsFrontOf job files rest' f f' front → Builds front (Ok i) → Spells i saved → Writes job files rest' f f' (Ok saved)
+file_written job files rest' f f' front i saved x (p, text, passes, of) spells = (
+  x.bytes,
+  x.read,
+  record {
+    program = p;
+    text = text_of_front p x.bytes front x.is text;
+    passes = passes;
+    image = i;
+    right = record { valid = of.valid; rows = of.rows; agrees = of.agrees };
+    spells = spells;
+  },
+)
+
+pub halt_reads : {T : Type 0} (P : List ℕ → T → Type 0) (job : Job) (files : Option Files) (rest' : Option (List ℕ)) (f f' : ℕ) (front : List ℕ) (h : Halt) → IsFrontOf job files rest' f f' front → Builds front (Err h) → ReadsTo P job files rest' f f' (Err h)
+halt_reads P job files rest' f f' front (halt.Refused line) x by = (x.bytes, x.read, line_of_front x.bytes front line x.is by)
+halt_reads P job files rest' f f' front (halt.BadImage line) x by = absurd by
+halt_reads P job files rest' f f' front halt.Unread x by = absurd by
+halt_reads P job files rest' f f' front halt.Memory x by = x.read.reads

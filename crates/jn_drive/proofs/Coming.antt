@@ -24,7 +24,7 @@ use Rattle.jn_drive.specs.Answer.{Answer, Answers, reply_of}
 use Rattle.jn_drive.specs.Exec.{HasRead, Loads, IsBadImage}
 use Rattle.jn_agree.specs.Agrees.{InRange}
 use Rattle.jn_drive.specs.Built.{Makes, IsMachineOf}
-use Rattle.jn_drive.proofs.Agreeing.{tells_run}
+use Rattle.jn_drive.proofs.Agreeing.{tells_run, right_image}
 use Rattle.jn_drive.proofs.Running.{Comes, ran_out}
 
 -- ---- sources
@@ -147,7 +147,7 @@ told_run : (job : Job) (bytes : List ℕ) (m : MachineState) (a : Reply) → InR
 told_run job bytes m a range of run =
     let bounds : RunReply (mach m.image job.arena job.depth job.steps) a
     = subst (λ (n : ℕ). RunReply (mach m.image n job.depth job.steps) a) of.arena_is (subst (λ (d : ℕ). RunReply (mach m.image m.arena d job.steps) a) of.depth_is run) in
-    SourceRunReply.ran of.program of.text of.passes (tells_run of.program m.image of.image job.arena job.depth job.steps range a bounds)
+    SourceRunReply.ran of.program of.text of.passes (tells_run of.program m.image (right_image of.program m.image of.image) job.arena job.depth job.steps range a bounds)
 
 -- the run of the program
 pub program_runs : (job : Job) (before after : Seen) (m : MachineState) (a : Reply) → job.kind ≡ kinds.Run → InRange job.arena job.depth → Makes job before.store.files after.store.rest before.store.read_faults after.store.read_faults (Ok m)

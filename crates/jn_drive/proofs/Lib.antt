@@ -12,3 +12,4 @@ mod Coming
 mod Ending
 mod OneReply
 mod Ranges
+mod Saving

@@ -39,7 +39,7 @@ use Rattle.jn_drive.specs.Means.{Accepts, Finds, IsUnstuck, OutcomeTold, IsPrint
 use Rattle.jn_drive.proofs.Building.{text_of_front, line_of_front}
 use Rattle.jn_drive.proofs.Judging.{within_limits}
 use Rattle.jn_drive.proofs.OneReply.{no_line}
-use Rattle.jn_drive.proofs.Running.{Comes, ran_out, does, broken_does}
+use Rattle.jn_drive.proofs.Running.{Comes, ran_out, does, broken_does, keeps}
 
 -- ---- the program
 
@@ -215,7 +215,7 @@ module _ (job : Job) (before after : Seen) (is : job.kind ≡ kinds.Mean) where
     pub meaning_does : (s : Status) → MeaningTold p job.arena job.depth job.steps before.out after.out before.err after.err s → after.store.files ≡ before.store.files → after.store.save_faults ≡ before.store.save_faults
         → before.store.read_faults ≤ after.store.read_faults → Does job before after s
     meaning_does s (MeaningTold.whole a tells del) files saves later =
-        does job before after a s (Comes.to_bytes bytes read.source read.reads read.left (mean_reply bytes a (SourceMeanReply.meant p text passes tells))) del files saves later
-    meaning_does s (MeaningTold.broken output first cut) files saves later = broken_does job before after output s (begun output first) cut files saves later
+        does job before after a s (Comes.to_bytes bytes read.source read.reads read.left (mean_reply bytes a (SourceMeanReply.meant p text passes tells))) del (λ b. absurd (keeps job.kind kinds.Mean is tt b)) files saves later
+    meaning_does s (MeaningTold.broken output first cut) files saves later = broken_does job before after output s (begun output first) cut (λ b. absurd (keeps job.kind kinds.Mean is tt b)) files saves later
     meaning_does s (MeaningTold.no_memory output first del) files saves later =
-        does job before after (out_of_memory output) s (Comes.no_memory read.reads (record { output = output; begun = begun output first; is = refl })) del files saves later
+        does job before after (out_of_memory output) s (Comes.no_memory read.reads (record { output = output; begun = begun output first; is = refl })) del (λ b. absurd (keeps job.kind kinds.Mean is tt b)) files saves later

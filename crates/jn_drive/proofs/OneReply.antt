@@ -22,6 +22,7 @@ use Rattle.jn_code.specs.Machine.{mach}
 use Rattle.jn_exec.specs.Images.{valid_image_of}
 use Rattle.jn_drive.specs.declared.status.Status.{Status}
 use Rattle.jn_drive.specs.declared.words.JobKind.{JobKind}
+use Rattle.jn_drive.specs.declared.words.SourceJob.TheVariants.{Check}
 use Rattle.jn_drive.specs.declared.words.JobKind.TheVariants as kinds
 use Rattle.jn_drive.specs.Words.{Job}
 use Rattle.jn_drive.specs.declared.words.SourceJob.{SourceJob}
@@ -120,6 +121,7 @@ mean_once job bytes a b (SourceMeanReply.meant p text passes tells) (SourceMeanR
 reply_once : (kind : JobKind) (job : Job) (bytes : List ℕ) (a b : Reply) → kind ≢ kinds.Run → ReplyBy kind job bytes a → ReplyBy kind job bytes b → a ≡ b
 reply_once (kinds.OnSource kind) job bytes a b not x y = source_once kind bytes a b (one_verdict bytes) x y
 reply_once kinds.Run job bytes a b not x y = absurd (not refl)
+reply_once kinds.Build job bytes a b not x y = source_once Check bytes a b (one_verdict bytes) x y
 reply_once kinds.Mean job bytes a b not x y = mean_once job bytes a b x y
 reply_once kinds.Exec job bytes a b not x y = image_once job (valid_image_of bytes) a b x y
 

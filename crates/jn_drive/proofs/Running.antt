@@ -15,6 +15,8 @@ use Rattle.jn_drive.specs.declared.status.Status.TheVariants as statuses
 use Rattle.jn_drive.specs.declared.words.JobKind.{JobKind}
 use Rattle.jn_drive.specs.declared.words.JobKind.TheVariants as kinds
 use Rattle.jn_drive.specs.declared.words.SourceJob.{SourceJob}
+use Rattle.jn_drive.specs.declared.words.SourceJob.TheVariants as sources
+use Rattle.jn_drive.specs.Saved.{StoresBy, IsUnsaved}
 use Rattle.jn_drive.specs.Words.{Job}
 use Rattle.jn_drive.specs.Reading.{most_read}
 use Rattle.jn_drive.specs.Reply.{Reply, JobReply, ReplyBy, ImageReply, IsToldAs, SourceReply, SourceRunReply, TreeReply, SourceMeanReply, IsMeantAs, output_reply, unread_reply, memory_reply, out_of_memory}
@@ -83,6 +85,7 @@ run_status job bytes r (SourceRunReply.ran p is passes tells) = end_status _ r.s
 reply_status : (kind : JobKind) (job : Job) (bytes : List ℕ) (r : Reply) → ReplyBy kind job bytes r → IsOfReply r.status
 reply_status (kinds.OnSource kind) job bytes r is = source_status kind bytes r is
 reply_status kinds.Run job bytes r is = run_status job bytes r is
+reply_status kinds.Build job bytes r is = source_status sources.Check bytes r is
 reply_status kinds.Mean job bytes r is = mean_status job bytes r is
 reply_status kinds.Exec job bytes r is = image_status job (valid_image_of bytes) r is
 
@@ -219,39 +222,82 @@ err_later before after r s (inl g) = let same = g.line.faults in omega arith
 err_later before after r s (inr (IsCut.at_output is rose some none)) = let same : after.err.faults ≡ before.err.faults = ap (λ (k : SinkSeen). k.faults) none in omega arith
 err_later before after r s (inr (IsCut.at_line is all rose some)) = some.later
 
-pub does : (job : Job) (before after : Seen) (a : Reply) (s : Status) → Comes job before after a → Del a before after s → after.store.files ≡ before.store.files → after.store.save_faults ≡ before.store.save_faults
+-- ---- the files
+
+-- the jobs that change none
+abbrev pub SavesNothing : JobKind → Type 0
+SavesNothing kinds.Build = ⊥
+SavesNothing other = Unit {0}
+
+pub keeps : (kind known : JobKind) → kind ≡ known → SavesNothing known → kind ≡ kinds.Build → ⊥
+keeps kind known is nothing b = subst SavesNothing (sym is ∙ b) nothing
+
+-- Nothing was saved, and `build` isn't done.
+kept_by : (kind : JobKind) (job : Job) (before after : Seen) (s : Status) → (kind ≡ kinds.Build → s ≢ statuses.Done) → after.store.files ≡ before.store.files → after.store.save_faults ≡ before.store.save_faults → StoresBy kind job before after s
+kept_by (kinds.OnSource kind) job before after s undone files saves = record { files = files; saves = saves }
+kept_by kinds.Run job before after s undone files saves = record { files = files; saves = saves }
+kept_by kinds.Mean job before after s undone files saves = record { files = files; saves = saves }
+kept_by kinds.Exec job before after s undone files saves = record { files = files; saves = saves }
+kept_by kinds.Build job before after s undone files saves = record { done = λ e. absurd (undone refl e); kept = λ e. files; saves = λ e. saves }
+
+-- ---- what the job does
+
+pub stores_does : (job : Job) (before after : Seen) (a : Reply) (s : Status) → Comes job before after a → Del a before after s → StoresBy job.kind job before after s → before.store.save_faults ≤ after.store.save_faults
     → before.store.read_faults ≤ after.store.read_faults → Does job before after s
-does job before after a s comes del files saves later = record {
+stores_does job before after a s comes del stores saves_later later = record {
   replied = ended_replied job before after a s comes del;
   read_fault = ended_unread job before after a s comes del;
-  write_fault = ended_cut job before after a s comes del;
+  write_fault = λ e. inl (ended_cut job before after a s comes del e);
   memory = ended_memory job before after a s comes del;
   usage = not_usage job before after a s comes del;
   exactly = λ told there quiet. some_quietly job (JobReply job told) before after a s del quiet (settled job before after a comes told there quiet);
   missing = λ lacks quiet. quietly before after a unread_reply s del quiet (lacking job before after a comes lacks);
-  files = files;
-  saves = saves;
+  stores = stores;
+  saves_later = saves_later;
   reads_later = later;
   out_later = out_later before after a s del;
   err_later = err_later before after a s del;
 }
 
+pub does : (job : Job) (before after : Seen) (a : Reply) (s : Status) → Comes job before after a → Del a before after s → (job.kind ≡ kinds.Build → s ≢ statuses.Done)
+    → after.store.files ≡ before.store.files → after.store.save_faults ≡ before.store.save_faults → before.store.read_faults ≤ after.store.read_faults → Does job before after s
+does job before after a s comes del undone files saves later =
+    stores_does job before after a s comes del (kept_by job.kind job before after s undone files saves) (omega (arith, saves)) later
+
 -- `out` failed behind what was begun.
-pub broken_does : (job : Job) (before after : Seen) (output : List ℕ) (s : Status) → IsBegun job before after output → Cuts (output_reply output) before after s → after.store.files ≡ before.store.files → after.store.save_faults ≡ before.store.save_faults
-    → before.store.read_faults ≤ after.store.read_faults → Does job before after s
-broken_does job before after output s begun cut files saves later =
+pub broken_does : (job : Job) (before after : Seen) (output : List ℕ) (s : Status) → IsBegun job before after output → Cuts (output_reply output) before after s → (job.kind ≡ kinds.Build → s ≢ statuses.Done)
+    → after.store.files ≡ before.store.files → after.store.save_faults ≡ before.store.save_faults → before.store.read_faults ≤ after.store.read_faults → Does job before after s
+broken_does job before after output s begun cut undone files saves later =
     let is : s ≡ statuses.WriteFault = cut_is before after (output_reply output) s cut in
     record {
       replied = λ of. absurd (subst IsOfReply is of);
       read_fault = λ e. absurd (cc);
-      write_fault = λ e. (output_reply output, MayReply.begun output begun refl, cut);
+      write_fault = λ e. inl (output_reply output, MayReply.begun output begun refl, cut);
       memory = λ e. absurd (cc);
       usage = λ e. absurd (cc);
       exactly = λ told there quiet. not_cut before after (output_reply output) s cut quiet;
       missing = λ lacks quiet. not_cut before after (output_reply output) s cut quiet;
-      files = files;
-      saves = saves;
+      stores = kept_by job.kind job before after s undone files saves;
+      saves_later = omega (arith, saves);
       reads_later = later;
       out_later = out_later before after (output_reply output) s (inr cut);
       err_later = err_later before after (output_reply output) s (inr cut);
     }
+
+-- `build` couldn't save.
+pub unsaved_does : (job : Job) (before after : Seen) (s : Status) → IsUnsaved job before after → s ≡ statuses.WriteFault → after.store.files ≡ before.store.files → before.store.save_faults ≤ after.store.save_faults
+    → before.store.read_faults ≤ after.store.read_faults → Does job before after s
+unsaved_does job before after s unsaved is files saves_later later = record {
+  replied = λ of. absurd (subst IsOfReply is of);
+  read_fault = λ e. absurd (cc);
+  write_fault = λ e. inr unsaved;
+  memory = λ e. absurd (cc);
+  usage = λ e. absurd (cc);
+  exactly = λ told there quiet. absurd (quiet.saves unsaved.rose);
+  missing = λ lacks quiet. absurd (quiet.saves unsaved.rose);
+  stores = subst (λ (k : JobKind). StoresBy k job before after s) (sym unsaved.kind) (record { done = λ e. absurd (cc); kept = λ e. files; saves = λ e. absurd (e is) });
+  saves_later = saves_later;
+  reads_later = later;
+  out_later = let same : after.out.faults ≡ before.out.faults = ap (λ (k : SinkSeen). k.faults) unsaved.out in omega arith;
+  err_later = let same : after.err.faults ≡ before.err.faults = ap (λ (k : SinkSeen). k.faults) unsaved.err in omega arith;
+}

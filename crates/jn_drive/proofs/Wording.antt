@@ -1,5 +1,5 @@
 -- The job of the words by their parser, and what is done where they are none that there is.
-use Rattle.std.proofs.Common.{◌≡◌, ◌∙◌, ℕ, inl, inr, List, sym, ap, append-nil, refl, Some, None, arith}
+use Rattle.std.proofs.Common.{◌≡◌, ◌≢◌, ◌∙◌, ℕ, inl, inr, List, sym, ap, append-nil, refl, Some, None, arith}
 use Rattle.std.specs.Prelude.{option_map, option_and_then}
 use Rattle.std.specs.declared.option.Option.{Option}
 use Rattle.std.specs.Prelude.{[]}
@@ -60,8 +60,12 @@ memory_told before err s (IsPut.cut is rose some) = record {
 
 -- ---- what the words come to
 
+memory_undone : (before : Seen) (err : SinkSeen) (s : Status) → IsPut statuses.Memory memory_reply.line before.err err s → s ≢ statuses.Done
+memory_undone before err s (IsPut.whole is all) e = absurd (cc)
+memory_undone before err s (IsPut.cut is rose some) e = absurd (cc)
+
 -- There was no memory to read the words.
 pub words_unread : (job : Option Job) (before : Seen) (err : SinkSeen) (s : Status) → IsPut statuses.Memory memory_reply.line before.err err s → DoesJob job before (with_err before err) s
 words_unread None before err s put = memory_told before err s put
 words_unread (Some job) before err s put =
-    does job before (with_err before err) memory_reply s (Comes.no_memory refl (ran_out job before (with_err before err))) (line_put statuses.Memory memory_reply.line before err s put) refl refl (omega arith)
+    does job before (with_err before err) memory_reply s (Comes.no_memory refl (ran_out job before (with_err before err))) (line_put statuses.Memory memory_reply.line before err s put) (λ b. memory_undone before err s put) refl refl (omega arith)

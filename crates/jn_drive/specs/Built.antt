@@ -17,6 +17,7 @@ use Rattle.jn_drive.specs.declared.halt.Halt.{Halt}
 use Rattle.jn_drive.specs.declared.halt.Halt.TheVariants as halt
 use Rattle.jn_drive.specs.Words.{Job}
 use Rattle.jn_drive.specs.Reply.{IsRefusalLine}
+use Rattle.jn_drive.specs.Saved.{IsImageFile}
 use Rattle.jn_drive.specs.Exec.{HasRead}
 
 -- The line of the refusal of text or words, or memory ran out.
@@ -58,13 +59,23 @@ pub record IsMachineOf (bytes : List ℕ) (arena depth : ℕ) (m : MachineState)
   pub depth_is : m.depth ≡ depth
   pub fresh : m.fresh ≡ true
 
--- The machine for the program of the file's source, or the line of its refusal; or the file couldn't be read, or memory
--- ran out.
-abbrev pub Makes : Job → Option Files → Option (List ℕ) → ℕ → ℕ → Result MachineState Halt → Type 0
-Makes job files rest' faults faults' (Ok m) =
-    (bytes : List ℕ) × HasRead job files rest' faults faults' bytes × IsMachineOf bytes job.arena job.depth m
-Makes job files rest' faults faults' (Err (halt.Refused line)) =
+-- What the bytes of the file come to: something of which P holds, or the line of their refusal; or the file couldn't be
+-- read, or memory ran out.
+abbrev pub ReadsTo : {T : Type 0} → (List ℕ → T → Type 0) → Job → Option Files → Option (List ℕ) → ℕ → ℕ → Result T Halt
+    → Type 0
+ReadsTo P job files rest' faults faults' (Ok x) =
+    (bytes : List ℕ) × HasRead job files rest' faults faults' bytes × P bytes x
+ReadsTo P job files rest' faults faults' (Err (halt.Refused line)) =
     (bytes : List ℕ) × HasRead job files rest' faults faults' bytes × IsRefusalLine bytes line
-Makes job files rest' faults faults' (Err halt.Unread) = Rose faults faults' ⊎ Lacks files job.file
-Makes job files rest' faults faults' (Err halt.Memory) = faults' ≡ faults
-Makes job files rest' faults faults' (Err (halt.BadImage line)) = ⊥
+ReadsTo P job files rest' faults faults' (Err halt.Unread) = Rose faults faults' ⊎ Lacks files job.file
+ReadsTo P job files rest' faults faults' (Err halt.Memory) = faults' ≡ faults
+ReadsTo P job files rest' faults faults' (Err (halt.BadImage line)) = ⊥
+
+-- the machine for the program of the file's source
+abbrev pub Makes : Job → Option Files → Option (List ℕ) → ℕ → ℕ → Result MachineState Halt → Type 0
+Makes job files rest' faults faults' result =
+    ReadsTo (λ bytes m. IsMachineOf bytes job.arena job.depth m) job files rest' faults faults' result
+
+-- the bytes that spell its image
+abbrev pub Writes : Job → Option Files → Option (List ℕ) → ℕ → ℕ → Result (List ℕ) Halt → Type 0
+Writes job files rest' faults faults' result = ReadsTo IsImageFile job files rest' faults faults' result

@@ -12,6 +12,7 @@ use Rattle.jn_drive.specs.Words.{Job}
 use Rattle.jn_drive.specs.Reply.{Reply, JobReply, usage_reply, unread_reply, output_reply, memory_reply, out_of_memory}
 use Rattle.jn_drive.specs.Seen.{Seen, IsSource, IsToldSource, IsLeft, IsQuiet, IsGiven, IsCut}
 use Rattle.jn_drive.specs.Reading.{most_read}
+use Rattle.jn_drive.specs.Saved.{StoresBy, IsUnsaved}
 
 -- The reply was given whole, in a call from `before` to `after`.
 abbrev pub Gives : Reply → Seen → Seen → Status → Type 0
@@ -89,8 +90,9 @@ pub record Does (job : Job) (before after : Seen) (s : Status) : Type 0 where
   pub replied : IsOfReply s → (reply : Reply) × Replies job before after reply × Gives reply before after s
   -- ReadFault: only where a read failed or the file isn't there. `out` took nothing.
   pub read_fault : s ≡ statuses.ReadFault → IsUnread job.file before after × Gives unread_reply before after s
-  -- WriteFault: only where an output failed. Both took a prefix of what may be replied.
-  pub write_fault : s ≡ statuses.WriteFault → (reply : Reply) × MayReply job before after reply × Cuts reply before after s
+  -- WriteFault: only where an output failed, and both took a prefix of what may be replied; or, in `build`, the save failed.
+  pub write_fault : s ≡ statuses.WriteFault
+      → ((reply : Reply) × MayReply job before after reply × Cuts reply before after s) ⊎ IsUnsaved job before after
   -- Memory: `out` took nothing, or in `mean` a first part of the reply, and no count rose.
   pub memory : s ≡ statuses.Memory → ((reply : Reply) × RunsOut job before after reply × Gives reply before after s)
       × (after.store.read_faults ≡ before.store.read_faults)
@@ -102,10 +104,10 @@ pub record Does (job : Job) (before after : Seen) (s : Status) : Type 0 where
       → GivesSome job (JobReply job bytes) before after s
   -- Where the told files lack the file and no count rises, it is ReadFault.
   pub missing : Lacks before.store.files job.file → IsQuiet before after → GivesUnlessMemory unread_reply before after s
-  -- No file changes, and nothing is saved.
-  pub files : after.store.files ≡ before.store.files
-  pub saves : after.store.save_faults ≡ before.store.save_faults
+  -- `build` saves an image where it is Done, and changes no other file; else, and in each other job, no file changes.
+  pub stores : StoresBy job.kind job before after s
   -- No count falls.
+  pub saves_later : before.store.save_faults ≤ after.store.save_faults
   pub reads_later : before.store.read_faults ≤ after.store.read_faults
   pub out_later : before.out.faults ≤ after.out.faults
   pub err_later : before.err.faults ≤ after.err.faults

@@ -6,6 +6,7 @@ pub mod Job
 pub mod Means
 pub mod Reading
 pub mod Reply
+pub mod Saved
 pub mod Seen
 pub mod Status
 pub mod Verdicts

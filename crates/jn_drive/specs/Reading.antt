@@ -15,6 +15,7 @@ abbrev pub most_read : JobKind → ℕ
 most_read (kinds.OnSource kind) = 1048577
 most_read kinds.Run = 1048577
 most_read kinds.Mean = 1048577
+most_read kinds.Build = 1048577
 most_read kinds.Exec = 134217729
 
 -- reading failed, or memory ran out

@@ -177,10 +177,11 @@ pub data SourceMeanReply (job : Job) (bytes : List ℕ) (reply : Reply) : Type 0
 
 -- ---- replies
 
--- The reply of a job to the bytes of its file.
+-- The reply of a job to the bytes of its file. `build` replies as `check` does; what it saves is told of the files.
 abbrev pub ReplyBy : JobKind → Job → List ℕ → Reply → Type 0
 ReplyBy (kinds.OnSource kind) job bytes reply = SourceReply kind bytes reply
 ReplyBy kinds.Run job bytes reply = SourceRunReply job bytes reply
+ReplyBy kinds.Build job bytes reply = SourceReply sources.Check bytes reply
 ReplyBy kinds.Mean job bytes reply = SourceMeanReply job bytes reply
 ReplyBy kinds.Exec job bytes reply = ImageReply job (valid_image_of bytes) reply
 

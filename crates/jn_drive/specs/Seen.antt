@@ -40,9 +40,10 @@ abbrev pub IsLeft : Option Files → List ℕ → Option (List ℕ) → Type 0
 IsLeft None left rest = ⊤
 IsLeft (Some files) left rest = rest ≡ Some left
 
--- No count rose in the call. (Nothing is saved in it.)
+-- No count rose in the call.
 pub record IsQuiet (before after : Seen) : Type 0 where
   pub reads : Rose before.store.read_faults after.store.read_faults → ⊥
+  pub saves : Rose before.store.save_faults after.store.save_faults → ⊥
   pub out : Rose before.out.faults after.out.faults → ⊥
   pub err : Rose before.err.faults after.err.faults → ⊥
 

@@ -4,11 +4,12 @@ use Rattle.jn_base.specs.declared.tree.Program.{Program}
 use Rattle.jn_base.specs.declared.refusal.Refusal.{Refusal}
 use Rattle.jn_rules.specs.Verdict.{IsAccepted, Verdict}
 use Rattle.jn_base.specs.Spelling.{IsTextOf}
-use Rattle.jn_agree.specs.Agrees.{NeverStuck}
+use Rattle.jn_agree.specs.Agrees.{InRange, NeverStuck}
 use Rattle.jn_words.specs.Line.{line_of}
 use Rattle.jn_drive.specs.declared.words.JobKind.TheVariants as kinds
 use Rattle.jn_drive.specs.declared.words.SourceJob.TheVariants as sources
 use Rattle.jn_drive.specs.Words.{Job}
+use Rattle.jn_drive.specs.Saved.{IsImageFile}
 use Rattle.jn_drive.specs.Reply.{Reply, JobReply, TellsRun, output_reply, refused_reply}
 
 -- The source is accepted, and nothing is put; or it is refused, and the reply is the line of the refusal.
@@ -34,3 +35,17 @@ abbrev pub RunsTellMeanings : Type 0
 RunsTellMeanings =
     (job : Job) (bytes : List ℕ) (reply : Reply) → job.kind ≡ kinds.Run → JobReply job bytes reply
     → MeaningReply job bytes reply
+
+-- The source is accepted, the meaning of its program is never stuck, and the reply tells its run.
+pub record TellsAccepted (job : Job) (bytes : List ℕ) (reply : Reply) : Type 0 where
+  pub accepted : IsAccepted bytes
+  pub program : Program
+  pub text : IsTextOf program bytes
+  pub never : NeverStuck program
+  pub tells : TellsRun program job.arena job.depth job.steps reply
+
+-- What `exec` replies to bytes that `build` saved tells the run of the source's program, with the bounds of `exec`.
+abbrev pub ExecsTellMeanings : Type 0
+ExecsTellMeanings =
+    (job : Job) (bytes saved : List ℕ) (reply : Reply) → job.kind ≡ kinds.Exec → InRange job.arena job.depth
+    → IsImageFile bytes saved → JobReply job saved reply → TellsAccepted job bytes reply

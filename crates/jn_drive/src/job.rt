@@ -1,12 +1,13 @@
-ghost use Rattle.std.specs.Prelude.{◌≡◌, ◌≤◌};
+ghost use Rattle.std.specs.Prelude.{◌≡◌, ◌≤◌, IsSome};
 ghost use Rattle.jn_base.specs.WithinLimits.{IsWithinLimits};
 ghost use Rattle.jn_agree.specs.Agrees.{InRange};
 ghost use Rattle.jn_drive.specs.declared.words.SourceJob.TheVariants.{Check};
-ghost use Rattle.jn_drive.specs.declared.words.JobKind.TheVariants.{OnSource};
+ghost use Rattle.jn_drive.specs.declared.words.JobKind.TheVariants.{OnSource, Build};
 ghost use Rattle.jn_drive.specs.Words.{named};
 ghost use Rattle.jn_drive.specs.Answer.{AnswersTree, Judges, Answers};
 ghost use Rattle.jn_drive.specs.Job.{Does};
 
+use crate::build::build;
 use crate::exec::exec;
 use crate::halt::Halt;
 use crate::mean::mean;
@@ -106,7 +107,7 @@ fn on_source<S: Store, O: Sink, E: Sink>(
     deliver(answer, out, err)
 }
 
-/// A job on a file. Its arena and its depth are in their ranges.
+/// A job on a file. Its arena and its depth are in their ranges, and `build` has the name of the file that it makes.
 pub fn do_job<S: Store, O: Sink, E: Sink>(
     alloc: Global,
     job: &Named,
@@ -114,7 +115,8 @@ pub fn do_job<S: Store, O: Sink, E: Sink>(
     out: &mut O,
     err: &mut E,
 ) -> Status
-    requires { InRange (named job.now).arena (named job.now).depth }
+    requires bounds { InRange (named job.now).arena (named job.now).depth }
+    requires out { (named job.now).kind ≡ Build → IsSome (named job.now).out }
     ensures { Does (named job.now)
         (record {
           store = record {
@@ -141,6 +143,7 @@ pub fn do_job<S: Store, O: Sink, E: Sink>(
     match job.kind {
         JobKind::OnSource(kind) => on_source(alloc, kind, job, store, out, err),
         JobKind::Run => run(alloc, job, store, out, err),
+        JobKind::Build => build(alloc, job, store, out, err),
         JobKind::Mean => mean(alloc, job, store, out, err),
         JobKind::Exec => exec(alloc, job, store, out, err),
     }

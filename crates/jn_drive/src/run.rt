@@ -45,7 +45,7 @@ fn image_of(alloc: Global, program: &Program, world: &World) -> Result<Image, Al
 /// The image of the program that the bytes of a source spell.
 ///
 /// It is valid, so only want of memory can keep `verify` from saying so.
-fn built(alloc: Global, source: &[u8]) -> Result<Good, Halt>
+pub fn built(alloc: Global, source: &[u8]) -> Result<Good, Halt>
     ensures { Builds source.now result }
 {
     let program = parsed(alloc, source)?;

@@ -1,5 +1,6 @@
-ghost use Rattle.std.specs.Prelude.{◌≡◌, IfErr, IfOk, None, Some, map, string_bytes};
+ghost use Rattle.std.specs.Prelude.{◌≡◌, IfErr, IfOk, IsSome, None, Some, map, string_bytes};
 ghost use Rattle.jn_agree.specs.Agrees.{InRange};
+ghost use Rattle.jn_drive.specs.declared.words.JobKind.TheVariants.{Build};
 ghost use Rattle.jn_drive.specs.Words.{job_of, kind_here, named};
 
 use jn_jobs::{JobWords, WordsFault, job};
@@ -23,6 +24,8 @@ pub enum JobKind {
     Run,
     /// Runs the meaning of a source.
     Mean,
+    /// Saves the image of a program.
+    Build,
     /// Runs an image.
     Exec,
 }
@@ -40,6 +43,8 @@ pub fn job_in(alloc: Global, words: &[String]) -> Result<Named, WordsFault>
     ensures ok { IfOk result (λ n. job_of (map string_bytes words.now) ≡ Some (named n)) }
     // Its bounds are in their ranges.
     ensures range { IfOk result (λ n. InRange (named n).arena (named n).depth) }
+    // `build` has the name of the file that it makes.
+    ensures out { IfOk result (λ n. (named n).kind ≡ Build → IsSome (named n).out) }
     ensures usage { IfErr result (λ e. e ≡ WordsFault.Usage → job_of (map string_bytes words.now) ≡ None) }
 {
     let words = job(alloc, words)?;
@@ -58,6 +63,7 @@ fn kind_here(kind: jn_jobs::JobKind) -> Option<JobKind>
         jn_jobs::JobKind::Run => Some(JobKind::Run),
         jn_jobs::JobKind::Check => Some(JobKind::OnSource(SourceJob::Check)),
         jn_jobs::JobKind::Mean => Some(JobKind::Mean),
+        jn_jobs::JobKind::Build => Some(JobKind::Build),
         jn_jobs::JobKind::Exec => Some(JobKind::Exec),
         _ => None,
     }

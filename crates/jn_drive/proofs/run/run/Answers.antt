@@ -1,11 +1,12 @@
-use Rattle.jn_drive.proofs.Running.{does}
+use Rattle.jn_drive.specs.declared.words.JobKind.TheVariants as kinds
+use Rattle.jn_drive.proofs.Running.{does, keeps}
 use Rattle.jn_drive.proofs.Coming.{nothing_runs, program_runs}
 use Rattle.jn_drive.proofs.run.run.Goals as goal
 
 pub returns-in-Ok : goal.returns-in-Ok
 returns-in-Ok g c =
     let told = c.run_and_tell.ensures in
-    does _ _ _ told.0 _ (program_runs _ _ _ c.in-Ok.machine told.0 c.requires.kind c.requires.bounds c.in-Ok.ensures.makes told.1) told.2 c.in-Ok.ensures.files c.in-Ok.ensures.saves c.in-Ok.ensures.later
+    does _ _ _ told.0 _ (program_runs _ _ _ c.in-Ok.machine told.0 c.requires.kind c.requires.bounds c.in-Ok.ensures.makes told.1) told.2 (λ b. absurd (keeps _ (kinds.Run) c.requires.kind tt b)) c.in-Ok.ensures.files c.in-Ok.ensures.saves c.in-Ok.ensures.later
 
 pub returns-in-Err : goal.returns-in-Err
-returns-in-Err g c = does _ _ _ _ _ (nothing_runs _ _ _ c.in-Err.halt c.requires.kind c.in-Err.ensures.makes) c.deliver.ensures c.in-Err.ensures.files c.in-Err.ensures.saves c.in-Err.ensures.later
+returns-in-Err g c = does _ _ _ _ _ (nothing_runs _ _ _ c.in-Err.halt c.requires.kind c.in-Err.ensures.makes) c.deliver.ensures (λ b. absurd (keeps _ (kinds.Run) c.requires.kind tt b)) c.in-Err.ensures.files c.in-Err.ensures.saves c.in-Err.ensures.later
