@@ -48,7 +48,7 @@ pub class_fits : (s : Scope) (t : Ty) (xs : List ShownAtom) (m : Masks) (ys : Li
 class_fits s t xs m ys e h f =
     subst (TypeFits s) (sym e) (record { atoms = λ c. subst (λ (zs : List ShownAtom). AtomsFit s (map atom_of zs)) h f })
 
-not_class : (s : Scope) (t : Ty) → (IsClassType t → ⊥) → TypeFits s t
+pub not_class : (s : Scope) (t : Ty) → (IsClassType t → ⊥) → TypeFits s t
 not_class s t n = record { atoms = λ c. absurd (n c) }
 
 pub int_fits : (s : Scope) (t : Ty) → t ≡ ty.Int → TypeFits s t

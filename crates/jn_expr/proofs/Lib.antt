@@ -4,6 +4,7 @@ pub mod Fitting
 pub mod Naming
 pub mod Masking
 pub mod Finding
+pub mod Typeds
 pub mod Typing
 pub mod Closing
 pub mod Shared

@@ -9,7 +9,7 @@ ghost use Rattle.jn_rules.specs.Exprs.{field_gives, suffix_typed};
 ghost use Rattle.jn_expr.specs.Envs.{ArePartsOf, IsScope, Stays, parts, here_at};
 ghost use Rattle.jn_expr.specs.Found.{found_of};
 ghost use Rattle.jn_expr.specs.Told.{PlanTold, FaultIs, refusal_at};
-ghost use Rattle.jn_expr.specs.Values.{IsValue, typed_in};
+ghost use Rattle.jn_expr.specs.Values.{IsValue, TypedFits, typed_in};
 
 use crate::env::{Env, Value};
 use crate::fault::refused;
@@ -80,6 +80,7 @@ fn read_field(
 ) -> Result<Value, CheckFault>
     requires scope { IsScope env.old.pool scope.old }
     requires number { InPool env.old.pool x.ty }
+    requires fits { TypedFits (typed_in env.old.pool scope.old x) }
     ensures told { (p : AProgram) → ArePartsOf p (parts env.old) → PlanTold p
         (field_gives f.now (typed_in env.old.pool scope.old x) (found_of found.now))
         (typed_in env.new.pool scope.new) env.old.marks env.new.marks result }
@@ -99,7 +100,7 @@ fn read_field(
         ));
     }
     note_member(alloc, &mut env.marks, &found.class)?;
-    let path = path_of(alloc, &env.pool, scope, x.ty, x.path)?;
+    let path = path_of(&env.pool, scope, x.ty, x.path)?;
     let ty = env.pool.intern(&found.ty)?;
     let put = put_in(alloc, &mut env.pool, scope, ty, &[0], &[path])?;
     plain_of(env, scope, put)
@@ -121,6 +122,7 @@ pub fn field_value(
     requires parts { ArePartsOf p.now (parts env.old) }
     requires scope { IsScope env.old.pool scope.old }
     requires number { InPool env.old.pool x.ty }
+    requires fits { TypedFits (typed_in env.old.pool scope.old x) }
     ensures told { PlanTold p.now (suffix_typed (here_at class.now m.now env.old.vars.list) f.now None at
         (typed_in env.old.pool scope.old x))
         (typed_in env.new.pool scope.new) env.old.marks env.new.marks result }

@@ -6,6 +6,7 @@ use Rattle.jn_expr.specs.Found.{found_of}
 use Rattle.jn_expr.specs.Values.{typed_in}
 use Rattle.jn_expr.proofs.Scopes.{scope_stays}
 use Rattle.jn_expr.proofs.FieldSteps.{masked_is, put_is, field_told}
+use Rattle.jn_expr.proofs.Walking.{values_behind}
 use Rattle.jn_expr.proofs.fields.read_field.Goals as goal
 
 pub put_in-requires-clause-scope : goal.put_in-requires-clause-scope
@@ -33,3 +34,7 @@ returns-clause-told c = λ p h.
 pub returns-clause-stays : goal.returns-clause-stays
 returns-clause-stays c =
     record { same = c.plain_of.ensures.stays.same; pool = keeps_more c.in_ok-ty.ensures.keeps (keeps_more c.in_ok-put.ensures.keeps c.plain_of.ensures.stays.pool) }
+
+pub returns-clause-value : goal.returns-clause-value
+returns-clause-value c =
+    values_behind c.plain_of.new.env.pool c.args.scope.now c.path_of.new.scope c.path_of.new.scope c.plain_of.result c.in_ok-path.ensures.grows c.plain_of.ensures.value

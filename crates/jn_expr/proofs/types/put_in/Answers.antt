@@ -3,6 +3,11 @@ use Rattle.jn_intern.specs.Pools.{scope_in, shown}
 use Rattle.jn_sem.specs.Normal.{swapped}
 use Rattle.jn_sem.proofs.NormalTypes.{type_subst_is}
 use Rattle.jn_expr.proofs.Fitting.{both_ok, put_front}
+use Rattle.std.proofs.Common.{subst}
+use Rattle.std.proofs.lemmas.Result.{IfOk-weaker}
+use Rattle.jn_sem.specs.Normal.{MovedFits}
+use Rattle.jn_sem.proofs.NormalTypes.{type_subst_fits}
+use Rattle.jn_expr.proofs.Typeds.{written_kept}
 use Rattle.jn_expr.proofs.types.put_in.Goals as goal
 
 pub returns-clause-is : goal.returns-clause-is
@@ -13,3 +18,13 @@ returns-clause-is c =
           (shown c.subst.new.pool u)).0 h
           ∙ put_front (scope_in c.args.pool.now c.args.scope.now) c.args.from.now c.args.to.now (shown c.args.pool.now c.args.t);
     }) c.subst.ensures.number c.subst.ensures.subst
+
+pub returns-clause-fits : goal.returns-clause-fits
+returns-clause-fits c =
+    let s = scope_in c.args.pool.now c.args.scope.now in
+    let f = swapped (take (length c.args.to.now) c.args.from.now) c.args.to.now in
+    IfOk-weaker c.subst.result _ _
+    (λ u h. written_kept c.requires.scope c.subst.ensures.keeps
+    (type_subst_fits s f (shown c.args.pool.now c.args.t) (shown c.subst.new.pool u) c.requires.scope.fits.binds
+    (subst (MovedFits s f) c.show.ensures (c.in_ok-moved_fits.ensures c.if-not-branch.false)) h))
+    c.subst.ensures.subst
