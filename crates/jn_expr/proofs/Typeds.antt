@@ -23,6 +23,8 @@ use Rattle.jn_intern.specs.declared.scope.Scope.{Scope}
 use Rattle.jn_intern.specs.Pools.{InPool, shown, Keeps, scope_in}
 use Rattle.jn_intern.proofs.Pools.{scope_kept}
 use Rattle.jn_subtype.specs.Binds.{binds_in}
+use Rattle.jn_laws.specs.LawsOfScopes.{ScopesAlike, none as none_alike, one as one_alike}
+use Rattle.jn_laws.specs.LawsOfWritten.{scope_of, SiteFits}
 use Rattle.jn_laws.proofs.AlikeScopes.{binds_like, bounds_like}
 use Rattle.jn_laws.proofs.Terms.{Mentioned, this, variable, path_there, var_among, reverse_among}
 use Rattle.jn_rules.specs.Exprs.{Typed, Passing, bind, next_path, path_or_fresh, plain, of_path, path_type, operator_type, type_passed, is_null_type, site_here}
@@ -149,6 +151,11 @@ typed_kept {old} {new} {scope} {v} s k has f =
     subst (λ (c : TypeScope). let x : Typed = record { ty = shown new v.ty; path = v.path; scope = c } in TypedFits x) (sym (scope_kept scope s.known k))
     (subst (λ (t : Ty). let x : Typed = record { ty = t; path = v.path; scope = scope_in old scope } in TypedFits x) (sym (k.shows v.ty has)) f)
 
+-- the same in a scope that has grown
+pub fits_later : {old new : List Ty} {before after : Scope} {id : TyId} → IsScope old before → Keeps old new → Grows before after → IsScope new after → InPool old id
+    → TypeFits (scope_in old before) (shown old id) → TypeFits (scope_in new after) (shown new id)
+fits_later {old} {new} {before} {after} s k g a has f = fits_grown (scope_grown new before after g) a.fits.binds (fits_kept s k has f)
+
 -- of a value, when other ones were typed
 pub typed_later : {old new : List Ty} {before after : Scope} {v : Value} → IsScope old before → Keeps old new → Grows before after → IsScope new after → InPool old v.ty
     → TypedFits (typed_in old before v) → TypedFits (typed_in new after v)
@@ -204,6 +211,14 @@ stays_there p Q m {a} {b} {before} {after} h k s g i =
     (subst (IsThere p (site_here (here_at Q m a.vars.list))) (sym (scope_kept before s.known k.pool)) h)
     (scope_in b.pool after) (scope_grown b.pool before after g) i.fits.binds)
 
+-- the scope of the variables alone
+alike_itself : (s : TypeScope) → ScopesAlike s s
+alike_itself [] = none_alike
+alike_itself (b ∷ s) = one_alike (record { path = refl; atoms = refl; class = refl }) (alike_itself s)
+
+pub first_there : (p : Program) (at : Site) → SiteFits p at → IsThere p at (scope_of at)
+first_there p at h = record { site = h; scope = record { base = scope_of at; alike = alike_itself (scope_of at); grown = none_grown; binds = h.binds } }
+
 -- ---- a variable that was found
 
 newest_among : (vs : List Var) (x : Name) (v : Var) → newest vs x ≡ Some v → Among vs v
@@ -218,11 +233,14 @@ newest_among (w ∷ vs) x v e = at (nat_eq w.name.0 x.0) e (newest_among vs x v)
   at true e again = subst (Among (w ∷ vs)) (same e) first
   at false e again = later (again e)
 
+pub found_among : (vs : List Var) (x : Name) (v : Var) → var_named (record { list = vs }) x ≡ Some v → Among vs v
+found_among vs x v e = reverse_among vs v (newest_among (reverse vs) x v e)
+
 pub found_fits : (s : TypeScope) (vs : List Var) (x : Name) (k : Known) (o : Option Var) → var_named (record { list = vs }) x ≡ o → KnownIs o (Some k)
     → ((v : Var) → Among vs v → VarFits s v) → TypeFits s k.ty × (k.is_path ≡ true → PathThere s k.path)
 found_fits s vs x k None e i h = absurd i
 found_fits s vs x k (Some v) e i h =
-    let f = h v (reverse_among vs v (newest_among (reverse vs) x v e)) in (
+    let f = h v (found_among vs x v e) in (
       subst (TypeFits s) (sym i.ty) f.type,
       λ t. subst (PathThere s) (sym i.path) (f.path (sym i.is_path ∙ t)),
     )

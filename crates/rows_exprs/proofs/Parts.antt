@@ -2,15 +2,17 @@
 use Rattle.std.proofs.Common.{◌≡◌, [], List, ℕ, refl, sym, ap, ◌∙◌, subst}
 use Rattle.jn_base.specs.declared.tree.Program.{Program}
 use Rattle.jn_base.specs.declared.tree.Name.{Name}
+use Rattle.jn_base.specs.declared.tree.Method.{Method}
 use Rattle.jn_base.specs.declared.names.Var.{Var}
 use Rattle.jn_base.specs.declared.types.Ty.{Ty}
+use Rattle.jn_base.specs.Paths.{Path}
 use Rattle.jn_base.specs.Duplicates.{duplicates}
 use Rattle.jn_base.specs.Spelling.{IsTextOf}
 use Rattle.jn_base.specs.WithinLimits.{IsWithinLimits}
 use Rattle.jn_base.specs.ProgramNames.{IsNamed}
-use Rattle.jn_intern.specs.Pools.{Keeps}
+use Rattle.jn_intern.specs.Pools.{Keeps, scope_in}
 use Rattle.jn_intern.proofs.Pools.{keeps_same}
-use Rattle.jn_laws.specs.LawsOfWritten.{Shallow}
+use Rattle.jn_laws.specs.LawsOfWritten.{Shallow, site_with}
 use Rattle.jn_laws.proofs.PlacesAside.{programs_within_limits}
 use Rattle.jn_table.specs.declared.table.Table.{Table}
 use Rattle.jn_table.specs.Tables.{IsFilled}
@@ -21,11 +23,13 @@ use Rattle.jn_share.specs.declared.slots.Slots.{Slots}
 use Rattle.jn_share.specs.Groups.{AreGroups}
 use Rattle.jn_share.specs.Slots.{AreSlots}
 use Rattle.jn_heads.specs.declared.place.Place.{Place}
-use Rattle.jn_heads.specs.Places.{IsReady, Stands}
+use Rattle.jn_heads.specs.Places.{IsReady, Stands, IsIn, site_of}
 use Rattle.jn_heads.proofs.Writing.{scope_fits}
 use Rattle.jn_header.specs.declared.judge.Headers.{Headers}
 use Rattle.jn_header.specs.Judged.{AreParts}
-use Rattle.jn_expr.specs.Envs.{Parts, ArePartsOf, IsScope}
+use Rattle.jn_rules.specs.Exprs.{site_here}
+use Rattle.jn_expr.specs.Envs.{Parts, ArePartsOf, IsScope, IsThere, here_at}
+use Rattle.jn_expr.proofs.Typeds.{first_there}
 use Rattle.rows_exprs.specs.Parting.{HasParts}
 
 -- the program of a source is within the limits
@@ -76,3 +80,11 @@ first_scope p pool at s = record { known = s.known; fits = scope_fits p pool poo
 
 pub named : (p : Program) → IsWithinLimits p → IsNamed p
 named p w = (programs_within_limits p w).named
+
+-- the place behind a header of the method is that of its parameters
+pub place_there : (p : Program) (C : Path) (m : Method) (pool : List Ty) (at : Place) → Stands p pool at → IsIn (record { class = C; method = m }) at
+    → IsThere p (site_here (here_at C m at.vars.list)) (scope_in pool at.scope)
+place_there p C m pool at h i =
+    subst (λ (Q : Path). IsThere p (site_with Q m.name.name at.vars.list) (scope_in pool at.scope)) i.class
+    (subst (λ (n : Name). IsThere p (site_with at.class n at.vars.list) (scope_in pool at.scope)) i.method
+    (subst (IsThere p (site_of at)) (sym h.scope) (first_there p (site_of at) h.fits)))

@@ -4,7 +4,7 @@ ghost use Rattle.std.specs.Prelude.{◌≡◌, [], IfOk};
 ghost use Rattle.jn_base.specs.Duplicates.{duplicates};
 ghost use Rattle.jn_base.specs.WithinLimits.{IsWithinLimits};
 ghost use Rattle.jn_intern.specs.Pools.{InPool};
-ghost use Rattle.jn_heads.specs.Places.{Stands};
+ghost use Rattle.jn_heads.specs.Places.{Stands, IsIn};
 ghost use Rattle.jn_expr.specs.Envs.{ArePartsOf, parts};
 ghost use Rattle.rows_exprs.specs.Parting.{HasParts};
 
@@ -188,6 +188,7 @@ fn typed_behind(
 ) -> Result<String, CheckFault>
     requires parts { ArePartsOf p.now (parts env.old) }
     requires stands { Stands p.now env.old.pool at }
+    requires within { IsIn (record { class = class.now; method = m.now }) at }
 {
     let mut scope = at.scope;
     env.vars = at.vars;

@@ -14,7 +14,7 @@ returns-in_err-put-clause-stays c = record { same = refl; pool = keeps_more c.in
 pub returns-clause-is : goal.returns-clause-is
 returns-clause-is c =
     let k = keeps_more c.in_ok-ty.ensures.keeps c.in_ok-put.ensures.keeps in record {
-      slot = record { number = c.in_ok-put.ensures.is.number; scope = scope_stays c.in_ok-path.ensures.scope k; grows = c.in_ok-path.ensures.grows };
+      slot = record { number = c.in_ok-put.ensures.is.number; fits = c.in_ok-put.ensures.fits; scope = scope_stays c.in_ok-path.ensures.scope k; grows = c.in_ok-path.ensures.grows };
       shows = put_is c.args.env.now.pool c.intern.new.self c.put_in.new.pool c.path_of.new.scope c.in_ok-path.path c.in_ok-ty.ty c.in_ok-put.put c.args.found.now.ty _ c.in_ok-path.ensures.scope
           c.in_ok-ty.ensures.keeps c.in_ok-path.ensures.is c.in_ok-ty.ensures.shows.1 c.in_ok-put.ensures.is;
       is = scope_kept c.path_of.new.scope c.in_ok-path.ensures.scope.known k ∙ ap (λ (x : Passing). x.scope) c.in_ok-path.ensures.is;
@@ -23,3 +23,6 @@ returns-clause-is c =
 
 pub returns-clause-stays : goal.returns-clause-stays
 returns-clause-stays c = record { same = refl; pool = keeps_more c.in_ok-ty.ensures.keeps c.in_ok-put.ensures.keeps }
+
+pub path_of-requires-clause-fits : goal.path_of-requires-clause-fits
+path_of-requires-clause-fits c = c.requires.fits.type
