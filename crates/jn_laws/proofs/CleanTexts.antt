@@ -3,7 +3,8 @@ use Rattle.std.proofs.Common.{◌≡◌, ◌<◌, ◌≤◌, ◌+◌, Bool, true
 use Rattle.std.specs.declared.cmp.Ordering.TheVariants.{Less}
 use Rattle.std.specs.Ordering.{nat_cmp, on}
 use Rattle.std.specs.Cmp.{nat_cmp_is, nat_cmp_total, on_total}
-use Rattle.std.specs.Prelude.{nat_lt, if◌then◌else◌}
+use Rattle.std.specs.Prelude.{nat_lt, if◌then◌else◌, Option}
+use Rattle.std.specs.List.{filter_map, cons_option}
 use Rattle.std.proofs.lemmas.Bool.{ltb-true, ltb-false}
 use Rattle.std.proofs.lemmas.List.{map-append}
 use Rattle.jn_base.specs.declared.tree.Name.{Name}
@@ -15,18 +16,21 @@ use Rattle.jn_base.specs.declared.refusal.Limit.TheVariants as limit
 use Rattle.jn_base.specs.declared.word.Lexeme.{Lexeme}
 use Rattle.jn_base.specs.Parts.{Part, Parameter, lexeme_of, new_name, mark}
 use Rattle.jn_base.specs.declared.word.Mark.TheVariants.{Comma}
+use Rattle.jn_base.specs.Limits.{greatest}
+use Rattle.jn_base.specs.Words.{name_number, AreByMention, last_word}
+use Rattle.jn_base.specs.Words as mention
 use Rattle.jn_base.specs.Paths.{Path}
 use Rattle.jn_base.specs.Universe.{InUniverse}
 use Rattle.jn_base.specs.Members.{MethodAt}
 use Rattle.jn_base.specs.Atoms.{Among, first, later}
 use Rattle.jn_base.specs.GrammarDecl.{IsParam, param, IsMoreParams, no_more_param, then_param, IsParams, no_param, params, IsProgram}
-use Rattle.jn_base.specs.Spelling.{Begins, Passes, counted, rank, limit_of, IsFirstPassed, IsClean, limit_passed, too_long, word_refused, IsTextOf, greatest_source}
+use Rattle.jn_base.specs.Spelling.{Begins, Passes, counted, rank, limit_of, IsFirstPassed, IsClean, limit_passed, too_long, word_refused, IsTextOf, greatest_source, names}
 use Rattle.jn_base.proofs.NameTests.{first as first_part}
 use Rattle.jn_base.proofs.Reaching.{universe_depth}
 use Rattle.jn_sem.proofs.FindingLaws.{among_of}
 use Rattle.std.proofs.lemmas.List.Elements.{Contains-append_left, Contains-append_right}
 use Rattle.jn_laws.specs.Surely.{Surely}
-use Rattle.jn_laws.specs.LawsOfSources.{TextsKeepLimits}
+use Rattle.jn_laws.specs.LawsOfSources.{TextsKeepLimits, TextsNameFew}
 use Rattle.jn_laws.proofs.Sures.{map_surely}
 use Rattle.jn_laws.proofs.Lists.{chosen, Chosen}
 use Rattle.jn_laws.proofs.Firsts.{first_by}
@@ -142,11 +146,66 @@ module _ (p : Program) (bytes : List ℕ) (text : IsTextOf p bytes) where
   within_all done _ e clean t (later {y = s} {xs = rest} m) l i =
       within_all (done ++ s ∷ []) rest (e ∙ sym (append_assoc done (s ∷ []) rest)) (clean_more done rest s e clean) t m l i
 
+  -- and each name has a number below the limit
+  named_all : (done rest : List Part) → text.spelled.parts ≡ done ++ rest → AllClean (map lexeme_of done) → (w : Lexeme) → Among (map lexeme_of rest) w
+      → (n : ℕ) → name_number w.word ≡ Some n → greatest limit.Names ≤ n → ⊥
+  named_all done [] e clean w m n i le = elim m [ ]
+  named_all done (t ∷ rest) e clean _ first n i le = no_limit done rest t e clean (begins_there done rest t e) limit.Names (names n i le)
+  named_all done (t ∷ rest) e clean w (later m) n i le =
+      named_all (done ++ t ∷ []) rest (e ∙ sym (append_assoc done (t ∷ []) rest)) (clean_more done rest t e clean) w m n i le
+
+  names_below : (w : Lexeme) → Among (map lexeme_of text.spelled.parts) w → (n : ℕ) → name_number w.word ≡ Some n → n < 65535
+  unfolding AllClean
+  names_below w m n i = by (nat_lt n 65535) refl where
+    nothing : (before behind : List Lexeme) (w : Lexeme) → [] ≡ before ++ w ∷ behind → ⊥
+    nothing before behind w i = omega (arith, ap length i, length-append before (w ∷ behind))
+
+    by : (t : Bool) → nat_lt n 65535 ≡ t → n < 65535
+    by true e = ltb-true n 65535 e
+    by false e = absurd (named_all [] text.spelled.parts refl (λ before behind w i. absurd (nothing before behind w i)) w m n i
+        (omega (arith, ltb-false n 65535 e)))
+
   pub within_limits : (t : Part) → Contains text.spelled.parts t → (l : Limit) → limit_of t.role ≡ Some l → ⊥
   unfolding AllClean
   within_limits t c l e = within_all [] text.spelled.parts refl (λ before behind w i. absurd (nothing before behind w i)) t (among_of text.spelled.parts t c) l e where
     nothing : (before behind : List Lexeme) (w : Lexeme) → [] ≡ before ++ w ∷ behind → ⊥
     nothing before behind w i = omega (arith, ap length i, length-append before (w ∷ behind))
+
+-- ---- names by mention
+
+-- the numbers of the names of the words
+numbered : List Lexeme → List ℕ
+numbered = filter_map (λ (w : Lexeme). name_number w.word)
+
+-- Where all numbers are below a bound, no more are mentioned.
+mentioned_few : (k : ℕ) (ws : List Lexeme) (a b : ℕ) → AreByMention a (numbered ws) b
+    → ((w : Lexeme) → Among ws w → (n : ℕ) → name_number w.word ≡ Some n → n < k) → a ≤ k → b ≤ k
+unfolding numbered
+mentioned_few k [] a _ mention.all_mentioned below le = le
+mentioned_few k (w ∷ ws) a b m below le = by (name_number w.word) refl m (λ c more few. mentioned_few k ws c b more (λ v i. below v (later i)) few) where
+  by_number : (n : ℕ) → name_number w.word ≡ Some n → AreByMention a (n ∷ numbered ws) b
+      → ((c : ℕ) → AreByMention c (numbered ws) b → c ≤ k → b ≤ k) → b ≤ k
+  by_number n e (mention.again less more) others = others a more le
+  by_number _ e (mention.first more) others = others (a + 1) more (omega (arith, below w first a e))
+
+  by : (o : Option ℕ) → name_number w.word ≡ o → AreByMention a (cons_option o (numbered ws)) b
+      → ((c : ℕ) → AreByMention c (numbered ws) b → c ≤ k → b ≤ k) → b ≤ k
+  by (Some n) e m others = by_number n e m others
+  by None e m others = others a m le
+
+among_left : (xs ys : List Lexeme) (w : Lexeme) → Among xs w → Among (xs ++ ys) w
+among_left [] ys w m = elim m [ ]
+among_left (x ∷ xs) ys _ first = first
+among_left (x ∷ xs) ys w (later m) = later (among_left xs ys w m)
+
+pub texts_name_few : TextsNameFew
+unfolding numbered
+texts_name_few p bytes text =
+    let are = text.spelled.are_words in
+    mentioned_few 65535 are.words 0 (length p.names) are.names_numbered.by_mention
+    (λ w m n e. names_below p bytes text w
+    (subst (λ (ws : List Lexeme). Among ws w) (sym are.whole) (among_left are.words (last_word bytes are.fault ∷ []) w m)) n e)
+    (omega arith)
 
 -- ---- numbers
 

@@ -38,3 +38,7 @@ pub record KeepsLimits (p : Program) : Type 0 where
 -- where no limit refuses the source
 abbrev pub TextsKeepLimits : Type 0
 TextsKeepLimits = (p : Program) (bytes : List ℕ) → IsTextOf p bytes → KeepsLimits p
+
+-- where no limit refuses the source, at most 65,535 names stand in it
+abbrev pub TextsNameFew : Type 0
+TextsNameFew = (p : Program) (bytes : List ℕ) → IsTextOf p bytes → length p.names ≤ 65535

@@ -1,6 +1,6 @@
 ghost use Rattle.jn_laws.specs.LawsOfBodies.{SourcesBodiesFormed, TextsHaveFewLocals};
 ghost use Rattle.jn_laws.specs.LawsOfPlaces.{ProgramsWithinLimits};
-ghost use Rattle.jn_laws.specs.LawsOfSources.{SourcesBracketsNamed, SourcesWellFormed, TextsKeepLimits};
+ghost use Rattle.jn_laws.specs.LawsOfSources.{SourcesBracketsNamed, SourcesWellFormed, TextsKeepLimits, TextsNameFew};
 
 /// In a program that a source spells the types of headers have terms, with names before each bracket.
 pub fn sources_well_formed()
@@ -10,6 +10,11 @@ pub fn sources_well_formed()
 /// In a program that a source spells names stand before each bracket of a field's type.
 pub fn sources_brackets_named()
     ensures { SourcesBracketsNamed }
+{}
+
+/// A program whose source no limit refuses has at most 65,535 names.
+pub fn texts_name_few()
+    ensures { TextsNameFew }
 {}
 
 /// In a program whose source no limit refuses, paths have at most 8 names and methods at most 15 parameters.

@@ -52,6 +52,7 @@ use Rattle.jn_link.proofs.Fewer.{IsFound, no_more}
 use Rattle.jn_link.proofs.Granted as granted
 use Rattle.jn_link.proofs.GroupLaws.{groups_are, groups_in_form, as_many}
 use Rattle.jn_link.proofs.Joining.{source_short, lowered_have_shapes, joined_are_images}
+use Rattle.jn_laws.proofs.CleanTexts.{texts_name_few}
 
 -- ---- lists
 
@@ -127,7 +128,7 @@ text_of is xs e j t at =
       same = same_some (slice_get (map text_bytes xs) j) t.bytes x.0.bytes bytes own;
     }
 
-module _ (g : Parts) (m : Members) (gs : Groups) (i : Image) (few_names : length g.p.now.names ≤ 65535)
+module _ (g : Parts) (m : Members) (gs : Groups) (i : Image)
     (names : AreNames g.p.now g.t.now g.slots.now g.names.now)
     (made : IsMade g m gs i) (bytes : List ℕ)
     (asked : ImageAsked g.p.now bytes g.t.now m gs g.slots.now g.bodies.now)
@@ -216,7 +217,7 @@ module _ (g : Parts) (m : Members) (gs : Groups) (i : Image) (few_names : length
 
     few : AreFew p n
     few = record {
-      names = few_names;
+      names = texts_name_few p bytes asked.text;
       groups = omega (arith, few_groups, few_classes);
       methods = omega (arith, methods_few, bodies_few);
       fields = omega (arith, fields_few, bodies_few);

@@ -80,4 +80,4 @@ pub record AreNames (p : Program) (t : Table) (s : Slots) (names : Selectors) : 
 -- by these selectors the image is that of the program
 abbrev pub IsImageBy : Program → Table → Members → Groups → Slots → Selectors → List Resolved → Image → Type 0
 IsImageBy p t m g s names bodies i =
-    length p.names ≤ 65535 → AreNames p t s names → (bytes : List ℕ) → ImageAsked p bytes t m g s bodies → IsImageOf p i
+    AreNames p t s names → (bytes : List ℕ) → ImageAsked p bytes t m g s bodies → IsImageOf p i

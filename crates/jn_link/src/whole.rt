@@ -1,4 +1,4 @@
-ghost use Rattle.std.specs.Prelude.{◌≡◌, ◌≤◌, ◌↔◌, ℕ, List, [], length, IsTrue, IfOk};
+ghost use Rattle.std.specs.Prelude.{◌≡◌, ℕ, List, [], length, IfOk};
 ghost use Rattle.jn_base.specs.Duplicates.{duplicates};
 ghost use Rattle.jn_link.specs.Whole.{IsListed, IsLayout, AreCodes, IsMade, IsImageBy, ImageAsked};
 ghost use Rattle.jn_link.specs.Joined.{IsImageOf};
@@ -106,13 +106,6 @@ fn image_by(parts: &Parts, m: &Members, g: &Groups) -> Result<Image, AllocError>
     })
 }
 
-/// Whether the program has no more names than their numbers have room for, as each source within the limits has.
-fn few_names(p: &Program) -> bool
-    ensures { IsTrue result ↔ (length p.now.names ≤ 65535) }
-{
-    p.names.len() <= 65535
-}
-
 /// The image, by selectors that are those of the program.
 fn image_with(
     alloc: Global,
@@ -156,9 +149,6 @@ pub fn image(
     ensures { IfOk result (λ i. (bytes : List ℕ) → ImageAsked p.now bytes t.now m.now g.now s.now bodies.now
         → IsImageOf p.now i) }
 {
-    if few_names(p) {
-        let names = selectors(alloc, p, t, s)?;
-        return image_with(alloc, p, t, m, g, s, &names, bodies);
-    }
-    Err(AllocError)
+    let names = selectors(alloc, p, t, s)?;
+    image_with(alloc, p, t, m, g, s, &names, bodies)
 }

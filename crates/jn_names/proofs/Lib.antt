@@ -9,6 +9,7 @@ pub mod Gives
 pub mod MaskProof
 pub mod TypeProof
 pub mod Notings
+pub mod NameSets
 pub mod Descent
 pub mod MemberProof
 pub mod MemberSays

@@ -69,14 +69,14 @@ module _ (p : Program) (t : Table) (ms : Members) (g : IsMembersOf p t ms) where
   method_row : (m : Name) (s : ClassId) (S : Path) → Num s S → MethodAtRow ms.rows.items m s ↔ MethodNamed p S m
   method_row m s S n =
       let r = g.rows s S n in (
-        λ x. (r.is.methods m).0 (subst (λ (w : MemberRow). Contains w.methods.items m) (same_some (slice_get ms.rows.items s.0) x.0 r.row x.1 r.at) x.2),
+        λ x. (r.is.methods m).0 (subst (λ (w : MemberRow). Contains w.methods.keys m.0) (same_some (slice_get ms.rows.items s.0) x.0 r.row x.1 r.at) x.2),
         λ x. (r.row, r.at, (r.is.methods m).1 x),
       )
 
   field_row : (f : Name) (s : ClassId) (S : Path) → Num s S → FieldAtRow ms.rows.items f s ↔ FieldNamed p S f
   field_row f s S n =
       let r = g.rows s S n in (
-        λ x. (r.is.fields f).0 (subst (λ (w : MemberRow). Contains w.fields.items f) (same_some (slice_get ms.rows.items s.0) x.0 r.row x.1 r.at) x.2),
+        λ x. (r.is.fields f).0 (subst (λ (w : MemberRow). Contains w.fields.keys f.0) (same_some (slice_get ms.rows.items s.0) x.0 r.row x.1 r.at) x.2),
         λ x. (r.row, r.at, (r.is.fields f).1 x),
       )
 

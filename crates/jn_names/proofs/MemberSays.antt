@@ -1,5 +1,5 @@
 -- What `Members` answers, and how it is built.
-use Rattle.std.proofs.Common.{◌≡◌, ◌<◌, ◌≤◌, ◌+◌, ℕ, zero, suc, List, [], ◌∷◌, ◌++◌, length, slice_get, Some, None, Option, refl, sym, ◌∙◌, subst, ◌⊎◌, inl, inr, arith}
+use Rattle.std.proofs.Common.{◌≡◌, ◌<◌, ◌≤◌, ◌+◌, ℕ, zero, suc, List, [], ◌∷◌, ◌++◌, length, slice_get, Some, None, Option, Contains, ◌↔◌, refl, sym, ◌∙◌, subst, ◌⊎◌, inl, inr, arith}
 use Rattle.std.proofs.lemmas.Bool.{cases_lt}
 use Rattle.jn_reach.proofs.Searches.{same_some}
 use Rattle.jn_base.specs.declared.tree.Name.{Name}
@@ -115,12 +115,14 @@ get_last [] y = refl
 get_last (x ∷ xs) y = get_last xs y
 
 pub is_member_row : (p : Program) (t : Table) (R : Path) (id : ClassId) (row : MemberRow) (filled : Row) → IsTableOf p t → IsNumber t.known.items id R
-    → SaysRow t id filled → row.sups.items ≡ filled.sups.items → SaysMethods t id row.methods.items → SaysFields t id row.fields.items
+    → SaysRow t id filled → row.sups.items ≡ filled.sups.items
+    → (ms fs : List Name) → SaysMethods t id ms → ((m : Name) → Contains row.methods.keys m.0 ↔ Contains ms m)
+    → SaysFields t id fs → ((f : Name) → Contains row.fields.keys f.0 ↔ Contains fs f)
     → IsMemberRow p t.known.items R row
-is_member_row p t R id row filled is n says e methods fields = record {
+is_member_row p t R id row filled is n says e ms fs methods in_ms fields in_fs = record {
   sups = subst (AreClasses p t.known.items (Sup p R)) (sym e) (says p R is n).sups;
-  methods = methods p R is n;
-  fields = fields p R is n;
+  methods = λ m. (λ h. (methods p R is n m).0 ((in_ms m).0 h), λ h. (in_ms m).1 ((methods p R is n m).1 h));
+  fields = λ f. (λ h. (fields p R is n f).0 ((in_fs f).0 h), λ h. (in_fs f).1 ((fields p R is n f).1 h));
 }
 
 -- the rows of the first k numbers

@@ -8,10 +8,10 @@ use Rattle.jn_names.specs.declared.members.Least.TheVariants as least
 
 -- the row of the number has the method, the field, the super
 abbrev pub MethodAtRow : List MemberRow → Name → ClassId → Type 0
-MethodAtRow rows m s = (row : MemberRow) × (slice_get rows s.0 ≡ Some row) × Contains row.methods.items m
+MethodAtRow rows m s = (row : MemberRow) × (slice_get rows s.0 ≡ Some row) × Contains row.methods.keys m.0
 
 abbrev pub FieldAtRow : List MemberRow → Name → ClassId → Type 0
-FieldAtRow rows f s = (row : MemberRow) × (slice_get rows s.0 ≡ Some row) × Contains row.fields.items f
+FieldAtRow rows f s = (row : MemberRow) × (slice_get rows s.0 ≡ Some row) × Contains row.fields.keys f.0
 
 abbrev pub SupAtRow : List MemberRow → ClassId → ClassId → Type 0
 SupAtRow rows a b = (row : MemberRow) × (slice_get rows a.0 ≡ Some row) × Contains row.sups.items b

@@ -18,11 +18,11 @@ use Rattle.jn_names.specs.declared.members.Members.{Members}
 use Rattle.jn_names.specs.declared.members.Least.{Least}
 use Rattle.jn_names.specs.declared.members.Least.TheVariants as least
 
--- the row has the supers of R, and the names of the methods and fields that the declarations at R have themselves
+-- the row has the supers of R, and the numbers of the names of the methods and fields that the declarations at R have themselves
 pub record IsMemberRow (p : Program) (known : List ShownPath) (R : Path) (row : MemberRow) : Type 0 where
   pub sups : AreClasses p known (Sup p R) row.sups.items
-  pub methods : (m : Name) → Contains row.methods.items m ↔ MethodNamed p R m
-  pub fields : (f : Name) → Contains row.fields.items f ↔ FieldNamed p R f
+  pub methods : (m : Name) → Contains row.methods.keys m.0 ↔ MethodNamed p R m
+  pub fields : (f : Name) → Contains row.fields.keys f.0 ↔ FieldNamed p R f
 
 pub record RowAt (p : Program) (known : List ShownPath) (rows : List MemberRow) (id : ClassId) (R : Path) : Type 0 where
   pub row : MemberRow

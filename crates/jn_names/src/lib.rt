@@ -12,6 +12,7 @@ mod fault;
 mod fields;
 mod masks;
 mod members;
+mod name_set;
 mod numbering;
 mod resolving;
 mod scope;

@@ -3,7 +3,8 @@ ghost use Rattle.jn_base.specs.TableRules.{IsCycle, NoneIs};
 ghost use Rattle.jn_table.specs.Tables.{IsFilled};
 ghost use Rattle.jn_names.specs.MemberRows.{MethodAtRow, FieldAtRow, SupAtRow, LowerRow, HasLowerRow, PassedRow, PassedTo, IsLowRow, FirstLowRow, FieldlessRow, FieldlessTo, IsFieldRow, FirstFieldRow, LeastRow, FieldRow};
 
-use jn_base::compare::{has_name, is_name};
+use crate::name_set::{is_in_set, name_set};
+use indexmap::IndexSet;
 use jn_base::tree::{Name, Program};
 use jn_table::{ClassId, Table};
 use sqlite_items::at;
@@ -21,12 +22,12 @@ pub enum Least {
     Many(ClassId, ClassId),
 }
 
-/// The supers of a class, and what its declarations have themselves.
+/// The supers of a class, and the numbers of the names that its declarations have themselves.
 #[derive(Drop)]
 pub struct MemberRow {
     pub sups: Vec<ClassId>,
-    pub methods: Vec<Name>,
-    pub fields: Vec<Name>,
+    pub methods: IndexSet<u32>,
+    pub fields: IndexSet<u32>,
 }
 
 /// Which declarations the methods and fields of each class have.
@@ -69,7 +70,7 @@ fn has_method(rows: &[MemberRow], m: Name, s: ClassId) -> bool
 {
     match at(rows, s.0 as usize) {
         None => false,
-        Some(row) => has_name(&row.methods, m),
+        Some(row) => is_in_set(&row.methods, m),
     }
 }
 
@@ -78,7 +79,7 @@ fn has_field(rows: &[MemberRow], f: Name, s: ClassId) -> bool
 {
     match at(rows, s.0 as usize) {
         None => false,
-        Some(row) => has_name(&row.fields, f),
+        Some(row) => is_in_set(&row.fields, f),
     }
 }
 
@@ -226,10 +227,13 @@ impl Members {
         let mut rows = Vec::new(alloc);
         for k in 0..t.known().len() {
             let id = ClassId(k as u16);
+            let sups = copied(alloc, &t.row(id).sups)?;
+            let methods = name_set(alloc, &t.own_methods(id)?)?;
+            let fields = name_set(alloc, &t.own_fields(id)?)?;
             rows.push(MemberRow {
-                sups: copied(alloc, &t.row(id).sups)?,
-                methods: t.own_methods(id)?,
-                fields: t.own_fields(id)?,
+                sups,
+                methods,
+                fields,
             })?;
         }
         Ok(Members { rows })

@@ -17,7 +17,7 @@ use Rattle.jn_base.specs.Fits.{Anchored, TypeFits, BindsFit}
 use Rattle.jn_base.specs.Resolve.{is_class}
 use Rattle.jn_base.proofs.SuperLaws.{sup_level}
 use Rattle.jn_sem.specs.Below.{Below, ints, booleans, nulls, classes}
-use Rattle.jn_sem.specs.Normal.{normal, moved, moved_anchor, swapped}
+use Rattle.jn_sem.specs.Normal.{normal, moved, moved_anchor, swapped, MovedFits}
 use Rattle.jn_sem.specs.NormalFunction.{subst_type, in_order, moved_normal}
 use Rattle.jn_sem.specs.Does.{Body, IsBody}
 use Rattle.jn_sem.proofs.Under.{bound_depth, fits_whole, type_anchored, anchored_later}
@@ -160,6 +160,9 @@ module _ (p : Program) (b : Body) (c : Header) (fit : HeaderFits p b c) where
       moves : MovedOf h s f u
       moves = moved_types_fit h s f u fits (λ x q k m e. deep_path q (paths x q k m e))
 
+      pub put_fits : MovedFits s (swapped (replaced_paths c.vars) (r ∷ qs)) u
+      put_fits = moves.moved
+
       pub put_known : ((x : Atom) → Among (atoms_in u) x → 0 < length (bound h x)) → TypeKnown s (put_in s (replaced_paths c.vars) (r ∷ qs) u)
       put_known named = record {
         fits = moves.substituted g;
@@ -193,6 +196,7 @@ module _ (p : Program) (b : Body) (c : Header) (fit : HeaderFits p b c) where
       → ParamKnown b c x s (r ∷ qs)
   param done rest x s r qs e g this put = record {
     known = put_known done (x ∷ rest) e s r qs g this put x.ty fits paths (ok.named x m);
+    moved = put_fits done (x ∷ rest) e s r qs g this put x.ty fits paths;
     depth = λ y n. let o = subst_from s (swapped (replaced_paths c.vars) (r ∷ qs)) x.ty y n in
         put_depth done (x ∷ rest) e s r qs g this put x.ty fits paths o.0 y o.1 n ∙ sym (bound_depth (var_among p (site_in b c.vars) role.Value ok x m) ok.binds o.0 o.1);
     settled = put_settled done (x ∷ rest) e s r qs g this put x.ty fits paths;
@@ -211,6 +215,12 @@ module _ (p : Program) (b : Body) (c : Header) (fit : HeaderFits p b c) where
   result t s r qs e g this put =
       let k = fit.result t e in
       put_known c.vars [] (sym (append-nil c.vars)) s r qs g this put c.result k.fits k.paths k.named
+
+  result_moved : (t : TypeTerm) (s : Scope) (r : ℕ) (qs : List ℕ) → b.method.result ≡ Some t → BindsFit s → AsDeep h s 0 r → PutFor h s c.vars qs
+      → MovedFits s (swapped (replaced_paths c.vars) (r ∷ qs)) c.result
+  result_moved t s r qs e g this put =
+      let k = fit.result t e in
+      put_fits c.vars [] (sym (append-nil c.vars)) s r qs g this put c.result k.fits k.paths
 
   below_atom : (s : Scope) (t u : Ty) → Below p s t u → TypeFits s u → (y : Atom) → Among (atoms_in t) y → (z : Atom) × Among (atoms_in u) z
   below_atom s _ _ ints k y m = elim m [ ]
@@ -233,5 +243,6 @@ call_types_fit p b c fit = record {
   at_bound = at_bound p b c fit;
   param = param p b c fit;
   result = result p b c fit;
+  result_moved = result_moved p b c fit;
   argument = argument p b c fit;
 }

@@ -15,7 +15,7 @@ use Rattle.jn_base.specs.Scopes.{Bind, Scope, bound_of, bound, Binds}
 use Rattle.jn_base.specs.Fits.{Anchored, TypeFits, BindsFit}
 use Rattle.jn_base.proofs.SuperLaws.{sup_level}
 use Rattle.jn_base.proofs.Reaching.{declared_in_universe}
-use Rattle.jn_sem.specs.Normal.{same_path, swapped}
+use Rattle.jn_sem.specs.Normal.{same_path, swapped, MovedFits}
 use Rattle.jn_sem.specs.NormalFunction.{normal_type}
 use Rattle.jn_sem.specs.LawsOfSlots.{HeadNamed}
 use Rattle.jn_sem.specs.Terms.{Site, TermIs}
@@ -153,12 +153,16 @@ made_known p at t x deep ok n i = record {
 
 -- ---- fields
 
-field_known : (p : Program) (s : Scope) (t : Ty) (f : Name) (c : FoundField) (q : ℕ) → Shallow p → WellFormed p → BindsFit s → IsFoundField p s t f c → PathKnown s q t
-    → TypeKnown s (put_in s (0 ∷ []) (q ∷ []) c.ty)
-field_known p s t f c q deep w g i k = record {
-  fits = moves.substituted g;
-  named = λ y n. let o = subst_from s (swapped (0 ∷ []) (q ∷ [])) c.ty y n in subst (λ (l : ℕ). 0 < l) (sym (moves.depth g o.0 y o.1 n)) (there.named o.0 o.1);
-} where
+-- the declared type with the path put, and its normal form
+field_fits : (p : Program) (s : Scope) (t : Ty) (f : Name) (c : FoundField) (q : ℕ) → Shallow p → WellFormed p → IsFoundField p s t f c → PathKnown s q t
+    → MovedFits s (swapped (0 ∷ []) (q ∷ [])) c.ty × (BindsFit s → TypeKnown s (put_in s (0 ∷ []) (q ∷ []) c.ty))
+field_fits p s t f c q deep w i k = (
+  moves.moved,
+  λ g. record {
+    fits = moves.substituted g;
+    named = λ y n. let o = subst_from s (swapped (0 ∷ []) (q ∷ [])) c.ty y n in subst (λ (l : ℕ). 0 < l) (sym (moves.depth g o.0 y o.1 n)) (there.named o.0 o.1);
+  },
+) where
   Q : Path
   Q = i.type.class
 
@@ -204,5 +208,6 @@ path_types_fit p = record {
   made_depth = λ at s t x y deep ok n h i m.
       normal_depth_is s (made_exact x) (atom_of (shown_atom (atom x.anchor (x.names ++ x.exact) []))) y h.binds (for_known h (made_known p at t x deep ok n i)) first m
       ∙ ap length (made_bound s x (atom_of (shown_atom (atom x.anchor (x.names ++ x.exact) []))) (only_made x _ first));
-  field = field_known p;
+  field = λ s t f c q deep w g i k. (field_fits p s t f c q deep w i k).1 g;
+  field_moved = λ s t f c q deep w i k. (field_fits p s t f c q deep w i k).0;
 }

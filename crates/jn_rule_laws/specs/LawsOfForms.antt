@@ -15,6 +15,7 @@ use Rattle.jn_base.specs.ResolveTypes.{mask_names}
 use Rattle.jn_base.specs.Resolve.{is_class}
 use Rattle.jn_sem.specs.Values.{Masked}
 use Rattle.jn_sem.specs.Below.{Below}
+use Rattle.jn_sem.specs.Normal.{swapped, MovedFits}
 use Rattle.jn_sem.specs.NormalFunction.{normal_type}
 use Rattle.jn_sem.specs.LawsOfSlots.{HeadNamed}
 use Rattle.jn_sem.specs.Terms.{Site, TermIs}
@@ -77,6 +78,9 @@ pub record PathsOf (p : Program) : Type 0 where
   -- the type of a field, with the receiver's path for `this`
   pub field : (s : Scope) (t : Ty) (f : Name) (c : FoundField) (q : ℕ) → Shallow p → WellFormed p → BindsFit s → IsFoundField p s t f c → PathKnown s q t
       → TypeKnown s (put_in s (0 ∷ []) (q ∷ []) c.ty)
+  -- which fits before it is brought to normal form, too
+  pub field_moved : (s : Scope) (t : Ty) (f : Name) (c : FoundField) (q : ℕ) → Shallow p → WellFormed p → IsFoundField p s t f c → PathKnown s q t
+      → MovedFits s (swapped (0 ∷ []) (q ∷ [])) c.ty
 
 abbrev pub PathTypesFit : Type 0
 PathTypesFit = (p : Program) → PathsOf p
@@ -94,6 +98,8 @@ header_scope b c = scope_of (site_in b c.vars)
 -- the type of the parameter x, with these paths put for `this` and the parameters before it
 pub record ParamKnown (b : Body) (c : Header) (x : Var) (s : Scope) (to : List ℕ) : Type 0 where
   pub known : TypeKnown s (put_in s (replaced_paths c.vars) to x.ty)
+  -- before it is brought to normal form it fits, too
+  pub moved : MovedFits s (swapped (replaced_paths c.vars) to) x.ty
   pub depth : (y : Atom) → Among (atoms_in (put_in s (replaced_paths c.vars) to x.ty)) y → length (bound s y) ≡ length (bound_of (header_scope b c) x.path)
   -- in a later scope, and with the paths for the other parameters, it is the same
   pub settled : (t : Scope) (others : List ℕ) → Grown s t → BindsFit t
@@ -109,6 +115,8 @@ pub record CallsOf (p : Program) (b : Body) (c : Header) : Type 0 where
       → AsDeep (header_scope b c) s 0 r → PutFor (header_scope b c) s done qs → ParamKnown b c x s (r ∷ qs)
   pub result : (t : TypeTerm) (s : Scope) (r : ℕ) (qs : List ℕ) → b.method.result ≡ Some t → BindsFit s
       → AsDeep (header_scope b c) s 0 r → PutFor (header_scope b c) s c.vars qs → TypeKnown s (put_in s (replaced_paths c.vars) (r ∷ qs) c.result)
+  pub result_moved : (t : TypeTerm) (s : Scope) (r : ℕ) (qs : List ℕ) → b.method.result ≡ Some t → BindsFit s
+      → AsDeep (header_scope b c) s 0 r → PutFor (header_scope b c) s c.vars qs → MovedFits s (swapped (replaced_paths c.vars) (r ∷ qs)) c.result
   -- a path of a value in the parameter's type is as deep as the parameter
   pub argument : (done rest : List Var) (x : Var) (s : Scope) (r : ℕ) (qs : List ℕ) (t : Ty) (q : ℕ) → c.vars ≡ done ++ x ∷ rest → BindsFit s
       → AsDeep (header_scope b c) s 0 r → PutFor (header_scope b c) s done qs → TypeFits s t → Below p s t (put_in s (replaced_paths c.vars) (r ∷ qs) x.ty)

@@ -5,13 +5,13 @@ use Rattle.jn_link.specs.Joined.{IsImageOf}
 use Rattle.jn_link.specs.Whole.{IsImageBy, ImageAsked}
 use Rattle.jn_link.proofs.whole.image.Goals as goal
 
-pub returns-then-few_names : goal.returns-then-few_names
-returns-then-few_names c =
+pub returns : goal.returns
+returns c =
     let a = c.args in
     IfOk-weaker c.image_with.result
     (IsImageBy a.p.now a.t.now a.m.now a.g.now a.s.now c.in_ok-names.names a.bodies.now)
     (λ (i : Image). (bytes : List ℕ) → ImageAsked a.p.now bytes a.t.now a.m.now a.g.now a.s.now a.bodies.now
     → IsImageOf a.p.now i)
-    (λ i is bytes asked. is (c.few_names.ensures.0 c.if-few_names.true)
+    (λ i is bytes asked. is
     (record { are = c.in_ok-names.ensures.are; only = c.in_ok-names.ensures.only }) bytes asked)
     c.image_with.ensures

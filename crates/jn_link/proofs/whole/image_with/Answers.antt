@@ -10,4 +10,4 @@ returns c =
     let g : Parts = record { alloc = a.alloc; p = a.p; t = a.t; slots = a.s; names = a.names; bodies = a.bodies } in
     IfOk-weaker c.image_by.result (IsMade g a.m.now a.g.now)
     (IsImageBy a.p.now a.t.now a.m.now a.g.now a.s.now a.names.now a.bodies.now)
-    (λ i made few names bytes asked. image_is g a.m.now a.g.now i few names made bytes asked) c.image_by.ensures
+    (λ i made names bytes asked. image_is g a.m.now a.g.now i names made bytes asked) c.image_by.ensures

@@ -1,5 +1,6 @@
-use Rattle.std.proofs.Common.{◌≤◌, ◌+◌, ◌∙◌, [], ◌∷◌, ap, length, arith}
+use Rattle.std.proofs.Common.{◌≤◌, ◌+◌, ◌∙◌, [], ◌∷◌, ap, sym, subst, length, arith}
 use Rattle.std.proofs.lemmas.List.{length-append}
+use Rattle.jn_table.specs.OwnParts.{SaysMethods, SaysFields}
 use Rattle.jn_names.specs.declared.members.MemberRow.{MemberRow}
 use Rattle.jn_names.proofs.MemberSays.{is_member_row, rows_more, rows_all}
 use Rattle.jn_names.proofs.members.Members.build.Goals as goal
@@ -9,13 +10,16 @@ loop-k-init c = record { long = ap length c.new-rows.ensures.items; rows = λ p 
 
 pub loop-k-preserved : goal.loop-k-preserved
 loop-k-preserved c =
-    let row : MemberRow = record { sups = c.in_ok-copied.field-0; methods = c.in_ok-own_methods.field-0; fields = c.in_ok-own_fields.field-0 } in
+    let row : MemberRow = record { sups = c.in_ok-sups.sups; methods = c.in_ok-methods.methods; fields = c.in_ok-fields.fields } in
     record {
       long = ap length c.in_ok-push.ensures.items ∙ (length-append c.loop-k.rows.items (row ∷ []) ∙ ap (λ n. n + 1) c.loop-k.invariant.long);
       rows = λ p i. rows_more p c.args.t.now.known.items c.loop-k.rows.items c.push.new.self.items row (record { 0 = c.loop-k.k }) c.loop-k.invariant.long
           (c.loop-k.invariant.rows p i)
           (λ R n. is_member_row p c.args.t.now R (record { 0 = c.loop-k.k }) row c.row.result.now i n c.row.ensures
-          (c.in_ok-copied.ensures ∙ c.deref.ensures.value) c.in_ok-own_methods.ensures c.in_ok-own_fields.ensures)
+          (c.in_ok-sups.ensures ∙ c.deref.ensures.value)
+          c.deref-in-loop-k.result.now c.deref-in-loop-k-2.result.now
+          (subst (SaysMethods c.args.t.now (record { 0 = c.loop-k.k })) (sym c.deref-in-loop-k.ensures.value) c.in_ok-own_methods.ensures) c.in_ok-methods.ensures
+          (subst (SaysFields c.args.t.now (record { 0 = c.loop-k.k })) (sym c.deref-in-loop-k-2.ensures.value) c.in_ok-own_fields.ensures) c.in_ok-fields.ensures)
           c.in_ok-push.ensures.items;
     }
 

@@ -1,0 +1,4 @@
+pub mod Source
+pub mod Summary
+pub mod Kept
+pub mod Examples
