@@ -56,6 +56,7 @@ but_same a = record { same = refl; pool = keeps_same a.pool }
 pub parts_but : {p : Program} {a b : Env} → ArePartsOf p (parts a) → StaysButVars a b → ArePartsOf p (parts b)
 parts_but {p} {a} {b} h s = subst (ArePartsOf p) (sym s.same) (record {
   once = h.once;
+  well = h.well;
   filled = h.filled;
   shallow = h.shallow;
   members = h.members;

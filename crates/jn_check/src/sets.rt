@@ -5,6 +5,7 @@ ghost use Rattle.jn_base.specs.declared.types.Ty.{Ty as AType};
 ghost use Rattle.jn_base.specs.Scopes.{Scope as AScope};
 ghost use Rattle.jn_intern.specs.Pools.{InPool, shown, scope_in};
 ghost use Rattle.jn_rules.specs.Plans.{Plan};
+ghost use Rattle.jn_rules.specs.Questions.{IsFoundField};
 ghost use Rattle.jn_rules.specs.Exprs.{site_here};
 ghost use Rattle.jn_rules.specs.Stmts.{Before, dropped, set_typed};
 ghost use Rattle.jn_expr.specs.Envs.{ArePartsOf, IsScope, IsThere, Stays, parts, here_at};
@@ -33,14 +34,19 @@ use std::alloc::{AllocError, Global};
 /// that declares it is noted.
 fn field_at(
     alloc: Global,
+    p: &Program,
     env: &mut Env,
     scope: &mut Scope,
     v: Value,
+    f: &Named,
     found: &Declared,
 ) -> Result<TyId, AllocError>
+    requires parts { ArePartsOf p.now (parts env.old) }
     requires scope { IsScope env.old.pool scope.old }
     requires number { InPool env.old.pool v.ty }
     requires fits { TypedFits (typed_in env.old.pool scope.old v) }
+    requires found { IsFoundField p.now (scope_in env.old.pool scope.old) (shown env.old.pool v.ty) f.now.name
+        (found_of found.now) }
     ensures is { IfOk result (λ id. IsFieldAt env.old scope.old v (found_of found.now) env.new scope.new id) }
     ensures stays { Stays env.old env.new }
 {
@@ -98,7 +104,7 @@ fn stored_in(
             f.name,
         )),
         Some(found) => {
-            let id = field_at(alloc, env, scope, v, &found)?;
+            let id = field_at(alloc, p, env, scope, v, f, &found)?;
             Ok(id)
         }
     }

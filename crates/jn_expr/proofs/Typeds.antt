@@ -12,9 +12,10 @@ use Rattle.jn_base.specs.declared.types.Ty.{Ty}
 use Rattle.jn_base.specs.declared.types.Ty.TheVariants as ty
 use Rattle.jn_base.specs.Paths.{Path}
 use Rattle.jn_base.specs.Atoms.{Atom, atoms_in, Among, first, later}
-use Rattle.jn_base.specs.Scopes.{Scope as TypeScope, bound_of, bound, Binds}
-use Rattle.jn_base.specs.Fits.{TypeFits, BindsFit, IsClassType}
+use Rattle.jn_base.specs.Scopes.{Bind as TypeBind, Scope as TypeScope, bound_of, bound, Binds}
+use Rattle.jn_base.specs.Fits.{Anchored, TypeFits, BindsFit}
 use Rattle.jn_base.specs.Resolve.{is_class, newest, var_named}
+use Rattle.jn_sem.specs.Normal.{swapped, MovedFits}
 use Rattle.jn_sem.specs.Terms.{Site}
 use Rattle.jn_sem.proofs.Under.{bound_later, type_later, type_anchored, fits_whole}
 use Rattle.jn_intern.specs.declared.pool.TyId.{TyId}
@@ -24,17 +25,20 @@ use Rattle.jn_intern.specs.Pools.{InPool, shown, Keeps, scope_in}
 use Rattle.jn_intern.proofs.Pools.{scope_kept}
 use Rattle.jn_subtype.specs.Binds.{binds_in}
 use Rattle.jn_laws.specs.LawsOfScopes.{ScopesAlike, none as none_alike, one as one_alike}
-use Rattle.jn_laws.specs.LawsOfWritten.{scope_of, SiteFits}
+use Rattle.jn_laws.specs.LawsOfWritten.{Shallow, scope_of, SiteFits}
+use Rattle.jn_laws.specs.LawsOfSources.{WellFormed}
 use Rattle.jn_laws.proofs.AlikeScopes.{binds_like, bounds_like}
 use Rattle.jn_laws.proofs.Terms.{Mentioned, this, variable, path_there, var_among, reverse_among}
+use Rattle.jn_rules.specs.Plans.{FoundField}
+use Rattle.jn_rules.specs.Questions.{FirstWith, first as first_with, later as later_with, IsFoundField}
 use Rattle.jn_rules.specs.Exprs.{Typed, Passing, bind, next_path, path_or_fresh, plain, of_path, path_type, operator_type, type_passed, is_null_type, site_here}
 use Rattle.jn_rule_laws.specs.LawsOfForms.{Grown, none as none_grown, more as more_grown, ScopeFor, PathKnown}
-use Rattle.jn_rule_laws.proofs.KnownTypes.{bound_older, for_known, path_known, of_path_known, fresh_known}
+use Rattle.jn_rule_laws.proofs.KnownTypes.{path_types_fit, bound_older, for_known, path_known, of_path_known, fresh_known}
 use Rattle.jn_expr.specs.declared.env.Env.{Env}
 use Rattle.jn_expr.specs.declared.env.Value.{Value}
 use Rattle.jn_expr.specs.declared.values.Known.{Known}
 use Rattle.jn_expr.specs.Envs.{IsScope, IsThere, Stays, here_at}
-use Rattle.jn_expr.specs.Passing.{Grows, passing_in}
+use Rattle.jn_expr.specs.Passing.{Grows, IsPassing, passing_in}
 use Rattle.jn_expr.specs.Values.{typed_in, TypedFits}
 use Rattle.jn_expr.specs.Variables.{PathThere, VarFits, IsKnown, KnownIs}
 use Rattle.jn_expr.proofs.Fitting.{not_class}
@@ -244,6 +248,43 @@ found_fits s vs x k (Some v) e i h =
       subst (TypeFits s) (sym i.ty) f.type,
       λ t. subst (PathThere s) (sym i.path) (f.path (sym i.is_path ∙ t)),
     )
+
+-- ---- what is found at a type
+
+found_more : {s : TypeScope} {T : Path → Type 0} {B : Path} (b : TypeBind) (xs : List Atom) → BindsFit (b ∷ s) → ((x : Atom) → Among xs x → Anchored s x.anchor)
+    → FirstWith s T xs B → FirstWith (b ∷ s) T xs B
+found_more b _ f g (first_with {x = x} e t) = first_with (e ∙ sym (bound_later f x (g x first))) t
+found_more {T = T} b _ f g (later_with {x = x} {xs = xs} n w) =
+    later_with (λ t. n (subst T (bound_later f x (g x first)) t)) (found_more b xs f (λ y a. g y (later a)) w)
+
+found_grown : {s t : TypeScope} {T : Path → Type 0} {B : Path} (u : Ty) → Grown s t → BindsFit t → TypeFits s u → FirstWith s T (atoms_in u) B → FirstWith t T (atoms_in u) B
+found_grown u none_grown f k w = w
+found_grown u (more_grown {b = b} g) f k w =
+    found_more b (atoms_in u) f (λ x m. type_anchored (fits_grown g f.0 k) x m) (found_grown u g f.0 k w)
+
+pub field_grown : (p : Program) {s t : TypeScope} (u : Ty) (f : Name) (c : FoundField) → Grown s t → BindsFit t → TypeFits s u → IsFoundField p s u f c → IsFoundField p t u f c
+field_grown p u f c g b k i = record i { at = found_grown u g b k i.at }
+
+-- ---- the path of a value
+
+-- the type and the path that a value is passed with
+pub passed_known : (pool : List Ty) (old new : Scope) (t : Ty) (path : Option ℕ) (q : ℕ) → IsPassing pool old new t path q
+    → (let x : Typed = record { ty = t; path = path; scope = scope_in pool old } in TypedFits x) → PathKnown (scope_in pool new) q t
+passed_known pool old new t (Some r) q i f =
+    subst (λ (y : Passing). PathKnown y.scope y.path t) (sym i.is) (f.path r refl)
+passed_known pool old new t None q i f =
+    subst (λ (y : Passing). PathKnown y.scope y.path t) (sym i.is)
+    (fresh_known (scope_in pool old) (next_path (scope_in pool old)) t (subst BindsFit (ap (λ (y : Passing). y.scope) i.is) i.scope.fits.binds))
+
+-- the declared type of a field, with that path put for `this`, in a later pool
+pub field_put : (p : Program) (p0 p1 : List Ty) (old new : Scope) (t : Ty) (path : Option ℕ) (q : ℕ) (f : Name) (c : FoundField) (u : Ty) → Shallow p → WellFormed p
+    → IsPassing p0 old new t path q → (let x : Typed = record { ty = t; path = path; scope = scope_in p0 old } in TypedFits x)
+    → IsFoundField p (scope_in p0 old) t f c → Keeps p0 p1 → u ≡ c.ty → MovedFits (scope_in p1 new) (swapped (0 ∷ []) (q ∷ [])) u
+field_put p p0 p1 old new t path q f c u deep w i h found k e =
+    subst (MovedFits (scope_in p1 new) (swapped (0 ∷ []) (q ∷ []))) (sym e)
+    (subst (λ (s : TypeScope). MovedFits s (swapped (0 ∷ []) (q ∷ [])) c.ty) (sym (scope_kept new i.scope.known k))
+    ((path_types_fit p).field_moved (scope_in p0 new) t f c q deep w
+    (field_grown p t f c (scope_grown p0 old new i.grows) i.scope.fits.binds h.type found) (passed_known p0 old new t path q i h)))
 
 -- ---- the path of a new object
 

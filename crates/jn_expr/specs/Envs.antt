@@ -23,6 +23,7 @@ use Rattle.jn_share.specs.Groups.{AreGroups}
 use Rattle.jn_share.specs.Slots.{AreSlots}
 use Rattle.jn_sem.specs.Terms.{Site}
 use Rattle.jn_laws.specs.LawsOfWritten.{Shallow, SiteFits}
+use Rattle.jn_laws.specs.LawsOfSources.{WellFormed}
 use Rattle.jn_rules.specs.Exprs.{Here}
 use Rattle.jn_rule_laws.specs.LawsOfForms.{ScopeFor}
 use Rattle.jn_expr.specs.declared.env.Env.{Env}
@@ -50,10 +51,11 @@ parts env = record {
   method = env.method;
 }
 
--- They are those of the program p: no name stands twice in it, the universe is filled in the table, none of its paths has more
--- than 255 names, and members, groups, slots and the names of the masks are those of p.
+-- They are those of the program p: no name stands twice in it, the types of its headers are formed, the universe is filled in the
+-- table, none of its paths has more than 255 names, and members, groups, slots and the names of the masks are those of p.
 pub record ArePartsOf (p : Program) (x : Parts) : Type 0 where
   pub once : duplicates p ≡ []
+  pub well : WellFormed p
   pub filled : IsFilled p x.table
   pub shallow : Shallow p
   pub members : IsMembersOf p x.table x.members

@@ -27,7 +27,7 @@ use crate::marks::note_member;
 use crate::masks::{first_mask, masks_of};
 use crate::members::method_of;
 use crate::operators::is_null;
-use crate::types::{below, path_of, put_in};
+use crate::types::{below, path_of, put_tested};
 use crate::values::is_class;
 use crate::views::plain_of;
 use jn_base::names::Var;
@@ -242,7 +242,7 @@ fn wanted(alloc: Global, pool: &mut Pool, scope: &Scope, call: &Call) -> Result<
         None => Err(AllocError),
         Some(x) => {
             let ty = pool.intern(&x.ty)?;
-            put_in(alloc, pool, scope, ty, &call.from, &call.paths)
+            put_tested(alloc, pool, scope, ty, &call.from, &call.paths)
         }
     }
 }
@@ -314,7 +314,7 @@ pub fn result_of(
     if call.paths.len() > call.from.len() {
         return Err(CheckFault::Memory);
     }
-    let put = put_in(
+    let put = put_tested(
         alloc,
         &mut env.pool,
         scope,

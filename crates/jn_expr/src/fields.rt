@@ -1,10 +1,10 @@
 //! Fields of values.
 
 ghost use Rattle.std.specs.Prelude.{◌≡◌, IfOk};
-ghost use Rattle.jn_base.specs.declared.tree.Program.{Program as AProgram};
 ghost use Rattle.jn_base.specs.Atoms.{atoms_in, first_at};
 ghost use Rattle.jn_base.specs.Scopes.{bound_of};
-ghost use Rattle.jn_intern.specs.Pools.{InPool, ScopeInPool, scope_in};
+ghost use Rattle.jn_intern.specs.Pools.{InPool, ScopeInPool, shown, scope_in};
+ghost use Rattle.jn_rules.specs.Questions.{IsFoundField};
 ghost use Rattle.jn_rules.specs.Exprs.{field_gives, suffix_typed};
 ghost use Rattle.jn_expr.specs.Envs.{ArePartsOf, IsScope, Stays, parts, here_at};
 ghost use Rattle.jn_expr.specs.Found.{found_of};
@@ -72,16 +72,20 @@ pub fn of_receiver(
 /// The value of a field that was found: E19 where it is masked.
 fn read_field(
     alloc: Global,
+    p: &Program,
     env: &mut Env,
     scope: &mut Scope,
     x: Value,
     f: &Named,
     found: &Declared,
 ) -> Result<Value, CheckFault>
+    requires parts { ArePartsOf p.now (parts env.old) }
     requires scope { IsScope env.old.pool scope.old }
     requires number { InPool env.old.pool x.ty }
     requires fits { TypedFits (typed_in env.old.pool scope.old x) }
-    ensures told { (p : AProgram) → ArePartsOf p (parts env.old) → PlanTold p
+    requires found { IsFoundField p.now (scope_in env.old.pool scope.old) (shown env.old.pool x.ty) f.now.name
+        (found_of found.now) }
+    ensures told { PlanTold p.now
         (field_gives f.now (typed_in env.old.pool scope.old x) (found_of found.now))
         (typed_in env.new.pool scope.new) env.old.marks env.new.marks result }
     ensures value { IfOk result (λ v. IsValue env.new.pool scope.old scope.new v) }
@@ -152,6 +156,6 @@ pub fn field_value(
             f.at,
             f.name,
         )),
-        Some(found) => read_field(alloc, env, scope, x, f, &found),
+        Some(found) => read_field(alloc, p, env, scope, x, f, &found),
     }
 }

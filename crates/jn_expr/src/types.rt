@@ -7,6 +7,7 @@ ghost use Rattle.jn_base.specs.Fits.{TypeFits};
 ghost use Rattle.jn_table.specs.Tables.{IsFilled};
 ghost use Rattle.jn_intern.specs.Pools.{InPool, shown, scope_in, Keeps};
 ghost use Rattle.jn_sem.specs.Below.{Below};
+ghost use Rattle.jn_sem.specs.Normal.{swapped, MovedFits};
 ghost use Rattle.jn_sem.specs.NormalFunction.{normal_type};
 ghost use Rattle.jn_subtype.specs.Binds.{binds_in};
 ghost use Rattle.jn_rules.specs.Questions.{Answers};
@@ -55,16 +56,36 @@ pub fn put_in(
     requires number { InPool pool.old t }
     requires scope { IsScope pool.old scope.now }
     requires short { length to.now ≤ length from.now }
+    requires moved { MovedFits (scope_in pool.old scope.now) (swapped from.now to.now) (shown pool.old t) }
     ensures is { IfOk result (λ u. Shows pool.new u
         (put_in (scope_in pool.old scope.now) from.now to.now (shown pool.old t))) }
     ensures fits { IfOk result (λ u. TypeFits (scope_in pool.new scope.now) (shown pool.new u)) }
     ensures keeps { Keeps pool.old pool.new }
 {
-    let front = &from[..to.len()];
-    if !moved_fits(alloc, pool, scope, pool.show(t), front, to)? {
+    subst(alloc, pool, scope, t, &from[..to.len()], to)
+}
+
+/// The same of a type of which it isn't known that it fits with its paths replaced.
+pub fn put_tested(
+    alloc: Global,
+    pool: &mut Pool,
+    scope: &Scope,
+    t: TyId,
+    from: &[u32],
+    to: &[u32],
+) -> Result<TyId, AllocError>
+    requires number { InPool pool.old t }
+    requires scope { IsScope pool.old scope.now }
+    requires short { length to.now ≤ length from.now }
+    ensures is { IfOk result (λ u. Shows pool.new u
+        (put_in (scope_in pool.old scope.now) from.now to.now (shown pool.old t))) }
+    ensures fits { IfOk result (λ u. TypeFits (scope_in pool.new scope.now) (shown pool.new u)) }
+    ensures keeps { Keeps pool.old pool.new }
+{
+    if !moved_fits(alloc, pool, scope, pool.show(t), &from[..to.len()], to)? {
         return Err(AllocError);
     }
-    subst(alloc, pool, scope, t, front, to)
+    put_in(alloc, pool, scope, t, from, to)
 }
 
 /// The type in normal form.

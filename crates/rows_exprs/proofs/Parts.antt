@@ -37,11 +37,12 @@ pub within_limits : (p : Program) (bytes : List ℕ) → IsTextOf p bytes → Is
 within_limits p bytes is = record { source = bytes; spelled = p; same = refl; is_text = is }
 
 -- the parts of a program whose headers pass
-pub are_parts : (p : Program) (t : Table) (h : Headers) (x : Parts) → duplicates p ≡ [] → Shallow p → AreParts p t h → HasParts t h x → ArePartsOf p x
-are_parts p t h x once shallow a e = record {
+pub are_parts : (p : Program) (t : Table) (h : Headers) (x : Parts) → IsWithinLimits p → duplicates p ≡ [] → AreParts p t h → HasParts t h x → ArePartsOf p x
+are_parts p t h x limits once a e = record {
   once = once;
+  well = (programs_within_limits p limits).formed;
   filled = subst (IsFilled p) (sym e.table) a.filled;
-  shallow = shallow;
+  shallow = (programs_within_limits p limits).shallow;
   members = subst (λ (y : Members). IsMembersOf p x.table y) (sym e.members) (subst (λ (u : Table). IsMembersOf p u h.members) (sym e.table) a.members);
   groups = subst (λ (y : Groups). AreGroups p x.table.known.items y) (sym e.groups)
       (subst (λ (u : Table). AreGroups p u.known.items h.groups) (sym e.table) a.groups);
@@ -62,6 +63,7 @@ pub parts_with : (p : Program) (x : Parts) (vs : List Var) → ArePartsOf p x
     → ArePartsOf p (record { table = x.table; members = x.members; groups = x.groups; slots = x.slots; masks = x.masks; vars = vs; class = x.class; method = x.method })
 parts_with p x vs h = record {
   once = h.once;
+  well = h.well;
   filled = h.filled;
   shallow = h.shallow;
   members = h.members;

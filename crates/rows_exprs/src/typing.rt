@@ -8,7 +8,6 @@ ghost use Rattle.jn_heads.specs.Places.{Stands, IsIn};
 ghost use Rattle.jn_expr.specs.Envs.{ArePartsOf, parts};
 ghost use Rattle.rows_exprs.specs.Parting.{HasParts};
 
-use crate::depth::is_shallow;
 use crate::shown::{Answer, put_type, refusal_text};
 use jn_base::names::{Resolved, Vars};
 use jn_base::path::Path;
@@ -92,9 +91,6 @@ fn env_behind_names(
     match check_headers(alloc, p, &mut table, &mut pool) {
         Err(fault) => Err(fault),
         Ok(headers) => {
-            if !is_shallow(&table) {
-                return Err(CheckFault::Memory);
-            }
             Ok(env_with(alloc, table, pool, headers, class, method)?)
         }
     }

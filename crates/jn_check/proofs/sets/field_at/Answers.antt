@@ -3,6 +3,9 @@ use Rattle.jn_intern.proofs.Pools.{keeps_more, scope_kept}
 use Rattle.jn_rules.specs.Exprs.{Passing}
 use Rattle.jn_expr.proofs.Scopes.{scope_stays}
 use Rattle.jn_expr.proofs.FieldSteps.{put_is}
+use Rattle.jn_intern.specs.Pools.{shown}
+use Rattle.jn_expr.specs.Found.{found_of}
+use Rattle.jn_expr.proofs.Typeds.{field_put}
 use Rattle.jn_check.proofs.sets.field_at.Goals as goal
 
 pub put_in-requires-clause-scope : goal.put_in-requires-clause-scope
@@ -26,3 +29,9 @@ returns-clause-stays c = record { same = refl; pool = keeps_more c.in_ok-ty.ensu
 
 pub path_of-requires-clause-fits : goal.path_of-requires-clause-fits
 path_of-requires-clause-fits c = c.requires.fits.type
+
+pub put_in-requires-clause-moved : goal.put_in-requires-clause-moved
+put_in-requires-clause-moved c =
+    field_put c.args.p.now c.args.env.now.pool c.intern.new.self c.args.scope.now c.path_of.new.scope (shown c.args.env.now.pool c.args.v.ty) c.args.v.path c.in_ok-path.path
+    c.args.f.now.name (found_of c.args.found.now) _ c.requires.parts.shallow c.requires.parts.well c.in_ok-path.ensures c.requires.fits c.requires.found c.in_ok-ty.ensures.keeps
+    c.in_ok-ty.ensures.shows.1
