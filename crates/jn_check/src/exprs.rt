@@ -80,14 +80,7 @@ pub fn check_below(
     match value_of(alloc, p, class, m, env, scope, e) {
         Err(fault) => Err(fault),
         Ok(v) => {
-            if !below(
-                &mut env.judge,
-                &mut env.pool,
-                &env.table,
-                scope,
-                v.ty,
-                ty,
-            )? {
+            if !below(&mut env.judge, &mut env.pool, &env.table, scope, v.ty, ty)? {
                 return Err(refused(alloc, Rule::E18, e.at, class, m.name.name));
             }
             scope.binds.truncate(count);

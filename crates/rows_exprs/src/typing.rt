@@ -90,9 +90,7 @@ fn env_behind_names(
     let mut pool = Pool::new(alloc)?;
     match check_headers(alloc, p, &mut table, &mut pool) {
         Err(fault) => Err(fault),
-        Ok(headers) => {
-            Ok(env_with(alloc, table, pool, headers, class, method)?)
-        }
+        Ok(headers) => { Ok(env_with(alloc, table, pool, headers, class, method)?) }
     }
 }
 
