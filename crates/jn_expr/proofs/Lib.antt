@@ -16,6 +16,7 @@ pub mod Making
 pub mod NewSteps
 pub mod SuperSteps
 pub mod Walking
+pub mod Sizes
 pub mod WalkForms
 pub mod WalkSteps
 pub mod WalkCalls

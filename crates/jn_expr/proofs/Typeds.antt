@@ -263,7 +263,7 @@ found_grown u (more_grown {b = b} g) f k w =
     found_more b (atoms_in u) f (λ x m. type_anchored (fits_grown g f.0 k) x m) (found_grown u g f.0 k w)
 
 pub field_grown : (p : Program) {s t : TypeScope} (u : Ty) (f : Name) (c : FoundField) → Grown s t → BindsFit t → TypeFits s u → IsFoundField p s u f c → IsFoundField p t u f c
-field_grown p u f c g b k i = record i { at = found_grown u g b k i.at }
+field_grown p u f c g b k i = record { bound = i.bound; at = found_grown u g b k i.at; type = i.type; class = i.class }
 
 -- ---- the path of a value
 

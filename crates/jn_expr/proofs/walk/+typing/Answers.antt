@@ -36,6 +36,7 @@ use Rattle.jn_expr.proofs.WalkSteps.{view_fault, view_value_fault, view_told, li
 use Rattle.jn_expr.proofs.WalkCalls.{args_count, passed_none, passed_more, passed_behind, call_stays, header_stays, args_refused, args_went, result_at, begun_fault, begun_told, made_none, made_some, made_at, one_arg_at, got_at}
 use Rattle.jn_expr.proofs.WalkSupers.{owner_fault, owner_told}
 use Rattle.jn_expr.proofs.Typeds.{truth_fits, number_fits, no_object_fits, typed_later, this_there, vars_there, stays_there}
+use Rattle.jn_expr.proofs.Sizes.{post_below, chain_below}
 use Rattle.jn_expr.proofs.walk.+typing.Goals as goal
 
 pub type_not-invert-requires-clause-scope : goal.type_not-invert-requires-clause-scope
@@ -604,10 +605,44 @@ value_of-returns-in-Ok-value_of-clause-stays t c =
 
 pub value_of-type_parts-requires : goal.value_of-type_parts-requires
 value_of-type_parts-requires t c =
-    let THERE = stays_there c.args.p.now c.args.class.now c.args.m.now c.requires.there c.in-Ok.ensures.stays c.requires.scope c.in-Ok.ensures.value.grows c.in-Ok.ensures.value.scope in
-    (search rules, (parts_stay c.requires.parts c.in-Ok.ensures.stays, (c.in-Ok.ensures.value.scope, (THERE, (c.in-Ok.ensures.value.number, c.in-Ok.ensures.value.fits)))))
+    let M = post_below c.args.e.now c.in-Post.first c.in-Post.suffixes c.as_slice-in-Ok.result.now c.in-Post.is c.as_slice-in-Ok.ensures in (
+      omega (arith, M, c.decreases),
+      (
+        parts_stay c.requires.parts c.in-Ok.ensures.stays,
+        (
+          c.in-Ok.ensures.value.scope,
+          (
+            stays_there c.args.p.now c.args.class.now c.args.m.now c.requires.there c.in-Ok.ensures.stays c.requires.scope c.in-Ok.ensures.value.grows c.in-Ok.ensures.value.scope,
+            (c.in-Ok.ensures.value.number, c.in-Ok.ensures.value.fits),
+          ),
+        ),
+      ),
+    )
 
 pub value_of-type_links-requires : goal.value_of-type_links-requires
 value_of-type_links-requires t c =
-    let THERE = stays_there c.args.p.now c.args.class.now c.args.m.now c.requires.there c.in-Ok-value_of.ensures.stays c.requires.scope c.in-Ok-value_of.ensures.value.grows c.in-Ok-value_of.ensures.value.scope in
-    (search rules, (parts_stay c.requires.parts c.in-Ok-value_of.ensures.stays, (c.in-Ok-value_of.ensures.value.scope, (THERE, (c.in-Ok-value_of.ensures.value.number, c.in-Ok-value_of.ensures.value.fits)))))
+    let M = chain_below c.args.e.now c.in-Chain.field-0 c.in-Chain.first c.in-Chain.links c.as_slice-in-Ok-value_of.result.now c.in-Chain.is c.as_slice-in-Ok-value_of.ensures in (
+      omega (arith, M, c.decreases),
+      (
+        parts_stay c.requires.parts c.in-Ok-value_of.ensures.stays,
+        (
+          c.in-Ok-value_of.ensures.value.scope,
+          (
+            stays_there c.args.p.now c.args.class.now c.args.m.now c.requires.there c.in-Ok-value_of.ensures.stays c.requires.scope c.in-Ok-value_of.ensures.value.grows c.in-Ok-value_of.ensures.value.scope,
+            (c.in-Ok-value_of.ensures.value.number, c.in-Ok-value_of.ensures.value.fits),
+          ),
+        ),
+      ),
+    )
+
+pub type_super-begin_super-requires-clause-this : goal.type_super-begin_super-requires-clause-this
+type_super-begin_super-requires-clause-this t c =
+    this_there c.args.p.now (site_here (here_at c.args.class.now c.args.m.now c.args.env.now.vars.list)) (scope_in c.args.env.now.pool c.args.scope.now) c.requires.there
+
+pub value_of-path_value-requires-clause-there : goal.value_of-path_value-requires-clause-there
+value_of-path_value-requires-clause-there t c =
+    this_there c.args.p.now (site_here (here_at c.args.class.now c.args.m.now c.args.env.now.vars.list)) (scope_in c.args.env.now.pool c.args.scope.now) c.requires.there
+
+pub value_of-variable-requires-clause-vars : goal.value_of-variable-requires-clause-vars
+value_of-variable-requires-clause-vars t c =
+    vars_there c.args.p.now (site_here (here_at c.args.class.now c.args.m.now c.args.env.now.vars.list)) (scope_in c.args.env.now.pool c.args.scope.now) c.requires.there
