@@ -37,6 +37,7 @@ use Rattle.jn_sem.specs.Terms.{spot_at, vars_at, TermIs}
 use Rattle.jn_sem.specs.Does.{Body, IsBody, IsConstructorBody}
 use Rattle.jn_rules.specs.Plans.{Mark, AtomMark, MemberMark, KindMark, OfTerm, OfConstructor, Plan, note, then_do, wants}
 use Rattle.jn_rules.specs.Questions.{Means, Finds, Gives, Notes}
+use Rattle.jn_rules.specs.Resolved.{member_marked}
 use Rattle.jn_rules.specs.Headers.{scope_of, Header, header_typed}
 use Rattle.jn_rules.specs.Exprs.{Here, site_here, Typed, Passed, in_method, gives, replaced_paths, as_many, call_typed, made_exact, of_new, fresh_with, made_with, made_by, new_typed, expr_types}
 use Rattle.jn_rules.specs.Forms.{typed_args, typed_expr}
@@ -60,7 +61,7 @@ use Rattle.jn_lower.specs.Selecting.{shape_of, method_sel}
 use Rattle.jn_lower.specs.Selecting as selecting
 use Rattle.jn_lower.specs.Told.{IsCallee}
 use Rattle.jn_lower.specs.Lowering.{PartsAre}
-use Rattle.jn_lower.specs.Making.{IsThis, IsLast, Constructs, ConstructsNot, ByMark, MadeWith, by, without, MadeBy, MadeOf}
+use Rattle.jn_lower.specs.Making.{IsThis, IsLast, Constructs, ConstructsNot, ByMark, MadeWith, by, without, unmarked, MadeBy, MadeOf}
 use Rattle.jn_lower.specs.Walks.{Ready, Done, LowersArgs, LowersNodeAs}
 use Rattle.jn_lower.proofs.Growing.{means}
 use Rattle.jn_lower.proofs.Calling.{new_so}
@@ -295,6 +296,21 @@ module _ (g : Parts) (u : Term) (es : List Expr) (keeps : Bool) (pl : Place) (n 
       absurd (so parts.filled sc (this_is g h sc ready.class (own_bound g scratch h sc w0 ready))
       (made_class g scratch h sc w0 u a ready is)
       (b.class, (body_of g.p.now sc (atom_of a) C last.0 b last.1 cons).least.among))
+  by_either rest ms z (Some b) cons noted ready ahead (unmarked empty none stays found) =
+      let F = fresh_with (normal_type sc (made_exact (atom_of a))) sc in
+      let T = normal_type sc (made_exact (atom_of a)) in
+      let hd = then_noted (header_typed b) (made_by h pl (typed_args h es) sc T b) ms z noted in
+      let k = hd.first in
+      let w = wants_noted (as_many k (typed_args h es)) (in_method rule.E17 h pl)
+      (note (MemberMark b.class) (then_do (call_typed h k (typed_args h es) F) (λ v. gives (of_new T F v.scope)))) hd.after z hd.then in
+      let all : ms ≡ MemberMark b.class ∷ w.then.0 =
+      hd.all ∙ ap (λ (l : List Mark). l ++ hd.after) (header_silent g.p.now b hd.before k hd.noted) ∙ w.then.1 in
+      let body = body_of g.p.now sc (atom_of a) C last.0 b last.1 cons in
+      absurd (none (shown b.class) (member_marked (w.then.0 ++ rest))
+      (ahead.members ∙ ap (λ (l : List Mark). member_marked (l ++ rest)) all) b.method
+      (method_there g.p.now b (shown b.class) C refl body.at))
+  by_either rest ms z None none noted ready ahead (unmarked empty clear stays found) =
+      by_none rest ms z none noted ready ahead empty stays found
   by_either rest ms z None none noted ready ahead (by so m) =
       let w = wants_noted (nat_eq (length (typed_args h es)) 0) (in_method rule.E17 h pl)
       (gives (of_new (normal_type sc (made_exact (atom_of a))) (fresh_with (normal_type sc (made_exact (atom_of a))) sc)

@@ -1,5 +1,5 @@
 -- What all classes of one last name have.
-use Rattle.std.proofs.Common.{◌≡◌, ◌<◌, ◌↔◌, IsTrue, ℕ, List, [], ◌∷◌, ◌++◌, reverse, Bool, true, false, All, Some, refl, sym, ap, ◌∙◌, subst}
+use Rattle.std.proofs.Common.{◌≡◌, ◌<◌, ◌↔◌, IsTrue, ℕ, List, [], ◌∷◌, ◌++◌, reverse, Bool, true, false, All, Option, Some, None, refl, sym, ap, ◌∙◌, subst}
 use Rattle.std.specs.Prelude.{slice_get}
 use Rattle.std.proofs.lemmas.List.{reverse-reverse}
 use Rattle.std.proofs.lemmas.List.Elements.{All-get_or}
@@ -17,8 +17,8 @@ use Rattle.jn_table.specs.Tables.{IsFilled}
 use Rattle.jn_sem.specs.Sharing.{IsClass}
 use Rattle.jn_lower.specs.declared.walk.Parts.{Parts}
 use Rattle.jn_lower.specs.Selecting.{HeadIs}
-use Rattle.jn_lower.specs.Alike.{Says, SaysAt, AllSay}
-use Rattle.jn_lower.specs.Making.{IsLast, SaysConstructs}
+use Rattle.jn_lower.specs.Alike.{Says, SaysAt, AllSay, AllSayOf}
+use Rattle.jn_lower.specs.Making.{IsLast, SaysConstructs, SaysOf}
 use Rattle.jn_lower.proofs.CtorCodes.{same_head}
 use Rattle.jn_lower.proofs.Seen.{unlike}
 use Rattle.jn_lower.proofs.Making.{ends_so}
@@ -64,6 +64,11 @@ says_so g x C told last all = record {
       (all g.p.now P filled (subst (λ (R : Path). IsClass g.p.now R) b class))
       (subst (λ (R : Path). HasMethod g.p.now R C) b has);
 }
+
+pub says_of : (g : Parts) (x : ShownAtom) (C : Name) (told : Option Bool) → IsLast x C → AllSayOf g.t.now C told
+    → SaysOf g x C told
+says_of g x C (Some told) last all = says_so g x C told last all
+says_of g x C None last all = tt
 
 -- what is told of a path is what is asked of it
 pub says_as : (p : Program) (R : Path) (C : Name) (told has : Bool) → told ≡ has → IsTrue told ↔ HasMethod p R C

@@ -1,5 +1,5 @@
 -- Classes of one last name that all have a constructor, or all have none.
-use Rattle.std.specs.Prelude.{◌≡◌, ◌∷◌, reverse, Bool, true, false}
+use Rattle.std.specs.Prelude.{◌≡◌, ◌∷◌, reverse, Bool, true, false, Option, Some, None}
 use Rattle.jn_base.specs.declared.tree.Name.{Name}
 use Rattle.jn_base.specs.declared.tree.Program.{Program}
 use Rattle.jn_base.specs.declared.path.Path.{Path as ShownPath}
@@ -23,5 +23,10 @@ SaysAt t C has q = (p : Program) (P : Path) → IsFilled p t → q.names ≡ rev
 abbrev pub AllSay : Table → Name → Bool → Type 0
 AllSay t C has = (p : Program) (P : Path) → IsFilled p t → IsClass p (C ∷ P) → Says p (C ∷ P) C has
 
--- Example: where a.C and b.C both declare `C() { }`, all classes of the name C have a constructor, and so whatever `new`
--- makes by the name C has one.
+-- all have one, all have none, or nothing is said
+abbrev pub AllSayOf : Table → Name → Option Bool → Type 0
+AllSayOf t C (Some has) = AllSay t C has
+AllSayOf t C None = Unit {0}
+
+-- Example: where a.C and b.C both declare `void C() { }`, all classes of the name C have a constructor, and so whatever
+-- `new` makes by the name C has one.

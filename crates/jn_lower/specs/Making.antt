@@ -1,5 +1,5 @@
 -- What a walk does at `new` and at `super`.
-use Rattle.std.specs.Prelude.{◌≡◌, ◌++◌, ℕ, List, [], ◌∷◌, length, reverse, Bool, true, false, Option, Some, slice_get}
+use Rattle.std.specs.Prelude.{◌≡◌, ◌++◌, ℕ, List, [], ◌∷◌, length, reverse, Bool, true, false, Option, Some, None, slice_get}
 use Rattle.jn_base.specs.declared.tree.Name.{Name}
 use Rattle.jn_base.specs.declared.tree.Method.{Method}
 use Rattle.jn_base.specs.declared.types.Anchor.{Anchor}
@@ -64,6 +64,17 @@ pub record SaysConstructs (g : Parts) (x : ShownAtom) (C : Name) (told : Bool) :
   pub yes : told ≡ true → Constructs g x C
   pub no : told ≡ false → ConstructsNot g x C
 
+-- or nothing is said
+abbrev pub SaysOf : Parts → ShownAtom → Name → Option Bool → Type 0
+SaysOf g x C (Some told) = SaysConstructs g x C told
+SaysOf g x C None = Unit {0}
+
+-- no class with a method of the name C is marked next
+abbrev pub Unmarked : Parts → Name → Marks → Type 0
+Unmarked g C marks =
+    (R : ShownPath) (Rs : List ShownPath) → marks.members.now ≡ R ∷ Rs → (m : Method)
+    → MethodAt g.p.now (reverse R.names) C m → ⊥
+
 -- the constructor that the marked class declares, with so many parameters
 pub record ByMark (g : Parts) (x : ShownAtom) (C : Name) (count : ℕ) (ctor : Option ℕ) (old new : Walk) : Type 0 where
   pub path : ShownPath
@@ -75,10 +86,14 @@ pub record ByMark (g : Parts) (x : ShownAtom) (C : Name) (count : ℕ) (ctor : O
   pub out : new.out ≡ old.out
 
 -- The constructor by which an object of the atom's class is made from so many arguments: where there are some, or the
--- class has a constructor, that of the mark. Else whichever constructor without parameters some class of the name has.
+-- class has a constructor, that of the mark. Else, as where no mark of a constructor is next, whichever constructor
+-- without parameters some class of the name has.
 pub data MadeWith (g : Parts) (x : ShownAtom) (C : Name) (count : ℕ) (ctor : Option ℕ) (old new : Walk) : Type 0 where
   by : (count ≡ 0 → Constructs g x C) → ByMark g x C count ctor old new → MadeWith g x C count ctor old new
   without : count ≡ 0 → ConstructsNot g x C → new ≡ old
+      → ((n : Naming) → n.methods ≡ g.names.now.methods → IsCtorOf n (atom_of x) [] ctor)
+      → MadeWith g x C count ctor old new
+  unmarked : count ≡ 0 → Unmarked g C old.marks → new ≡ old
       → ((n : Naming) → n.methods ≡ g.names.now.methods → IsCtorOf n (atom_of x) [] ctor)
       → MadeWith g x C count ctor old new
 

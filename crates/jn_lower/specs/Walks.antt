@@ -158,9 +158,9 @@ pub record BindsWritten (fixed : Bool) (tt : TypeTerm) (q : ℕ) (old new : Walk
 abbrev pub Low : Scope → Scope → Type 0
 Low s t = (q : ℕ) → q < 256 → bound_of t q ≡ bound_of s q
 
--- The body stands in the class that is told. Local 0 is a reference; the local of each variable in scope has the kind of
--- its type, none is `void`, and none has the number of `this`, or of a fresh path. Paths have the bounds that they have
--- where terms are resolved.
+-- The body stands in the class that is told. Local 0 is a reference; the local of each variable in scope has the kind
+-- of its type, none is `void`, and none has the number of `this`, or of a fresh path. Paths have the bounds that they
+-- have where terms are resolved.
 pub record Ready (g : Parts) (scratch : ℕ) (h : Here) (sc : Scope) (w : Walk) : Type 0 where
   pub class : g.class.now ≡ shown h.class
   pub above : w.out.locals.scratch ≡ scratch

@@ -3,7 +3,7 @@ ghost use Rattle.jn_base.specs.declared.tree.Program.{Program as AProgram};
 ghost use Rattle.jn_base.specs.Paths.{Path as APath};
 ghost use Rattle.jn_table.specs.Tables.{IsFilled};
 ghost use Rattle.jn_sem.specs.Sharing.{IsClass};
-ghost use Rattle.jn_lower.specs.Alike.{Says, SaysAt, AllSay};
+ghost use Rattle.jn_lower.specs.Alike.{Says, SaysAt, AllSay, AllSayOf};
 
 use crate::members::has_method;
 use crate::selecting::last_of;
@@ -89,16 +89,15 @@ fn all_say(alloc: Global, t: &Table, name: Name, has: bool) -> Result<bool, Allo
     each_says(alloc, t, t.known(), name, has)
 }
 
-/// Whether the classes of that last name have a constructor. Where some have one and others none, it is refused for want
-/// of memory.
-pub fn named_construct(alloc: Global, t: &Table, name: Name) -> Result<bool, AllocError>
-    ensures { IfOk result (AllSay t.now name) }
+/// Whether the classes of that last name have a constructor: all of them, or none, and nothing where they differ.
+pub fn named_construct(alloc: Global, t: &Table, name: Name) -> Result<Option<bool>, AllocError>
+    ensures { IfOk result (AllSayOf t.now name) }
 {
     if all_say(alloc, t, name, true)? {
-        return Ok(true);
+        return Ok(Some(true));
     }
     if all_say(alloc, t, name, false)? {
-        return Ok(false);
+        return Ok(Some(false));
     }
-    Err(AllocError)
+    Ok(None)
 }

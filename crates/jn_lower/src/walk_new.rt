@@ -1,12 +1,13 @@
-ghost use Rattle.std.specs.Prelude.{◌≡◌, ◌↔◌, IsTrue, IfOk, OnOk};
+ghost use Rattle.std.specs.Prelude.{◌≡◌, false, IfOk, OnOk};
 ghost use Rattle.jn_base.specs.declared.tree.Name.{Name as AName};
-ghost use Rattle.jn_lower.specs.Making.{SaysConstructs, ByMark, MadeWith, MadeBy, MadeOf, IsLast};
+ghost use Rattle.jn_lower.specs.Making.{SaysConstructs, SaysOf, Unmarked, ByMark, MadeWith, MadeBy, MadeOf, IsLast};
 ghost use Rattle.jn_lower.specs.Walks.{NoneTwice};
 
 use crate::bounds::class_bound;
 use crate::calls::make;
 use crate::classes::class_of;
-use crate::members::{constructor_at, has_method};
+use crate::cursor::Marks;
+use crate::members::{constructor_at, has_method, method_at};
 use crate::named_classes::named_construct;
 use crate::selecting::{constructor_number, name_of};
 use crate::walk::{Parts, Walk, had};
@@ -14,8 +15,8 @@ use jn_base::tree::Name;
 use jn_base::types::{Anchor, Atom};
 use std::alloc::AllocError;
 
-/// Whether the class of the atom, by its bound, has a method of that name. One that isn't in the table, which no checked
-/// body makes, is refused for want of memory.
+/// Whether the class of the atom, by its bound, has a method of that name. One that isn't in the table, which no
+/// checked body makes, is refused for want of memory.
 fn bound_constructs(g: &Parts, x: &Atom, name: Name) -> Result<bool, AllocError>
     ensures { IfOk result (SaysConstructs g.now x.now name) }
 {
@@ -26,29 +27,51 @@ fn bound_constructs(g: &Parts, x: &Atom, name: Name) -> Result<bool, AllocError>
     }
 }
 
+/// The same as an answer that may be none.
+fn own_constructs(g: &Parts, x: &Atom, name: Name) -> Result<Option<bool>, AllocError>
+    ensures { IfOk result (SaysOf g.now x.now name) }
+{
+    let told = bound_constructs(g, x, name)?;
+    Ok(Some(told))
+}
+
 /// The same by its last name, which the atom has.
-fn name_constructs(g: &Parts, x: &Atom, name: Name) -> Result<bool, AllocError>
+fn name_constructs(g: &Parts, x: &Atom, name: Name) -> Result<Option<bool>, AllocError>
     requires { IsLast x.now name }
-    ensures { IfOk result (SaysConstructs g.now x.now name) }
+    ensures { IfOk result (SaysOf g.now x.now name) }
 {
     named_construct(g.alloc, g.t, name)
 }
 
 /// Whether the class of the atom, whose last name that is, has a constructor. Where it hangs on a variable, and some
-/// classes of the name have one and others none, it is refused for want of memory.
-fn constructs(g: &Parts, x: &Atom, name: Name) -> Result<bool, AllocError>
+/// classes of the name have one and others none, nothing is told.
+fn constructs(g: &Parts, x: &Atom, name: Name) -> Result<Option<bool>, AllocError>
     requires { IsLast x.now name }
-    ensures { IfOk result (SaysConstructs g.now x.now name) }
+    ensures { IfOk result (SaysOf g.now x.now name) }
 {
     match x.anchor {
-        Anchor::Root => bound_constructs(g, x, name),
+        Anchor::Root => own_constructs(g, x, name),
         Anchor::Up(q, _) => {
             if q == 0 {
-                bound_constructs(g, x, name)
+                own_constructs(g, x, name)
             } else {
                 name_constructs(g, x, name)
             }
         }
+    }
+}
+
+/// Whether a class that declares a method of that name is marked next.
+fn is_marked(g: &Parts, marks: &Marks, name: Name) -> bool
+    requires { NoneTwice g.now }
+    ensures { result ≡ false → Unmarked g.now name marks.now }
+{
+    match marks.members {
+        [] => false,
+        [first, ..] => match method_at(g.p, first, name) {
+            None => false,
+            Some(_) => true,
+        },
     }
 }
 
@@ -70,7 +93,33 @@ fn by_mark(g: &Parts, w: &mut Walk, x: &Atom, count: usize) -> Result<Option<u32
     }
 }
 
-/// The number of the constructor of the atom's class, whose last name that is, for so many arguments.
+/// The number of the constructor for no argument, where the class of the atom may have one or none: that of the name.
+/// Where a class that declares one is marked next, it is refused for want of memory.
+fn made_unmarked(g: &Parts, w: &mut Walk, x: &Atom, name: Name) -> Result<Option<u32>, AllocError>
+    requires { NoneTwice g.now }
+    ensures { IfOk result (λ ctor. MadeWith g.now x.now name 0 ctor w.old w.new) }
+{
+    let marked = is_marked(g, &w.marks, name);
+    if marked {
+        return Err(AllocError);
+    }
+    constructor_number(g.names.methods.as_slice(), x, &[])
+}
+
+/// The number of the constructor of the atom's class, whose last name that is, for no argument.
+fn made_alone(g: &Parts, w: &mut Walk, x: &Atom, name: Name) -> Result<Option<u32>, AllocError>
+    requires twice { NoneTwice g.now }
+    requires last { IsLast x.now name }
+    ensures { IfOk result (λ ctor. MadeWith g.now x.now name 0 ctor w.old w.new) }
+{
+    match constructs(g, x, name)? {
+        Some(true) => by_mark(g, w, x, 0),
+        Some(false) => constructor_number(g.names.methods.as_slice(), x, &[]),
+        None => made_unmarked(g, w, x, name),
+    }
+}
+
+/// The same for so many arguments.
 fn made_with(
     g: &Parts,
     w: &mut Walk,
@@ -82,14 +131,10 @@ fn made_with(
     requires last { IsLast x.now name }
     ensures { IfOk result (λ ctor. MadeWith g.now x.now name count ctor w.old w.new) }
 {
-    if count > 0 {
-        return by_mark(g, w, x, count);
-    }
-    let has = constructs(g, x, name)?;
-    if has {
-        by_mark(g, w, x, count)
+    if count == 0 {
+        made_alone(g, w, x, name)
     } else {
-        constructor_number(g.names.methods.as_slice(), x, &[])
+        by_mark(g, w, x, count)
     }
 }
 

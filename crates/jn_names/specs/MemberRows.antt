@@ -48,6 +48,18 @@ pub record FirstLowRow (rows : List MemberRow) (sups : List ClassId) (m : Name) 
   pub is : IsLowRow rows sups m but a
   pub before : PassedTo rows sups m but place
 
+-- one of the numbers, which has the method
+abbrev pub IsOneRow : List MemberRow → List ClassId → Name → ClassId → Type 0
+IsOneRow rows sups m a = Contains sups a × MethodAtRow rows m a
+
+-- if s has the method, it is a, or a stands below it
+abbrev pub AboveRow : List MemberRow → Name → ClassId → ClassId → Type 0
+AboveRow rows m a s = MethodAtRow rows m s → (s ≡ a) ⊎ SupAtRow rows a s
+
+-- so the first n of the numbers
+abbrev pub AboveTo : List MemberRow → List ClassId → Name → ClassId → ℕ → Type 0
+AboveTo rows sups m a n = (k : ℕ) (s : ClassId) → k < n → slice_get sups k ≡ Some s → AboveRow rows m a s
+
 -- if s has the field, it is `but`
 abbrev pub FieldlessRow : List MemberRow → Name → Option ClassId → ClassId → Type 0
 FieldlessRow rows f but s = FieldAtRow rows f s → but ≡ Some s

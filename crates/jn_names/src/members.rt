@@ -1,7 +1,9 @@
-ghost use Rattle.std.specs.Prelude.{◌≡◌, ◌↔◌, false, Contains, Some, IsTrue, IfOk, MatchOption, length};
+ghost use Rattle.std.specs.Prelude.{◌≡◌, ◌↔◌, false, Contains, Some, IsTrue, IfOk, IfSome, MatchOption, length};
 ghost use Rattle.jn_base.specs.TableRules.{IsCycle, NoneIs};
 ghost use Rattle.jn_table.specs.Tables.{IsFilled};
-ghost use Rattle.jn_names.specs.MemberRows.{MethodAtRow, FieldAtRow, SupAtRow, LowerRow, HasLowerRow, PassedRow, PassedTo, IsLowRow, FirstLowRow, FieldlessRow, FieldlessTo, IsFieldRow, FirstFieldRow, LeastRow, FieldRow};
+ghost use Rattle.jn_table.specs.declared.class.ClassId.{ClassId as AClassId};
+ghost use Rattle.jn_names.specs.declared.members.Least.TheVariants as least;
+ghost use Rattle.jn_names.specs.MemberRows.{MethodAtRow, FieldAtRow, SupAtRow, LowerRow, HasLowerRow, PassedRow, PassedTo, IsLowRow, FirstLowRow, FieldlessRow, FieldlessTo, IsFieldRow, FirstFieldRow, LeastRow, FieldRow, IsOneRow, AboveRow, AboveTo};
 
 use crate::name_set::{is_in_set, name_set};
 use indexmap::IndexSet;
@@ -179,8 +181,83 @@ fn first_field(
     None
 }
 
-/// The least one of the numbers that have the method, or the first two that have none below.
+/// Whether the number stands below the one before it, where there is one.
+fn is_lower_yet(rows: &[MemberRow], low: Option<ClassId>, s: ClassId) -> bool
+    ensures { (a : AClassId) → low ≡ Some a → IsTrue result ↔ SupAtRow rows.now s a }
+{
+    match low {
+        None => true,
+        Some(a) => has_sup(rows, s, a),
+    }
+}
+
+/// Whether the number has the method and stands below the one before it, where there is one.
+fn goes_down(rows: &[MemberRow], m: Name, low: Option<ClassId>, s: ClassId) -> bool
+    ensures { IsTrue result → MethodAtRow rows.now m s }
+{
+    has_method(rows, m, s) && is_lower_yet(rows, low, s)
+}
+
+/// One of the numbers that have the method: where one stands below all others, that one.
+fn lowest(rows: &[MemberRow], sups: &[ClassId], m: Name) -> Option<ClassId>
+    ensures { IfSome result (IsOneRow rows.now sups.now m) }
+{
+    let mut low = None;
+    for s in sups {
+        if goes_down(rows, m, low, *s) {
+            low = Some(*s);
+        }
+    }
+    low
+}
+
+/// Whether the number hasn't the method, or is `a`, or `a` stands below it.
+fn is_above(rows: &[MemberRow], m: Name, a: ClassId, s: ClassId) -> bool
+    ensures { IsTrue result → AboveRow rows.now m a s }
+{
+    if !has_method(rows, m, s) {
+        return true;
+    }
+    is_class(s, a) || has_sup(rows, a, s)
+}
+
+/// Whether `a` stands below all others of the numbers that have the method.
+fn are_above(rows: &[MemberRow], sups: &[ClassId], m: Name, a: ClassId) -> bool
+    ensures { IsTrue result → AboveTo rows.now sups.now m a (length sups.now) }
+{
+    for s in sups {
+        if !is_above(rows, m, a, *s) {
+            return false;
+        }
+    }
+    true
+}
+
+/// Whether `a` has none below, and stands below all others of the numbers that have the method.
+fn is_least(rows: &[MemberRow], sups: &[ClassId], m: Name, a: ClassId) -> bool
+    ensures { IsTrue result → IsOneRow rows.now sups.now m a → LeastRow rows.now sups.now m (least.One a) }
+{
+    are_above(rows, sups, m, a) && !has_lower(rows, sups, m, a)
+}
+
+/// The least one of the numbers that have the method, or the first two that have none below. The least one is found
+/// by walks over the numbers; only where there is none, each is asked for another below.
 fn least_of(rows: &[MemberRow], sups: &[ClassId], m: Name) -> Least
+    ensures { LeastRow rows.now sups.now m result }
+{
+    match lowest(rows, sups, m) {
+        None => low_ones(rows, sups, m),
+        Some(a) => {
+            if is_least(rows, sups, m, a) {
+                return Least::One(a);
+            }
+            low_ones(rows, sups, m)
+        }
+    }
+}
+
+/// The same, of which each number that has the method is asked for another below.
+fn low_ones(rows: &[MemberRow], sups: &[ClassId], m: Name) -> Least
     ensures { LeastRow rows.now sups.now m result }
 {
     match first_low(rows, sups, m, None) {

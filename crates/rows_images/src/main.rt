@@ -1,14 +1,16 @@
-//! Rows of images: reads the files of cases that its words name, makes the image of each case's source, writes it, reads it back
-//! and verifies it. Its last lines count the cases and those that differ.
+//! Rows of images: reads the files of cases that its words name, makes the image of each case's source, writes it,
+//! reads it back and verifies it. Its last lines count the cases and those that differ.
 //!
-//! With the job `code` a case wants the code of the body `of`, as `Main.m`, or of the `start`: its instructions, each with its
-//! operand behind a colon; and where it says them `params`, `locals`, `result` and `stack`. A class stands as its path, a method as
-//! its name with the kinds of its parameters and its result, a field as its name with its kind.
+//! With the job `code` a case wants the code of the body `of`, as `Main.m`, or of the `start`: its instructions, each
+//! with its operand behind a colon; and where it says them `params`, `locals`, `result` and `stack`. A class stands
+//! as its path, a method as its name with the kinds of its parameters and its result, a field as its name with its
+//! kind.
 //!
-//! With the job `run` each text of `runs` has the cells of the arena, the greatest depth, the steps, the halt, and how many lines of
-//! `out` come: the machine runs the image so, and the program's meaning has to agree, also for each number of steps up to the last
-//! number of `sweep`, within the arena and the depth before it. With the job `ratio` it tells how many instructions the image takes
-//! for how many charges. With `family` a family of packages stands before the source.
+//! With the job `run` each text of `runs` has the cells of the arena, the greatest depth, the steps, the halt, and
+//! how many lines of `out` come: the machine runs the image so, and the program's meaning has to agree, also for each
+//! number of steps up to the last number of `sweep`, within the arena and the depth before it. With the job `ratio`
+//! it tells how many instructions the image takes for how many charges. With `family` a family of packages stands
+//! before the source.
 #![tactic(auto)]
 
 mod body;

@@ -59,7 +59,8 @@ pub fn front_of(bytes: &[u8], len: usize) -> &[u8] {
     }
 }
 
-/// The run that took less wrote the first part of what the other wrote; where it ended, both did, with the same output.
+/// The run that took less wrote the first part of what the other wrote; where it ended, both did, with the same
+/// output.
 fn compare(key: &str, less: &Ran, more: &Ran, tally: &mut Tally) -> Result<(), AllocError> {
     if less.end != "Steps" {
         tally.bytes(key, less.end.as_bytes(), more.end.as_bytes())?;
@@ -69,7 +70,8 @@ fn compare(key: &str, less: &Ran, more: &Ran, tally: &mut Tally) -> Result<(), A
     tally.bytes(key, wrote, front_of(more.out.bytes(), wrote.len()))
 }
 
-/// A run of the image goes with the charges: n instructions with n + 1 charges, and b charges with any 32 b + 32 instructions.
+/// A run of the image goes with the charges: n instructions with n + 1 charges, and b charges with any 32 b + 32
+/// instructions.
 pub fn check_meaning(
     alloc: Global,
     p: &Program,

@@ -51,8 +51,8 @@ fn check_each(
     Ok(())
 }
 
-/// With each number of steps up to the last number of `sweep`, and with the arena and the depth before it, the image does what the
-/// program means.
+/// With each number of steps up to the last number of `sweep`, and with the arena and the depth before it, the image
+/// does what the program means.
 pub fn check_sweep(
     alloc: Global,
     case: &Case,
