@@ -1,4 +1,5 @@
-// Two heirs of one package compose: what each of them changed is changed in both. It prints hear: and 0.
+// Two heirs of one package compose: what each of them changed is changed in both.
+// `./jandc run examples/compose.j` prints hear: and 0.
 package zoo {
   class Animal {
     int legs() { return 4; }

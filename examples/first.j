@@ -1,4 +1,4 @@
-// One class: a field, a constructor, two methods. It prints 6.
+// One class: a field, a constructor, two methods. `./jandc run examples/first.j` prints 6.
 class Main {
   int count;
   void Main() { this.count = 3; }

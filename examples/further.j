@@ -1,5 +1,5 @@
-// An heir of a package has all its classes and may bind them further: the Bird of `loud` has the Animal of `loud` above it.
-// It prints hear: and 2.
+// An heir of a package has all its classes and may bind them further: the Bird of `loud` has the Animal of `loud`
+// above it. `./jandc run examples/further.j` prints hear: and 2.
 package zoo {
   class Animal {
     int legs() { return 4; }

@@ -1,6 +1,7 @@
-// The lambda calculus as a family of classes, extended by sums in one package and by pairs in another, and composed into
-// one language with both. Variables are numbers that count the binders between: 0 is bound by the innermost one.
-// It prints the term (lambda x. match x with left y -> first y, right y -> y) (left (pair 3 4)), a node a line, and then 3.
+// The lambda calculus as a family of classes, extended by sums in one package and by pairs in another, and composed
+// into one language with both. Variables are numbers that count the binders between: 0 is bound by the innermost one.
+// `./jandc run examples/lambda.j` prints the term (lambda x. match x with left y -> first y, right y -> y)
+// (left (pair 3 4)), a node a line, and then its value, 3.
 package lambda {
   class Term {
     // this term with the closed term `by` for the variable n

@@ -1,5 +1,6 @@
-// One tree, two families: `lambda` evaluates terms, `shown` adapts it and prints them. The same tree is handed from one to
-// the other by a view change; nothing is copied. It prints apply, lambda, variable, 0, 5, then 5, then true.
+// One tree, two families: `lambda` evaluates terms, `shown` adapts it and prints them. The same tree is handed from
+// one to the other by a view change; nothing is copied.
+// `./jandc run examples/lambda_views.j` prints apply, lambda, variable, 0, 5, then 5, then true.
 package lambda {
   class Term {
     Term put(int n, Term by) { return this; }

@@ -1,4 +1,5 @@
-// A view may have fields that the object got no value for: the mask says so until one is stored. It prints 7 and 12.
+// A view may have fields that the object got no value for: the mask says so until one is stored.
+// `./jandc run examples/masks.j` prints 7 and 12.
 package zoo {
   class Animal {
     int age;

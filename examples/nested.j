@@ -1,4 +1,5 @@
-// Classes nest in packages, and a class extends its neighbours. It prints 2.
+// Classes nest in packages, and a class extends its neighbours.
+// `./jandc run examples/nested.j` prints 2.
 package zoo {
   class Animal {
     int legs() { return 4; }

@@ -1,4 +1,5 @@
-// A method over whole families: what it makes is of the family of the animal that it is given. It prints hear: and 2.
+// A method over whole families: what it makes is of the family of the animal that it is given.
+// `./jandc run examples/over.j` prints hear: and 2.
 package zoo {
   class Animal {
     int legs() { return 4; }

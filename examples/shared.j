@@ -1,5 +1,5 @@
 // One object, two families: `signs` shares its classes with `zoo`, so an animal of the one can be viewed in the other.
-// It prints 7 and true.
+// `./jandc run examples/shared.j` prints 7 and true.
 package zoo {
   class Animal {
     int age;

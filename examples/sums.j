@@ -1,3 +1,4 @@
+// Sums, and how they wrap. `./jandc run examples/sums.j` prints 7, -3 and -9223372036854775808.
 class Main {
   void main() {
     print(1 + 2 * 3);

@@ -1,3 +1,4 @@
+// The multiples of 7. `./jandc run examples/table.j` prints them, from 7 to 70.
 class Main {
   void main() {
     print(7 * 1);
