@@ -5,6 +5,7 @@ pub mod Running
 pub mod ShownAgain
 pub mod Wording
 mod Agreeing
+mod BigRuns
 mod Building
 mod Meanings
 mod Means

@@ -40,7 +40,7 @@ out_status job before after a out = ap (λ (x : Reply). x.status) out.is
 
 -- ---- the statuses of replies
 
-status_is : (s t : Status) → s ≡ t → IsOfReply t → IsOfReply s
+pub status_is : (s t : Status) → s ≡ t → IsOfReply t → IsOfReply s
 status_is s t e is = subst IsOfReply (sym e) is
 
 tree_status : (p : Program) (kind : SourceJob) (r : Reply) → TreeReply p kind r → IsOfReply r.status
@@ -52,7 +52,7 @@ source_status : (kind : SourceJob) (bytes : List ℕ) (r : Reply) → SourceRepl
 source_status kind bytes r (SourceReply.refused f by e) = status_is r.status statuses.Refused (ap (λ (x : Reply). x.status) e) tt
 source_status kind bytes r (SourceReply.to_tree p is tree) = tree_status p kind r tree
 
-end_status : (outcome : Option code.Halt) (s : Status) (line : List ℕ) → IsToldAs outcome s line → IsOfReply s
+pub end_status : (outcome : Option code.Halt) (s : Status) (line : List ℕ) → IsToldAs outcome s line → IsOfReply s
 end_status (Some code.Done) s line t = status_is s statuses.Done t.0 tt
 end_status (Some code.Null) s line t = status_is s statuses.Null t.0 tt
 end_status (Some code.Zero) s line t = status_is s statuses.Zero t.0 tt
@@ -130,7 +130,7 @@ lacking job before after a (Comes.no_memory reads out) lacks = inr (out_alone jo
 -- ---- what was delivered
 
 -- A reply that was given whole, by an equal one.
-given_as : (before after : Seen) (a b : Reply) (s : Status) → a ≡ b → Gives a before after s → Gives b before after s
+pub given_as : (before after : Seen) (a b : Reply) (s : Status) → a ≡ b → Gives a before after s → Gives b before after s
 given_as before after a b s e g = subst (λ (r : Reply). Gives r before after s) e g
 
 one_of : (before after : Seen) (a b : Reply) (s : Status) → (a ≡ b) ⊎ (a ≡ memory_reply) → Gives a before after s → GivesUnlessMemory b before after s
@@ -138,11 +138,11 @@ one_of before after a b s (inl e) g = inl (given_as before after a b s e g)
 one_of before after a b s (inr e) g = inr (given_as before after a memory_reply s e g)
 
 -- No output fails where no count rises.
-not_cut : {P : Type 0} (before after : Seen) (r : Reply) (s : Status) → Cuts r before after s → IsQuiet before after → P
+pub not_cut : {P : Type 0} (before after : Seen) (r : Reply) (s : Status) → Cuts r before after s → IsQuiet before after → P
 not_cut before after r s (IsCut.at_output is rose some none) quiet = absurd (quiet.out rose)
 not_cut before after r s (IsCut.at_line is all rose some) quiet = absurd (quiet.err rose)
 
-cut_is : (before after : Seen) (r : Reply) (s : Status) → Cuts r before after s → s ≡ statuses.WriteFault
+pub cut_is : (before after : Seen) (r : Reply) (s : Status) → Cuts r before after s → s ≡ statuses.WriteFault
 cut_is before after r s (IsCut.at_output is rose some none) = is
 cut_is before after r s (IsCut.at_line is all rose some) = is
 
@@ -164,7 +164,7 @@ some_quietly job P before after a s (inr cut) quiet is = not_cut before after a 
 -- ---- each status, with what it says
 
 -- the status of a reply that was given is that of the reply
-not_of : {P : Type 0} (s : Status) (a : Reply) → s ≡ a.status → IsOfReply a.status → (IsOfReply s → ⊥) → P
+pub not_of : {P : Type 0} (s : Status) (a : Reply) → s ≡ a.status → IsOfReply a.status → (IsOfReply s → ⊥) → P
 not_of s a e is not = absurd (not (subst IsOfReply (sym e) is))
 
 unread_is : (s : Status) (a : Reply) → s ≡ a.status → a ≡ unread_reply → s ≡ statuses.ReadFault
@@ -212,12 +212,12 @@ not_usage job before after a s (Comes.unread u is) (inl g) e = let m = unread_is
 not_usage job before after a s (Comes.no_memory reads is) (inl g) e = let m = memory_is job before after s a g.status is in absurd (cc)
 
 -- No count of an output falls.
-out_later : (before after : Seen) (r : Reply) (s : Status) → Del r before after s → before.out.faults ≤ after.out.faults
+pub out_later : (before after : Seen) (r : Reply) (s : Status) → Del r before after s → before.out.faults ≤ after.out.faults
 out_later before after r s (inl g) = let same = g.output.faults in omega arith
 out_later before after r s (inr (IsCut.at_output is rose some none)) = some.later
 out_later before after r s (inr (IsCut.at_line is all rose some)) = let same = all.faults in omega arith
 
-err_later : (before after : Seen) (r : Reply) (s : Status) → Del r before after s → before.err.faults ≤ after.err.faults
+pub err_later : (before after : Seen) (r : Reply) (s : Status) → Del r before after s → before.err.faults ≤ after.err.faults
 err_later before after r s (inl g) = let same = g.line.faults in omega arith
 err_later before after r s (inr (IsCut.at_output is rose some none)) = let same : after.err.faults ≡ before.err.faults = ap (λ (k : SinkSeen). k.faults) none in omega arith
 err_later before after r s (inr (IsCut.at_line is all rose some)) = some.later

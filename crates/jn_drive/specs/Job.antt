@@ -8,8 +8,8 @@ use Rattle.jn_io.specs.Told.{Lacks}
 use Rattle.jn_drive.specs.declared.status.Status.{Status}
 use Rattle.jn_drive.specs.declared.status.Status.TheVariants as statuses
 use Rattle.jn_drive.specs.declared.words.JobKind.TheVariants as kinds
-use Rattle.jn_drive.specs.Words.{Job}
-use Rattle.jn_drive.specs.Reply.{Reply, JobReply, usage_reply, unread_reply, output_reply, memory_reply, out_of_memory}
+use Rattle.jn_drive.specs.Words.{Job, BigJob, Task, on_file, on_number}
+use Rattle.jn_drive.specs.Reply.{Reply, JobReply, BigReply, usage_reply, unread_reply, output_reply, memory_reply, out_of_memory}
 use Rattle.jn_drive.specs.Seen.{Seen, IsSource, IsToldSource, IsLeft, IsQuiet, IsGiven, IsCut}
 use Rattle.jn_drive.specs.Reading.{most_read}
 use Rattle.jn_drive.specs.Saved.{StoresBy, IsUnsaved}
@@ -126,7 +126,27 @@ pub record Misused (before after : Seen) (s : Status) : Type 0 where
   pub out : after.out ≡ before.out
   pub err_later : before.err.faults ≤ after.err.faults
 
+-- The job `big`: the store isn't touched.
+pub record DoesBig (job : BigJob) (before after : Seen) (s : Status) : Type 0 where
+  -- Done, Refused, Null, Zero, Arena, Depth, Steps: the reply has this status, and was given whole.
+  pub replied : IsOfReply s → (reply : Reply) × BigReply job reply × Gives reply before after s
+  -- WriteFault: only where an output failed. Both took a prefix of what may be replied.
+  pub write_fault : s ≡ statuses.WriteFault
+      → (reply : Reply) × (BigReply job reply ⊎ (reply ≡ memory_reply)) × Cuts reply before after s
+  -- Memory: `out` took nothing.
+  pub memory : s ≡ statuses.Memory → Gives memory_reply before after s
+  -- No other status comes.
+  pub usage : s ≢ statuses.Usage
+  pub read_fault : s ≢ statuses.ReadFault
+  -- Where no count rises a reply is given, or Memory.
+  pub exactly : IsQuiet before after → ((reply : Reply) × BigReply job reply × Gives reply before after s) ⊎ Gives memory_reply before after s
+  pub store : after.store ≡ before.store
+  -- No count falls.
+  pub out_later : before.out.faults ≤ after.out.faults
+  pub err_later : before.err.faults ≤ after.err.faults
+
 -- By the job that the words are.
-abbrev pub DoesJob : Option Job → Seen → Seen → Status → Type 0
+abbrev pub DoesJob : Option Task → Seen → Seen → Status → Type 0
 DoesJob None before after s = Misused before after s
-DoesJob (Some job) before after s = Does job before after s
+DoesJob (Some (on_file job)) before after s = Does job before after s
+DoesJob (Some (on_number job)) before after s = DoesBig job before after s

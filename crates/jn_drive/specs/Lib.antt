@@ -1,5 +1,6 @@
 pub mod Again
 pub mod Answer
+pub mod Bigs
 pub mod Built
 pub mod Exec
 pub mod Job

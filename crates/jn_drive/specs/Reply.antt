@@ -1,5 +1,5 @@
 -- The reply of a job: what is put on `out`, the line on `err`, and the status.
-use Rattle.std.specs.Prelude.{◌≡◌, ◌≢◌, ◌≤◌, ◌+◌, ◌*◌, suc, ℕ, List, [], codes, Some, None, Result, Ok, Err}
+use Rattle.std.specs.Prelude.{◌≡◌, ◌≢◌, ◌≤◌, ◌+◌, ◌*◌, suc, ℕ, List, [], length, codes, Some, None, Result, Ok, Err}
 use Rattle.std.specs.declared.option.Option.{Option}
 use Rattle.jn_base.specs.declared.tree.Program.{Program}
 use Rattle.jn_base.specs.declared.refusal.Refusal.{Refusal}
@@ -12,7 +12,10 @@ use Rattle.jn_steps.specs.Laws.{IsPrefix}
 use Rattle.jn_sem.specs.declared.outcome.Outcome.{Outcome}
 use Rattle.jn_sem.specs.declared.outcome.Outcome.TheVariants as outcome
 use Rattle.jn_sem.specs.Run.{Run}
-use Rattle.jn_agree.specs.Rows.{Rows}
+use Rattle.jn_agree.specs.Rows.{Rows, Classes}
+use Rattle.jn_base.specs.Paths.{Path}
+use Rattle.jn_big.specs.Source.{big_source}
+use Rattle.jn_big.specs.Summary.{summary}
 use Rattle.jn_agree.specs.Agrees.{Agrees, halt_as}
 use Rattle.jn_code.specs.declared.image.Image.{Image}
 use Rattle.jn_code.specs.declared.fault.ImageFault.{ImageFault}
@@ -25,7 +28,7 @@ use Rattle.jn_drive.specs.declared.words.JobKind.{JobKind}
 use Rattle.jn_drive.specs.declared.words.JobKind.TheVariants as kinds
 use Rattle.jn_drive.specs.declared.words.SourceJob.{SourceJob}
 use Rattle.jn_drive.specs.declared.words.SourceJob.TheVariants as sources
-use Rattle.jn_drive.specs.Words.{Job}
+use Rattle.jn_drive.specs.Words.{Job, BigJob}
 use Rattle.jn_drive.specs.declared.status.Status.{Status}
 use Rattle.jn_drive.specs.declared.status.Status.TheVariants as statuses
 
@@ -187,3 +190,26 @@ ReplyBy kinds.Exec job bytes reply = ImageReply job (valid_image_of bytes) reply
 
 abbrev pub JobReply : Job → List ℕ → Reply → Type 0
 JobReply job bytes reply = ReplyBy job.kind job bytes reply
+
+-- ---- replies of `big`
+
+-- What is put of a run that ended so: the text where it was done, else nothing.
+abbrev pub put_where_done : Status → List ℕ → List ℕ
+put_where_done statuses.Done text = text
+put_where_done _ text = []
+
+-- The reply of a run of the source of n, whose program has so many classes: where it is done, four lines that tell the
+-- families, the classes, and the lines of its output stand in place of the output.
+abbrev pub summed : (n classes : ℕ) → Reply → Reply
+summed n classes run = record {
+  output = put_where_done run.status (summary (suc n) classes run.output);
+  line = run.line;
+  status = run.status;
+}
+
+-- The reply of `big`: that of `run` to the source that is made of the number, summed up.
+pub data BigReply (job : BigJob) (reply : Reply) : Type 0 where
+  refused : (line : List ℕ) → IsRefusalLine (big_source job.count) line → reply ≡ refused_reply line → BigReply job reply
+  ran : (p : Program) → IsTextOf p (big_source job.count) → TreePasses p → (classes : List Path) → Classes p classes
+      → (run : Reply) → TellsRun p job.arena job.depth job.steps run → reply ≡ summed job.count (length classes) run
+      → BigReply job reply

@@ -52,7 +52,7 @@ fn loaded<S: Store>(alloc: Global, job: &Named, store: &mut S) -> Result<Machine
 }
 
 /// Puts the line that tells how a run ended; nothing where it was done, or where `out` failed.
-fn tell_end<E: Sink>(end: RunHalt, err: &mut E) -> Status
+pub fn tell_end<E: Sink>(end: RunHalt, err: &mut E) -> Status
     ensures { EndTold end
         (record { taken = E.taken err.old; faults = E.faults err.old })
         (record { taken = E.taken err.new; faults = E.faults err.new })

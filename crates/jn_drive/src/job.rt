@@ -1,12 +1,13 @@
-ghost use Rattle.std.specs.Prelude.{◌≡◌, ◌≤◌, IsSome};
+ghost use Rattle.std.specs.Prelude.{◌≡◌, ◌≤◌, IsSome, Some};
 ghost use Rattle.jn_base.specs.WithinLimits.{IsWithinLimits};
 ghost use Rattle.jn_agree.specs.Agrees.{InRange};
 ghost use Rattle.jn_drive.specs.declared.words.SourceJob.TheVariants.{Check};
 ghost use Rattle.jn_drive.specs.declared.words.JobKind.TheVariants.{OnSource, Build};
-ghost use Rattle.jn_drive.specs.Words.{named};
+ghost use Rattle.jn_drive.specs.Words.{named, task_of, IsBounded, HasOut};
 ghost use Rattle.jn_drive.specs.Answer.{AnswersTree, Judges, Answers};
-ghost use Rattle.jn_drive.specs.Job.{Does};
+ghost use Rattle.jn_drive.specs.Job.{Does, DoesJob};
 
+use crate::big::run_big;
 use crate::build::build;
 use crate::exec::exec;
 use crate::halt::Halt;
@@ -16,7 +17,7 @@ use crate::read::read_file;
 use crate::run::run;
 use crate::source::{LIMIT, accepted, parsed};
 use crate::status::Status;
-use crate::words::{JobKind, Named, SourceJob};
+use crate::words::{Asked, JobKind, Named, SourceJob};
 use jn_base::tree::Program;
 use jn_io::{Sink, Store};
 use jn_printer::print_program;
@@ -108,7 +109,7 @@ fn on_source<S: Store, O: Sink, E: Sink>(
 }
 
 /// A job on a file. Its arena and its depth are in their ranges, and `build` has the name of the file that it makes.
-pub fn do_job<S: Store, O: Sink, E: Sink>(
+fn on_file<S: Store, O: Sink, E: Sink>(
     alloc: Global,
     job: &Named,
     store: &mut S,
@@ -146,5 +147,44 @@ pub fn do_job<S: Store, O: Sink, E: Sink>(
         JobKind::Build => build(alloc, job, store, out, err),
         JobKind::Mean => mean(alloc, job, store, out, err),
         JobKind::Exec => exec(alloc, job, store, out, err),
+    }
+}
+
+/// What the words ask for. The bounds are in their ranges, and `build` has the name of the file that it makes.
+pub fn do_job<S: Store, O: Sink, E: Sink>(
+    alloc: Global,
+    job: &Asked,
+    store: &mut S,
+    out: &mut O,
+    err: &mut E,
+) -> Status
+    requires bounds { IsBounded job.now }
+    requires out { HasOut job.now }
+    ensures { DoesJob (Some (task_of job.now))
+        (record {
+          store = record {
+            files = S.files store.old;
+            rest = S.rest store.old;
+            read_faults = S.read_faults store.old;
+            save_faults = S.save_faults store.old;
+          };
+          out = record { taken = O.taken out.old; faults = O.faults out.old };
+          err = record { taken = E.taken err.old; faults = E.faults err.old };
+        })
+        (record {
+          store = record {
+            files = S.files store.new;
+            rest = S.rest store.new;
+            read_faults = S.read_faults store.new;
+            save_faults = S.save_faults store.new;
+          };
+          out = record { taken = O.taken out.new; faults = O.faults out.new };
+          err = record { taken = E.taken err.new; faults = E.faults err.new };
+        })
+        result }
+{
+    match job {
+        Asked::OnFile(named) => on_file(alloc, named, store, out, err),
+        Asked::Big(words) => run_big(alloc, words, out, err),
     }
 }

@@ -1,6 +1,7 @@
 //! The top call: what `jandc` does with its words, its files and its outputs.
 #![tactic(auto)]
 
+mod big;
 mod build;
 mod exec;
 mod halt;
@@ -28,10 +29,10 @@ use std::alloc::Global;
 
 /// Does the job that the words are: `show FILE` puts the canonical text of the program that the file spells on `out`,
 /// `check FILE` puts nothing, `run FILE` compiles the program and runs it, `mean FILE` runs its meaning as it is defined,
-/// `build FILE OUT` saves its image, and `exec FILE` runs an image. A source that spells no program is refused by a line on
-/// `err`, and by each of these jobs but `show` each one that breaks a rule. The options `--arena`, `--depth` and `--steps`
-/// may come with each job, and bound what `run`, `mean` and `exec` run; the steps of `mean` are charges. All other words
-/// are answered by the usage line.
+/// `build FILE OUT` saves its image, `exec FILE` runs an image, and `big N` runs the source that is made of the number and
+/// puts a summary. A source that spells no program is refused by a line on `err`, and by each of these jobs but `show` each
+/// one that breaks a rule. The options `--arena`, `--depth` and `--steps` may come with each job, and bound what `run`,
+/// `mean`, `exec` and `big` run; the steps of `mean` are charges. All other words are answered by the usage line.
 ///
 /// `DoesJob` in specs/Job.antt says for each status when it comes, and what the files and the outputs
 /// then are.

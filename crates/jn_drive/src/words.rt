@@ -1,7 +1,5 @@
-ghost use Rattle.std.specs.Prelude.{◌≡◌, IfErr, IfOk, IsSome, None, Some, map, string_bytes};
-ghost use Rattle.jn_agree.specs.Agrees.{InRange};
-ghost use Rattle.jn_drive.specs.declared.words.JobKind.TheVariants.{Build};
-ghost use Rattle.jn_drive.specs.Words.{job_of, kind_here, named};
+ghost use Rattle.std.specs.Prelude.{◌≡◌, IfErr, IfOk, None, Some, map, string_bytes};
+ghost use Rattle.jn_drive.specs.Words.{job_of, kind_here, task_of, IsBounded, HasOut};
 
 use jn_jobs::{JobWords, WordsFault, job};
 use std::alloc::Global;
@@ -37,24 +35,31 @@ pub struct Named {
     pub words: JobWords,
 }
 
-/// The job that the words are. Usage comes exactly where they are none that there is; Memory may come at any words.
-#[tactic(auto, using(crate::proofs::Wording::job_named, crate::proofs::Wording::not_here))]
-pub fn job_in(alloc: Global, words: &[String]) -> Result<Named, WordsFault>
-    ensures ok { IfOk result (λ n. job_of (map string_bytes words.now) ≡ Some (named n)) }
-    // Its bounds are in their ranges.
-    ensures range { IfOk result (λ n. InRange (named n).arena (named n).depth) }
-    // `build` has the name of the file that it makes.
-    ensures out { IfOk result (λ n. (named n).kind ≡ Build → IsSome (named n).out) }
+/// What the words ask for.
+#[derive(Debug, Drop)]
+pub enum Asked {
+    /// A job on a file.
+    OnFile(Named),
+    /// `big`, of the number that these words have.
+    Big(JobWords),
+}
+
+/// The job that the words are. Usage comes exactly where they are none; Memory may come at any words.
+#[tactic(auto, using(crate::proofs::Wording::job_named, crate::proofs::Wording::number_named))]
+pub fn job_in(alloc: Global, words: &[String]) -> Result<Asked, WordsFault>
+    ensures ok { IfOk result (λ a. job_of (map string_bytes words.now) ≡ Some (task_of a)) }
+    ensures range { IfOk result (λ a. IsBounded a) }
+    ensures out { IfOk result (λ a. HasOut a) }
     ensures usage { IfErr result (λ e. e ≡ WordsFault.Usage → job_of (map string_bytes words.now) ≡ None) }
 {
     let words = job(alloc, words)?;
     match kind_here(words.kind) {
-        Some(kind) => Ok(Named { kind, words }),
-        None => Err(WordsFault::Usage),
+        Some(kind) => Ok(Asked::OnFile(Named { kind, words })),
+        None => Ok(Asked::Big(words)),
     }
 }
 
-/// The job of this kind, where it is one that there is.
+/// The kind of a job on a file. (`big` is none: it reads no file.)
 fn kind_here(kind: jn_jobs::JobKind) -> Option<JobKind>
     ensures { result ≡ kind_here kind }
 {
@@ -65,6 +70,6 @@ fn kind_here(kind: jn_jobs::JobKind) -> Option<JobKind>
         jn_jobs::JobKind::Mean => Some(JobKind::Mean),
         jn_jobs::JobKind::Build => Some(JobKind::Build),
         jn_jobs::JobKind::Exec => Some(JobKind::Exec),
-        _ => None,
+        jn_jobs::JobKind::Big => None,
     }
 }
