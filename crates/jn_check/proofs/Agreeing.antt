@@ -20,6 +20,7 @@ use Rattle.jn_rules.specs.Questions.{masks_of, InEither, Gives}
 use Rattle.jn_rules.specs.Stmts.{remasked, with_masks, joined_type, joined}
 use Rattle.jn_rules.proofs.PlanLaws.{then_came}
 use Rattle.jn_rule_laws.proofs.Masks.{masks_of_once}
+use Rattle.jn_laws.specs.LawsOfScopes.{ScopesAlike, none as none_alike, one as one_alike, BindsAlike}
 use Rattle.jn_check.specs.Masks.{bare, bare_type}
 use Rattle.jn_check.proofs.Masking.{remasked_own}
 
@@ -132,6 +133,40 @@ scope_fits_as s t Q e f m =
       class_of_this = Q;
       this = subst (Among s) (this_alone r.0 Q r.2) r.1;
     }
+
+-- ---- scopes that are the same but for masks
+
+is_class_bare : (q : ℕ) (t : Ty) → is_class (bare_type q t) ≡ is_class t
+is_class_bare q t = at (nat_eq q 0) t where
+  at : (b : Bool) (t : Ty) → is_class (cond b t (remasked no_masks t)) ≡ is_class t
+  at true t = refl
+  at false (ty.Class xs m) = refl
+  at false ty.Int = refl
+  at false ty.Bool = refl
+  at false ty.Null = refl
+  at false ty.Void = refl
+
+pub alike_bare : (s t : Scope) → map bare s ≡ map bare t → ScopesAlike t s
+alike_bare [] [] e = none_alike
+alike_bare [] (c ∷ t) e = absurd (no e) where
+  no : ◌≡◌ {A = List Bind} [] (bare c ∷ map bare t) → ⊥
+  no e = cc
+alike_bare (b ∷ s) [] e = absurd (no e) where
+  no : ◌≡◌ {A = List Bind} (bare b ∷ map bare s) [] → ⊥
+  no e = cc
+alike_bare (b ∷ s) (c ∷ t) e = one_alike alike (alike_bare s t (behind e)) where
+  front : bare b ∷ map bare s ≡ bare c ∷ map bare t → bare b ≡ bare c
+  front e = cc
+
+  behind : bare b ∷ map bare s ≡ bare c ∷ map bare t → map bare s ≡ map bare t
+  behind e = cc
+
+  alike : BindsAlike c b
+  alike = record {
+    path = ap (λ (d : Bind). d.path) (front e);
+    atoms = sym (atoms_bare b.path b.ty) ∙ (ap (λ (d : Bind). atoms_in d.ty) (front e) ∙ atoms_bare c.path c.ty);
+    class = sym (is_class_bare b.path b.ty) ∙ (ap (λ (d : Bind). is_class d.ty) (front e) ∙ is_class_bare c.path c.ty);
+  }
 
 -- ---- other masks
 

@@ -12,17 +12,23 @@ use Rattle.jn_base.specs.declared.names.Var.{Var}
 use Rattle.jn_base.specs.declared.names.Resolved.{Resolved}
 use Rattle.jn_base.specs.declared.refusal.Rule.TheVariants as rule
 use Rattle.jn_base.specs.Paths.{Path}
+use Rattle.jn_base.specs.Scopes.{Scope}
+use Rattle.jn_base.specs.Fits.{TypeFits}
+use Rattle.jn_base.specs.Resolve.{var_named}
 use Rattle.jn_intern.specs.declared.pool.TyId.{TyId}
 use Rattle.jn_intern.specs.Pools.{InPool, Keeps, shown, scope_in}
 use Rattle.jn_laws.specs.LawsOfWritten.{Shallow, site_with, TypeThere}
+use Rattle.jn_sem.specs.Terms.{Site}
 use Rattle.jn_sem.specs.Does.{var}
 use Rattle.jn_heads.specs.declared.fault.CheckFault.{CheckFault}
 use Rattle.jn_rules.specs.Plans.{VarMark, OfType, Plan, done, ask, taken}
 use Rattle.jn_rules.specs.Exprs.{of_name}
 use Rattle.jn_rules.specs.Stmts.{Before, In, here, with_local, local_with, local_typed, assign_typed, typed_below}
 use Rattle.jn_expr.specs.declared.env.Env.{Env}
+use Rattle.jn_expr.specs.Envs.{IsThere}
 use Rattle.jn_expr.specs.Told.{Adds, PlanTold}
 use Rattle.jn_expr.specs.Steps.{Leads, LeadsTold}
+use Rattle.jn_expr.proofs.Typeds.{vars_there, found_among}
 use Rattle.jn_expr.proofs.Leading.{leads_here, leads_note, leads_want, leads_leads, leads_told}
 use Rattle.jn_check.specs.declared.assign.Assigned.{Assigned}
 use Rattle.jn_check.specs.declared.state.Locals.{Locals}
@@ -157,3 +163,12 @@ module _ (p : Program) (b : In) (x : Before) (n : Named) (e : Expr) (o : Option 
         leads_leads (λ (u : Unit {0}). done x) later
         (assign_leads v.v v.named (sym v.is.fixed ∙ free) mid (subst (λ (q : ℕ). Adds (VarMark q ∷ []) before mid) v.is.path d)) r
         (subst (λ (t : Ty). LeadsTold p (typed_below b x e x.scope t (done x)) (λ (u : Unit {0}). done x) mid later r) v.is.ty.shows l)
+
+-- ---- the type of a variable that is assigned to fits
+
+pub assigned_fits : (p : Program) (at : Site) (s : Scope) → IsThere p at s → (pool : List Ty) (x : Name) (k : Assigned) (o : Option Assigned) → o ≡ Some k
+    → AssignedIs pool (var_named (record { list = at.vars }) x) o → TypeFits s (shown pool k.ty)
+assigned_fits p at s h pool x k o e i = of (var_named (record { list = at.vars }) x) refl (subst (AssignedIs pool (var_named (record { list = at.vars }) x)) e i) where
+  of : (w : Option Var) → var_named (record { list = at.vars }) x ≡ w → AssignedIs pool w (Some k) → TypeFits s (shown pool k.ty)
+  of None f j = absurd j
+  of (Some v) f j = subst (TypeFits s) (sym j.ty.shows) (vars_there p at s h v (found_among at.vars x v f)).type

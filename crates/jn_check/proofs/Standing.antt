@@ -26,14 +26,15 @@ use Rattle.jn_laws.proofs.Terms.{reverse_among}
 use Rattle.jn_laws.proofs.WrittenTypes.{one_more, scope_more, among_more}
 use Rattle.jn_subtype.specs.Binds.{binds_in}
 use Rattle.jn_rules.specs.Stmts.{with_local, out_of}
+use Rattle.jn_rule_laws.specs.LawsOfForms.{none as none_grown}
 use Rattle.jn_expr.specs.declared.env.Env.{Env}
-use Rattle.jn_expr.specs.Envs.{Parts, parts, ArePartsOf, IsScope, Stays}
+use Rattle.jn_expr.specs.Envs.{Parts, parts, ArePartsOf, IsScope, IsThere, Stays}
 use Rattle.jn_expr.specs.Passing.{Grows}
 use Rattle.jn_expr.proofs.Scopes.{one_more as bind_more}
 use Rattle.jn_check.specs.declared.state.Locals.{Locals}
 use Rattle.jn_check.specs.Masks.{bare}
 use Rattle.jn_check.specs.States.{before_in, before_at, IsBefore, IsAfter, IsBack, IsKept, IsLeft, StaysButVars}
-use Rattle.jn_check.proofs.Agreeing.{scope_fits_as, zeroed, Zeroed}
+use Rattle.jn_check.proofs.Agreeing.{scope_fits_as, alike_bare, zeroed, Zeroed}
 
 -- ---- what stays
 
@@ -55,6 +56,7 @@ but_same a = record { same = refl; pool = keeps_same a.pool }
 pub parts_but : {p : Program} {a b : Env} → ArePartsOf p (parts a) → StaysButVars a b → ArePartsOf p (parts b)
 parts_but {p} {a} {b} h s = subst (ArePartsOf p) (sym s.same) (record {
   once = h.once;
+  well = h.well;
   filled = h.filled;
   shallow = h.shallow;
   members = h.members;
@@ -91,6 +93,17 @@ module _ (p : Program) (C : Path) (m : Name) (pool : List Ty) (vars : List Var) 
   is_scope = record {
     known = h.known;
     fits = scope_fits_as (scope_in pool x.scope) (scope_of (site_with C m vars)) (Q C m vars) h.agree h.fits.binds (this_there C m vars);
+  }
+
+  pub there_before : IsThere p (site_with C m vars) (scope_in pool x.scope)
+  there_before = record {
+    site = h.fits;
+    scope = record {
+      base = scope_in pool x.scope;
+      alike = alike_bare (scope_in pool x.scope) (scope_of (site_with C m vars)) h.agree;
+      grown = none_grown;
+      binds = is_scope.fits.binds;
+    };
   }
 
   pub declared_fits : ScopeFits (scope_in pool x.declared)

@@ -43,6 +43,7 @@ named p w = (programs_within_limits p w).named
 pub are_parts : (p : Program) (t : Table) (h : Headers) (x : Parts) → IsWithinLimits p → duplicates p ≡ [] → AreParts p t h → HasParts t h x → ArePartsOf p x
 are_parts p t h x limits once a e = record {
   once = once;
+  well = (programs_within_limits p limits).formed;
   filled = subst (IsFilled p) (sym e.table) a.filled;
   shallow = (programs_within_limits p limits).shallow;
   members = subst (λ (y : Members). IsMembersOf p x.table y) (sym e.members) (subst (λ (u : Table). IsMembersOf p u h.members) (sym e.table) a.members);

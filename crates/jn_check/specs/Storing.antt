@@ -7,6 +7,7 @@ use Rattle.jn_base.specs.declared.types.Ty.{Ty}
 use Rattle.jn_base.specs.declared.names.Var.{Var}
 use Rattle.jn_base.specs.declared.refusal.Rule.TheVariants as rule
 use Rattle.jn_base.specs.Scopes.{Scope}
+use Rattle.jn_base.specs.Fits.{TypeFits}
 use Rattle.jn_base.specs.Resolve.{is_class}
 use Rattle.jn_sem.specs.Does.{var}
 use Rattle.jn_intern.specs.declared.pool.TyId.{TyId}
@@ -54,9 +55,10 @@ stored_in h at f r go =
     (ask (OfField r.scope r.ty f.name) (found_or (of_class rule.E16 (first_bound r) f f.name)
     (λ c. note (MemberMark c.class) (go (path_of r.ty r).scope (field_type c (path_of r.ty r))))))
 
--- the pool has the number, and the scope has grown and still fits
+-- the pool has the number of a type that fits, and the scope has grown and still fits
 pub record IsSlot (pool : List Ty) (before after : NumberScope) (id : TyId) : Type 0 where
   pub number : InPool pool id
+  pub fits : TypeFits (scope_in pool after) (shown pool id)
   pub scope : IsScope pool after
   pub grows : Grows before after
 

@@ -3,11 +3,12 @@
 ghost use Rattle.std.specs.Prelude.{◌≡◌, ℕ, IfOk, OnOk};
 ghost use Rattle.jn_base.specs.declared.types.Ty.{Ty as AType};
 ghost use Rattle.jn_base.specs.Scopes.{Scope as AScope};
+ghost use Rattle.jn_base.specs.Fits.{TypeFits};
 ghost use Rattle.jn_intern.specs.Pools.{InPool, shown, scope_in};
 ghost use Rattle.jn_rules.specs.Plans.{Plan, then_do};
-ghost use Rattle.jn_rules.specs.Exprs.{expr_types};
+ghost use Rattle.jn_rules.specs.Exprs.{site_here, expr_types};
 ghost use Rattle.jn_rules.specs.Stmts.{Before, typed_below};
-ghost use Rattle.jn_expr.specs.Envs.{ArePartsOf, IsScope, Stays, parts, here_at};
+ghost use Rattle.jn_expr.specs.Envs.{ArePartsOf, IsScope, IsThere, Stays, parts, here_at};
 ghost use Rattle.jn_expr.specs.Steps.{LeadsTold};
 ghost use Rattle.jn_check.specs.States.{in_at, before_in};
 
@@ -31,6 +32,8 @@ pub fn type_alone(
 ) -> Result<TyId, CheckFault>
     requires parts { ArePartsOf p.now (parts env.old) }
     requires scope { IsScope env.old.pool scope.old }
+    requires there { IsThere p.now (site_here (here_at class.now m.now env.old.vars.list))
+        (scope_in env.old.pool scope.old) }
     ensures told { (go : AType → Plan Before) → LeadsTold p.now
         (then_do (expr_types (here_at class.now m.now env.old.vars.list) e.now (scope_in env.old.pool scope.old))
         (λ y. go y.ty))
@@ -62,7 +65,10 @@ pub fn check_below(
 ) -> Result<(), CheckFault>
     requires parts { ArePartsOf p.now (parts env.old) }
     requires scope { IsScope env.old.pool scope.old }
+    requires there { IsThere p.now (site_here (here_at class.now m.now env.old.vars.list))
+        (scope_in env.old.pool scope.old) }
     requires number { InPool env.old.pool ty }
+    requires fits { TypeFits (scope_in env.old.pool scope.old) (shown env.old.pool ty) }
     ensures told { (t : AType) (s : AScope) (n : ℕ) (go : Plan Before) → LeadsTold p.now
         (typed_below (in_at class.now m.now t) (before_in env.old.vars.list s n) e.now
         (scope_in env.old.pool scope.old) (shown env.old.pool ty) go)
@@ -74,15 +80,7 @@ pub fn check_below(
     match value_of(alloc, p, class, m, env, scope, e) {
         Err(fault) => Err(fault),
         Ok(v) => {
-            if !below(
-                alloc,
-                &mut env.judge,
-                &mut env.pool,
-                &env.table,
-                scope,
-                v.ty,
-                ty,
-            )? {
+            if !below(&mut env.judge, &mut env.pool, &env.table, scope, v.ty, ty)? {
                 return Err(refused(alloc, Rule::E18, e.at, class, m.name.name));
             }
             scope.binds.truncate(count);

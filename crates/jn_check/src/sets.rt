@@ -5,12 +5,14 @@ ghost use Rattle.jn_base.specs.declared.types.Ty.{Ty as AType};
 ghost use Rattle.jn_base.specs.Scopes.{Scope as AScope};
 ghost use Rattle.jn_intern.specs.Pools.{InPool, shown, scope_in};
 ghost use Rattle.jn_rules.specs.Plans.{Plan};
+ghost use Rattle.jn_rules.specs.Questions.{IsFoundField};
+ghost use Rattle.jn_rules.specs.Exprs.{site_here};
 ghost use Rattle.jn_rules.specs.Stmts.{Before, dropped, set_typed};
-ghost use Rattle.jn_expr.specs.Envs.{ArePartsOf, IsScope, Stays, parts, here_at};
+ghost use Rattle.jn_expr.specs.Envs.{ArePartsOf, IsScope, IsThere, Stays, parts, here_at};
 ghost use Rattle.jn_expr.specs.Found.{found_of};
 ghost use Rattle.jn_expr.specs.Steps.{LeadsTold};
 ghost use Rattle.jn_expr.specs.Told.{PlanTold};
-ghost use Rattle.jn_expr.specs.Values.{typed_in};
+ghost use Rattle.jn_expr.specs.Values.{TypedFits, typed_in};
 ghost use Rattle.jn_check.specs.States.{in_at, before_in, before_at, IsBefore, IsAfter, StaysButVars};
 ghost use Rattle.jn_check.specs.Storing.{IsFieldAt, IsSlot, stored_in};
 
@@ -32,18 +34,24 @@ use std::alloc::{AllocError, Global};
 /// that declares it is noted.
 fn field_at(
     alloc: Global,
+    p: &Program,
     env: &mut Env,
     scope: &mut Scope,
     v: Value,
+    f: &Named,
     found: &Declared,
 ) -> Result<TyId, AllocError>
+    requires parts { ArePartsOf p.now (parts env.old) }
     requires scope { IsScope env.old.pool scope.old }
     requires number { InPool env.old.pool v.ty }
+    requires fits { TypedFits (typed_in env.old.pool scope.old v) }
+    requires found { IsFoundField p.now (scope_in env.old.pool scope.old) (shown env.old.pool v.ty) f.now.name
+        (found_of found.now) }
     ensures is { IfOk result (λ id. IsFieldAt env.old scope.old v (found_of found.now) env.new scope.new id) }
     ensures stays { Stays env.old env.new }
 {
     note_member(alloc, &mut env.marks, &found.class)?;
-    let path = path_of(alloc, &env.pool, scope, v.ty, v.path)?;
+    let path = path_of(&env.pool, scope, v.ty, v.path)?;
     let ty = env.pool.intern(&found.ty)?;
     let put = put_in(alloc, &mut env.pool, scope, ty, &[0], &[path])?;
     Ok(put)
@@ -65,6 +73,7 @@ fn stored_in(
     requires parts { ArePartsOf p.now (parts env.old) }
     requires scope { IsScope env.old.pool scope.old }
     requires number { InPool env.old.pool v.ty }
+    requires fits { TypedFits (typed_in env.old.pool scope.old v) }
     ensures told { (go : AScope → AType → Plan Before) → LeadsTold p.now
         (stored_in (here_at class.now m.now env.old.vars.list) at f.now (typed_in env.old.pool scope.old v) go)
         (λ id. go (scope_in env.new.pool scope.new) (shown env.new.pool id)) env.old.marks env.new.marks result }
@@ -95,7 +104,7 @@ fn stored_in(
             f.name,
         )),
         Some(found) => {
-            let id = field_at(alloc, env, scope, v, &found)?;
+            let id = field_at(alloc, p, env, scope, v, f, &found)?;
             Ok(id)
         }
     }
@@ -116,6 +125,8 @@ fn stored(
 ) -> Result<Option<u32>, CheckFault>
     requires parts { ArePartsOf p.now (parts env.old) }
     requires scope { IsScope env.old.pool scope.old }
+    requires there { IsThere p.now (site_here (here_at class.now m.now env.old.vars.list))
+        (scope_in env.old.pool scope.old) }
     ensures told { (t : AType) (n : ℕ) → LeadsTold p.now
         (set_typed (in_at class.now m.now t) (before_in env.old.vars.list (scope_in env.old.pool scope.old) n)
         of.now f.now e.now)

@@ -17,7 +17,7 @@ use crate::state::Locals;
 use jn_base::refusal::Rule;
 use jn_base::tree::{Expr, Method, Place, Program};
 use jn_base::types::Ty;
-use jn_expr::{Env, is_bool, is_int, refused};
+use jn_expr::{Env, is_bool, is_int, refused, type_fits};
 use jn_heads::CheckFault;
 use jn_intern::TyId;
 use jn_names::Bound;
@@ -175,6 +175,9 @@ fn return_value(
 {
     if is_void(env.pool.show(gives)) {
         return return_vainly(alloc, p, class, m, env, x, e, at);
+    }
+    if !type_fits(alloc, &env.pool, &x.scope, env.pool.show(gives))? {
+        return Err(CheckFault::Memory);
     }
     check_below(alloc, p, class, m, env, &mut x.scope, e, gives)
 }

@@ -48,7 +48,7 @@ pub class_fits : (s : Scope) (t : Ty) (xs : List ShownAtom) (m : Masks) (ys : Li
 class_fits s t xs m ys e h f =
     subst (TypeFits s) (sym e) (record { atoms = λ c. subst (λ (zs : List ShownAtom). AtomsFit s (map atom_of zs)) h f })
 
-not_class : (s : Scope) (t : Ty) → (IsClassType t → ⊥) → TypeFits s t
+pub not_class : (s : Scope) (t : Ty) → (IsClassType t → ⊥) → TypeFits s t
 not_class s t n = record { atoms = λ c. absurd (n c) }
 
 pub int_fits : (s : Scope) (t : Ty) → t ≡ ty.Int → TypeFits s t
@@ -79,6 +79,15 @@ swapped_front [] [] q = refl
 swapped_front [] (b ∷ to) q = refl
 swapped_front (a ∷ from) [] q = refl
 swapped_front (a ∷ from) (b ∷ to) q = ap (λ (r : ℕ). cond (nat_eq q a) b r) (swapped_front from to q)
+
+moved_as : (s : Scope) (f g : ℕ → ℕ) (t : Ty) → f ≡ g → MovedFits s f t → MovedFits s g t
+moved_as s f g t e m = subst (λ (h : ℕ → ℕ). MovedFits s h t) e m
+
+pub moved_front : (s : Scope) (from to : List ℕ) (t : Ty) → MovedFits s (swapped from to) t → MovedFits s (swapped (take (length to) from) to) t
+moved_front s from to t m = moved_as s (swapped from to) (swapped (take (length to) from) to) t (sym (fun_ext (swapped_front from to))) m
+
+pub front_moved : (s : Scope) (from to : List ℕ) (t : Ty) → MovedFits s (swapped (take (length to) from) to) t → MovedFits s (swapped from to) t
+front_moved s from to t m = moved_as s (swapped (take (length to) from) to) (swapped from to) t (fun_ext (swapped_front from to)) m
 
 pub put_front : (s : Scope) (from to : List ℕ) (t : Ty) → subst_type s (swapped (take (length to) from) to) t ≡ put_in s from to t
 put_front s from to t = ap (λ (f : ℕ → ℕ). subst_type s f t) (fun_ext (swapped_front from to))

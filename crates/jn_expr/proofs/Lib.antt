@@ -4,6 +4,7 @@ pub mod Fitting
 pub mod Naming
 pub mod Masking
 pub mod Finding
+pub mod Typeds
 pub mod Typing
 pub mod Closing
 pub mod Shared
@@ -15,6 +16,7 @@ pub mod Making
 pub mod NewSteps
 pub mod SuperSteps
 pub mod Walking
+pub mod Sizes
 pub mod WalkForms
 pub mod WalkSteps
 pub mod WalkCalls

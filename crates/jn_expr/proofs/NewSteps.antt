@@ -16,28 +16,32 @@ use Rattle.jn_base.specs.Paths.{Path}
 use Rattle.jn_base.specs.Members.{MethodAt}
 use Rattle.jn_base.specs.Atoms.{atom_of}
 use Rattle.jn_base.specs.Scopes.{Scope as TypeScope, bound}
+use Rattle.jn_base.specs.Fits.{TypeFits}
 use Rattle.jn_sem.specs.NormalFunction.{normal_type}
 use Rattle.jn_sem.specs.Does.{Body, IsConstructorBody}
 use Rattle.jn_intern.specs.declared.pool.TyId.{TyId}
 use Rattle.jn_intern.specs.declared.scope.Scope.{Scope}
-use Rattle.jn_intern.specs.Pools.{shown, scope_in}
+use Rattle.jn_intern.specs.Pools.{InPool, shown, Keeps, scope_in}
+use Rattle.jn_intern.proofs.Pools.{scope_kept}
 use Rattle.jn_heads.specs.declared.fault.CheckFault.{CheckFault}
 use Rattle.jn_heads.specs.declared.fault.CheckFault.TheVariants.{Refused, Memory}
 use Rattle.jn_heads.specs.Params.{header_in}
 use Rattle.jn_rules.specs.Plans.{AtomMark, OfTerm, OfConstructor, Plan, note, ask, then_do, wants, taken}
 use Rattle.jn_rules.specs.Questions.{Finds}
 use Rattle.jn_rules.specs.Headers.{Header}
-use Rattle.jn_rules.specs.Exprs.{Here, Typed, Typing, Passing, Passed, in_method, call_typed, args_typed, replaced_paths, gives, of_new, fresh_with, made_with, made_without, made_exact, new_typed, site_here}
+use Rattle.jn_rules.specs.Exprs.{Here, Typed, Typing, Passing, Passed, in_method, call_typed, args_typed, replaced_paths, gives, of_new, fresh_with, path_or_fresh, made_with, made_without, made_exact, new_typed, site_here}
 use Rattle.jn_expr.specs.declared.env.Call.{Call}
 use Rattle.jn_expr.specs.declared.env.Value.{Value}
 use Rattle.jn_expr.specs.declared.news.Making.{Making}
-use Rattle.jn_expr.specs.Envs.{here_at}
+use Rattle.jn_expr.specs.Envs.{IsScope, here_at}
 use Rattle.jn_expr.specs.Passing.{passing_in, IsPassing}
 use Rattle.jn_expr.specs.Told.{FaultIs}
+use Rattle.jn_expr.specs.Values.{typed_in, TypedFits}
 use Rattle.jn_expr.specs.Found.{ConstructorFrom}
 use Rattle.jn_expr.specs.Steps.{Leads, LeadsTold, entered, IsCall}
 use Rattle.jn_expr.specs.Calling.{body_of, IsBegun}
 use Rattle.jn_expr.specs.Making.{IsLast, HasConstructor, made_call, made_left}
+use Rattle.jn_expr.proofs.Typeds.{fits_kept, made_fits}
 use Rattle.jn_expr.proofs.Leading.{leads_here, leads_ask, leads_want, leads_is, leads_leads, leads_of_fault}
 
 -- ---- the constructor
@@ -135,6 +139,22 @@ pub none_call : (pool : List Ty) (y : Call) → (let o : Option Call = None in o
 none_call pool y e = absurd (none e) where
   none : (let o : Option Call = None in o ≡ Some y) → ⊥
   none g = cc g
+
+pub none_begun : (y : Call) → (let o : Option Call = None in o ≡ Some y) → length y.paths.items ≡ 1
+none_begun y e = absurd (none e) where
+  none : (let o : Option Call = None in o ≡ Some y) → ⊥
+  none g = cc g
+
+-- the path of the receiver is that of the new object
+pub begun_fits : (old new : List Ty) (before after : Scope) (ty : TyId) (call : Call) (q d : ℕ) → IsScope old before → InPool old ty → Keeps old new
+    → TypeFits (scope_in old before) (shown old ty) → IsBegun new (scope_in old before) before after (shown old ty) None call → q ≡ get_or call.paths.items 0 d
+    → TypedFits (typed_in new after (record { ty = ty; path = Some q }))
+begun_fits old new before after ty call q d s has k f b e =
+    made_fits new before after ty q b.scope (fits_kept s k has f)
+    (subst (λ (n : ℕ). passing_in new after n ≡ path_or_fresh (shown new ty) None (scope_in new before)) (sym (e ∙ ap (λ (l : List ℕ). get_or l 0 d) b.paths))
+    (b.passing
+    ∙ (ap (λ (c : TypeScope). path_or_fresh (shown old ty) None c) (sym (scope_kept before s.known k))
+    ∙ ap (λ (t : Ty). path_or_fresh t None (scope_in new before)) (sym (k.shows ty has)))))
 
 -- ---- its term, and then the new object
 

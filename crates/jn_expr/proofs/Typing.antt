@@ -23,7 +23,7 @@ use Rattle.jn_rules.specs.Exprs.{Here, Typed, plain, of_path, var_typed, var_giv
 use Rattle.jn_expr.specs.declared.env.Env.{Env}
 use Rattle.jn_expr.specs.Envs.{IsScope, Stays}
 use Rattle.jn_expr.specs.Told.{Adds, Went, PlanTold}
-use Rattle.jn_expr.specs.Values.{typed_in, IsValue, IsProduced}
+use Rattle.jn_expr.specs.Values.{typed_in, TypedFits, IsValue, IsProduced}
 use Rattle.jn_expr.specs.Steps.{inverted, negated, operated}
 use Rattle.jn_expr.proofs.Leading.{leads_here, leads_note, leads_want, leads_told, gives_went}
 use Rattle.jn_expr.proofs.Scopes.{scope_stays, grows_none}
@@ -46,8 +46,14 @@ produced_went p t path old new scope id s h k =
     (gives_went p x old.marks new.marks h.added)
 
 pub produced_value : (t : Ty) (path : Option ℕ) (old new : Env) (scope : Scope) (id : TyId) → IsScope old.pool scope → IsProduced t old new id
-    → Stays old new → IsValue new.pool scope scope (record { ty = id; path = path })
-produced_value t path old new scope id s h k = record { scope = scope_stays s k.pool; number = h.number; grows = grows_none scope }
+    → Stays old new → (let x : Typed = record { ty = t; path = path; scope = scope_in old.pool scope } in TypedFits x)
+    → IsValue new.pool scope scope (record { ty = id; path = path })
+produced_value t path old new scope id s h k f = record {
+  scope = scope_stays s k.pool;
+  number = h.number;
+  grows = grows_none scope;
+  fits = subst TypedFits (typed_is t path old.pool new.pool scope id s k.pool h.shows) f;
+}
 
 -- ---- operators
 

@@ -116,5 +116,5 @@ module _ {A C : Type 0} (p : Program) (whole rest : Plan C) (x : Plan A) (go : A
 
 pub values_behind : (pool : List Ty) (a b c : Scope) (o : Result Value CheckFault) → Grows a b → IfOk o (λ (v : Value). IsValue pool b c v)
     → IfOk o (λ (v : Value). IsValue pool a c v)
-values_behind pool a b c (Ok v) g h = record { scope = h.scope; number = h.number; grows = grows_more g h.grows }
+values_behind pool a b c (Ok v) g h = record { scope = h.scope; number = h.number; grows = grows_more g h.grows; fits = h.fits }
 values_behind pool a b c (Err f) g h = tt

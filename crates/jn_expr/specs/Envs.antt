@@ -8,6 +8,7 @@ use Rattle.jn_base.specs.declared.names.Var.{Var}
 use Rattle.jn_base.specs.declared.types.Ty.{Ty}
 use Rattle.jn_base.specs.Paths.{Path}
 use Rattle.jn_base.specs.Duplicates.{duplicates}
+use Rattle.jn_base.specs.Scopes.{Scope as TypeScope}
 use Rattle.jn_base.specs.Fits.{ScopeFits}
 use Rattle.jn_base.specs.ResolveTypes.{mask_names}
 use Rattle.jn_table.specs.declared.table.Table.{Table}
@@ -20,8 +21,11 @@ use Rattle.jn_share.specs.declared.groups.Groups.{Groups}
 use Rattle.jn_share.specs.declared.slots.Slots.{Slots}
 use Rattle.jn_share.specs.Groups.{AreGroups}
 use Rattle.jn_share.specs.Slots.{AreSlots}
-use Rattle.jn_laws.specs.LawsOfWritten.{Shallow}
+use Rattle.jn_sem.specs.Terms.{Site}
+use Rattle.jn_laws.specs.LawsOfWritten.{Shallow, SiteFits}
+use Rattle.jn_laws.specs.LawsOfSources.{WellFormed}
 use Rattle.jn_rules.specs.Exprs.{Here}
+use Rattle.jn_rule_laws.specs.LawsOfForms.{ScopeFor}
 use Rattle.jn_expr.specs.declared.env.Env.{Env}
 
 -- what no expression changes
@@ -47,10 +51,11 @@ parts env = record {
   method = env.method;
 }
 
--- They are those of the program p: no name stands twice in it, the universe is filled in the table, none of its paths has more
--- than 255 names, and members, groups, slots and the names of the masks are those of p.
+-- They are those of the program p: no name stands twice in it, the types of its headers are formed, the universe is filled in the
+-- table, none of its paths has more than 255 names, and members, groups, slots and the names of the masks are those of p.
 pub record ArePartsOf (p : Program) (x : Parts) : Type 0 where
   pub once : duplicates p ≡ []
+  pub well : WellFormed p
   pub filled : IsFilled p x.table
   pub shallow : Shallow p
   pub members : IsMembersOf p x.table x.members
@@ -62,6 +67,11 @@ pub record ArePartsOf (p : Program) (x : Parts) : Type 0 where
 pub record IsScope (pool : List Ty) (scope : Scope) : Type 0 where
   pub known : ScopeInPool pool scope
   pub fits : ScopeFits (scope_in pool scope)
+
+-- the variables of the place fit, and the scope is theirs, with any masks and with fresh paths
+pub record IsThere (p : Program) (at : Site) (s : TypeScope) : Type 0 where
+  pub site : SiteFits p at
+  pub scope : ScopeFor at s
 
 -- Nothing of the program is changed, and each older number of the pool shows the same.
 pub record Stays (old new : Env) : Type 0 where

@@ -16,7 +16,7 @@ use Rattle.jn_expr.specs.declared.env.Value.{Value}
 use Rattle.jn_expr.specs.declared.news.Making.{Making}
 use Rattle.jn_expr.specs.Envs.{IsScope}
 use Rattle.jn_expr.specs.Passing.{Grows}
-use Rattle.jn_expr.specs.Values.{typed_in}
+use Rattle.jn_expr.specs.Values.{typed_in, TypedFits}
 use Rattle.jn_expr.specs.Steps.{IsCall}
 
 -- the declaration at Q has the body of the constructor of B
@@ -39,10 +39,11 @@ made_call h pool scope es v (Some call) =
 abbrev pub made_left : Here → List Ty → NumberScope → List (Expr × Typing) → Making → Plan Typed
 made_left h pool scope es m = made_call h pool scope es m.value m.call
 
--- the new object has its number, and the call of its constructor its header
+-- the new object has its number and fits, and the call of its constructor its header
 pub record IsMade (pool : List Ty) (before after : NumberScope) (m : Making) : Type 0 where
   pub number : InPool pool m.value.ty
   pub scope : IsScope pool after
   pub grows : Grows before after
+  pub fits : TypedFits (typed_in pool after m.value)
   pub call : (c : Call) → m.call ≡ Some c → IsCall pool c
   pub begun : (c : Call) → m.call ≡ Some c → length c.paths.items ≡ 1

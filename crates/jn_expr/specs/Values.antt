@@ -1,12 +1,14 @@
 -- What an expression has, by numbers of a pool.
-use Rattle.std.specs.Prelude.{◌≡◌, List, [], ◌∷◌, Option, Some, None}
+use Rattle.std.specs.Prelude.{◌≡◌, ℕ, List, [], ◌∷◌, Option, Some, None}
 use Rattle.jn_base.specs.declared.types.Ty.{Ty}
 use Rattle.jn_base.specs.declared.types.ValKind.{ValKind}
+use Rattle.jn_base.specs.Fits.{TypeFits}
 use Rattle.jn_intern.specs.declared.pool.TyId.{TyId}
 use Rattle.jn_intern.specs.declared.scope.Scope.{Scope}
 use Rattle.jn_intern.specs.Pools.{InPool, shown, scope_in}
 use Rattle.jn_rules.specs.Plans.{Mark, KindMark}
 use Rattle.jn_rules.specs.Exprs.{Typed, kind_of}
+use Rattle.jn_rule_laws.specs.LawsOfForms.{PathKnown}
 use Rattle.jn_expr.specs.declared.env.Env.{Env}
 use Rattle.jn_expr.specs.declared.env.Value.{Value}
 use Rattle.jn_expr.specs.Envs.{IsScope}
@@ -17,11 +19,17 @@ use Rattle.jn_expr.specs.Told.{Adds}
 abbrev pub typed_in : List Ty → Scope → Value → Typed
 typed_in pool scope v = record { ty = shown pool v.ty; path = v.path; scope = scope_in pool scope }
 
--- the number of the value is in the pool; the scope has grown, and still fits
+-- the type fits, and the path, where there is one, is in the scope, with a bound as deep as the type's
+pub record TypedFits (x : Typed) : Type 0 where
+  pub type : TypeFits x.scope x.ty
+  pub path : (q : ℕ) → x.path ≡ Some q → PathKnown x.scope q x.ty
+
+-- the number of the value is in the pool, and its type fits; the scope has grown, and still fits
 pub record IsValue (pool : List Ty) (old new : Scope) (v : Value) : Type 0 where
   pub scope : IsScope pool new
   pub number : InPool pool v.ty
   pub grows : Grows old new
+  pub fits : TypedFits (typed_in pool new v)
 
 -- the kind of a value of the type, where it has one
 abbrev pub kind_marks : Option ValKind → List Mark

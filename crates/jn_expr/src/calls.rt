@@ -14,7 +14,8 @@ ghost use Rattle.jn_heads.specs.Params.{header_in};
 ghost use Rattle.jn_expr.specs.Envs.{ArePartsOf, IsScope, Stays, parts, here_at};
 ghost use Rattle.jn_expr.specs.Passing.{Shows};
 ghost use Rattle.jn_expr.specs.Told.{PlanTold};
-ghost use Rattle.jn_expr.specs.Values.{IsValue, typed_in};
+ghost use Rattle.jn_base.specs.Fits.{TypeFits};
+ghost use Rattle.jn_expr.specs.Values.{IsValue, TypedFits, typed_in};
 ghost use Rattle.jn_expr.specs.Steps.{LeadsTold, entered, IsCall, passed_in};
 ghost use Rattle.jn_expr.specs.Calling.{body_of, OwnerLeads, receiver_left, called, Begins, IsBegun, arg_left, IsPassed};
 
@@ -26,7 +27,7 @@ use crate::marks::note_member;
 use crate::masks::{first_mask, masks_of};
 use crate::members::method_of;
 use crate::operators::is_null;
-use crate::types::{below, path_of, put_in};
+use crate::types::{below, path_of, put_tested};
 use crate::values::is_class;
 use crate::views::plain_of;
 use jn_base::names::Var;
@@ -120,6 +121,7 @@ pub fn enter_with(
     requires parts { ArePartsOf p.now (parts env.old) }
     requires scope { IsScope env.old.pool scope.old }
     requires number { InPool env.old.pool x.ty }
+    requires fits { TypedFits (typed_in env.old.pool scope.old x) }
     ensures told { (go : TypedHeader → Plan Typed) → LeadsTold p.now
         (entered (here_at class.now m.now env.old.vars.list) (body_of owner.now method.now) at count go)
         (λ call. go (header_in env.new.pool call.header)) env.old.marks env.new.marks result }
@@ -130,7 +132,7 @@ pub fn enter_with(
     match enter(alloc, p, class, m, env, owner, method, at, count) {
         Err(fault) => Err(fault),
         Ok(header) => {
-            let path = path_of(alloc, &env.pool, scope, x.ty, x.path)?;
+            let path = path_of(&env.pool, scope, x.ty, x.path)?;
             let call = begin_call(alloc, header, path)?;
             Ok(call)
         }
@@ -197,6 +199,7 @@ pub fn begin_method(
     requires parts { ArePartsOf p.now (parts env.old) }
     requires scope { IsScope env.old.pool scope.old }
     requires number { InPool env.old.pool x.ty }
+    requires fits { TypedFits (typed_in env.old.pool scope.old x) }
     ensures told { (es : List (AnExpr × Typing)) → length es ≡ count → LeadsTold p.now
         (suffix_typed (here_at class.now m.now env.old.vars.list) name.now (Some es) at
         (typed_in env.old.pool scope.old x))
@@ -231,6 +234,7 @@ fn wanted(alloc: Global, pool: &mut Pool, scope: &Scope, call: &Call) -> Result<
         (length call.now.paths.items - 1) ≡ Some x
         → Shows pool.new u (put_in (scope_in pool.old scope.now) call.now.from.items call.now.paths.items x.ty)) }
     ensures number { IfOk result (λ u. InPool pool.new u) }
+    ensures fits { IfOk result (λ u. TypeFits (scope_in pool.new scope.now) (shown pool.new u)) }
     ensures keeps { Keeps pool.old pool.new }
 {
     let i = call.paths.len().saturating_sub(1);
@@ -238,7 +242,7 @@ fn wanted(alloc: Global, pool: &mut Pool, scope: &Scope, call: &Call) -> Result<
         None => Err(AllocError),
         Some(x) => {
             let ty = pool.intern(&x.ty)?;
-            put_in(alloc, pool, scope, ty, &call.from, &call.paths)
+            put_tested(alloc, pool, scope, ty, &call.from, &call.paths)
         }
     }
 }
@@ -269,6 +273,7 @@ pub fn pass_arg(
 ) -> Result<(), CheckFault>
     requires scope { IsScope env.old.pool scope.old }
     requires number { InPool env.old.pool v.ty }
+    requires fits { TypedFits (typed_in env.old.pool scope.old v) }
     ensures told { (p : AProgram) (x : AVar) (go : List ℕ → AScope → Plan Passed) → IsFilled p env.old.table
         → slice_get call.old.header.at.vars.list (length call.old.paths.items - 1) ≡ Some x → LeadsTold p
         (arg_left (here_at class.now m.now env.old.vars.list) call.old.from.items x place
@@ -282,19 +287,11 @@ pub fn pass_arg(
         return Err(CheckFault::Memory);
     }
     let want = wanted(alloc, &mut env.pool, scope, call)?;
-    if !below(
-        alloc,
-        &mut env.judge,
-        &mut env.pool,
-        &env.table,
-        scope,
-        v.ty,
-        want,
-    )? {
+    if !below(&mut env.judge, &mut env.pool, &env.table, scope, v.ty, want)? {
         return Err(refused(alloc, Rule::E18, place, class, m.name.name));
     }
     let passed = type_passed(&env.pool, v.ty, want);
-    let path = path_of(alloc, &env.pool, scope, passed, v.path)?;
+    let path = path_of(&env.pool, scope, passed, v.path)?;
     call.paths.push(path)?;
     Ok(())
 }
@@ -317,7 +314,7 @@ pub fn result_of(
     if call.paths.len() > call.from.len() {
         return Err(CheckFault::Memory);
     }
-    let put = put_in(
+    let put = put_tested(
         alloc,
         &mut env.pool,
         scope,

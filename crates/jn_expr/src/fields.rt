@@ -1,15 +1,15 @@
 //! Fields of values.
 
 ghost use Rattle.std.specs.Prelude.{◌≡◌, IfOk};
-ghost use Rattle.jn_base.specs.declared.tree.Program.{Program as AProgram};
 ghost use Rattle.jn_base.specs.Atoms.{atoms_in, first_at};
 ghost use Rattle.jn_base.specs.Scopes.{bound_of};
-ghost use Rattle.jn_intern.specs.Pools.{InPool, ScopeInPool, scope_in};
+ghost use Rattle.jn_intern.specs.Pools.{InPool, ScopeInPool, shown, scope_in};
+ghost use Rattle.jn_rules.specs.Questions.{IsFoundField};
 ghost use Rattle.jn_rules.specs.Exprs.{field_gives, suffix_typed};
 ghost use Rattle.jn_expr.specs.Envs.{ArePartsOf, IsScope, Stays, parts, here_at};
 ghost use Rattle.jn_expr.specs.Found.{found_of};
 ghost use Rattle.jn_expr.specs.Told.{PlanTold, FaultIs, refusal_at};
-ghost use Rattle.jn_expr.specs.Values.{IsValue, typed_in};
+ghost use Rattle.jn_expr.specs.Values.{IsValue, TypedFits, typed_in};
 
 use crate::env::{Env, Value};
 use crate::fault::refused;
@@ -72,15 +72,20 @@ pub fn of_receiver(
 /// The value of a field that was found: E19 where it is masked.
 fn read_field(
     alloc: Global,
+    p: &Program,
     env: &mut Env,
     scope: &mut Scope,
     x: Value,
     f: &Named,
     found: &Declared,
 ) -> Result<Value, CheckFault>
+    requires parts { ArePartsOf p.now (parts env.old) }
     requires scope { IsScope env.old.pool scope.old }
     requires number { InPool env.old.pool x.ty }
-    ensures told { (p : AProgram) → ArePartsOf p (parts env.old) → PlanTold p
+    requires fits { TypedFits (typed_in env.old.pool scope.old x) }
+    requires found { IsFoundField p.now (scope_in env.old.pool scope.old) (shown env.old.pool x.ty) f.now.name
+        (found_of found.now) }
+    ensures told { PlanTold p.now
         (field_gives f.now (typed_in env.old.pool scope.old x) (found_of found.now))
         (typed_in env.new.pool scope.new) env.old.marks env.new.marks result }
     ensures value { IfOk result (λ v. IsValue env.new.pool scope.old scope.new v) }
@@ -99,7 +104,7 @@ fn read_field(
         ));
     }
     note_member(alloc, &mut env.marks, &found.class)?;
-    let path = path_of(alloc, &env.pool, scope, x.ty, x.path)?;
+    let path = path_of(&env.pool, scope, x.ty, x.path)?;
     let ty = env.pool.intern(&found.ty)?;
     let put = put_in(alloc, &mut env.pool, scope, ty, &[0], &[path])?;
     plain_of(env, scope, put)
@@ -121,6 +126,7 @@ pub fn field_value(
     requires parts { ArePartsOf p.now (parts env.old) }
     requires scope { IsScope env.old.pool scope.old }
     requires number { InPool env.old.pool x.ty }
+    requires fits { TypedFits (typed_in env.old.pool scope.old x) }
     ensures told { PlanTold p.now (suffix_typed (here_at class.now m.now env.old.vars.list) f.now None at
         (typed_in env.old.pool scope.old x))
         (typed_in env.new.pool scope.new) env.old.marks env.new.marks result }
@@ -150,6 +156,6 @@ pub fn field_value(
             f.at,
             f.name,
         )),
-        Some(found) => read_field(alloc, env, scope, x, f, &found),
+        Some(found) => read_field(alloc, p, env, scope, x, f, &found),
     }
 }

@@ -3,6 +3,7 @@
 ghost use Rattle.std.specs.Prelude.{◌≡◌, ◌↔◌, IfOk, IsTrue};
 ghost use Rattle.jn_base.specs.declared.tree.Program.{Program as AProgram};
 ghost use Rattle.jn_base.specs.Atoms.{no_masks, atoms_in};
+ghost use Rattle.jn_base.specs.Fits.{TypeFits};
 ghost use Rattle.jn_intern.specs.Pools.{InPool, shown, scope_in, Keeps};
 ghost use Rattle.jn_sem.specs.Below.{Below};
 ghost use Rattle.jn_sem.specs.NormalFunction.{normal_type};
@@ -91,6 +92,7 @@ fn is_below_left(
 ) -> Result<bool, AllocError>
     requires number { InPool pool.old from }
     requires scope { IsScope pool.old scope.now }
+    requires fits { TypeFits (scope_in pool.old scope.now) (shown pool.old from) }
     ensures below { IfOk result (λ r. (p : AProgram) → IsFilled p table.now
         → Answers (Below p (scope_in pool.old scope.now) (shown pool.old from)
         (normal_type (scope_in pool.old scope.now) left.now)) r) }
@@ -98,7 +100,7 @@ fn is_below_left(
 {
     let id = pool.intern(left)?;
     let form = normal_of(alloc, pool, scope, id)?;
-    below(alloc, judge, pool, table, scope, from, form)
+    below(judge, pool, table, scope, from, form)
 }
 
 /// Whether a constraint grants a view change from the type to the target.
@@ -114,6 +116,7 @@ fn grants(
 ) -> Result<bool, AllocError>
     requires number { InPool pool.old from }
     requires scope { IsScope pool.old scope.now }
+    requires fits { TypeFits (scope_in pool.old scope.now) (shown pool.old from) }
     ensures is { IfOk result (λ r. GrantTold table.now (scope_in pool.old scope.now) pledge.now
         (shown pool.old from) to.now r) }
     ensures keeps { Keeps pool.old pool.new }
@@ -142,6 +145,7 @@ fn constraint_grants(
     requires parts { ArePartsOf p.now (parts env.old) }
     requires scope { IsScope env.old.pool scope.now }
     requires number { InPool env.old.pool from }
+    requires fits { TypeFits (scope_in env.old.pool scope.now) (shown env.old.pool from) }
     ensures told { (u : Target) → to.now ≡ target_type u → QuietTold p.now
         (constraint_grants class.now m.now.name.name constraint.now (scope_in env.old.pool scope.now)
         (shown env.old.pool from) u) itself result }
@@ -185,6 +189,7 @@ pub fn header_grants(
     requires parts { ArePartsOf p.now (parts env.old) }
     requires scope { IsScope env.old.pool scope.now }
     requires number { InPool env.old.pool from }
+    requires fits { TypeFits (scope_in env.old.pool scope.now) (shown env.old.pool from) }
     ensures told { (u : Target) → to.now ≡ target_type u → QuietTold p.now
         (header_grants (here_at class.now m.now env.old.vars.list) (scope_in env.old.pool scope.now)
         (shown env.old.pool from) u) itself result }

@@ -26,6 +26,7 @@ mod walk;
 pub use env::{Env, Value};
 pub use fault::refused;
 pub use fields::of_receiver;
+pub use fits::type_fits;
 pub use lookup::method_at;
 pub use marks::{kind_of, note_atom, note_kind, note_member, note_var};
 pub use masks::{is_masked, masks_of};

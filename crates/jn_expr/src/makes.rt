@@ -4,7 +4,8 @@ ghost use Rattle.std.specs.Prelude.{◌≡◌, IfOk};
 ghost use Rattle.jn_base.specs.declared.types.Atom.{Atom as AnAtom};
 ghost use Rattle.jn_base.specs.Atoms.{atom_of};
 ghost use Rattle.jn_heads.specs.Told.{Told, itself};
-ghost use Rattle.jn_intern.specs.Pools.{scope_in, Keeps};
+ghost use Rattle.jn_base.specs.Fits.{TypeFits};
+ghost use Rattle.jn_intern.specs.Pools.{shown, scope_in, Keeps};
 ghost use Rattle.jn_rules.specs.Plans.{Plan, AtomMark, OfTerm, note, ask, taken};
 ghost use Rattle.jn_rules.specs.Questions.{Means};
 ghost use Rattle.jn_rules.specs.Exprs.{Typed, site_here, made_exact, of_atom};
@@ -115,6 +116,7 @@ pub fn made_type(
     requires { IsScope pool.old scope.now }
     ensures is { IfOk result (λ u. Shows pool.new u
         (normal_type (scope_in pool.old scope.now) (made_exact (atom_of x.now)))) }
+    ensures fits { IfOk result (λ u. TypeFits (scope_in pool.new scope.now) (shown pool.new u)) }
     ensures keeps { Keeps pool.old pool.new }
 {
     let ty = exact_type(alloc, x)?;
@@ -131,6 +133,7 @@ pub fn normal_atom(
 ) -> Result<TyId, AllocError>
     requires { IsScope pool.old scope.now }
     ensures is { IfOk result (λ u. Shows pool.new u (normal_type (scope_in pool.old scope.now) (of_atom x.now))) }
+    ensures fits { IfOk result (λ u. TypeFits (scope_in pool.new scope.now) (shown pool.new u)) }
     ensures keeps { Keeps pool.old pool.new }
 {
     let ty = atom_type(alloc, x)?;

@@ -12,7 +12,8 @@ ghost use Rattle.jn_rules.specs.Plans.{OfConstructor, OfTerm, ask, taken};
 ghost use Rattle.jn_rules.specs.Exprs.{Typing, gives, made_with, made_without, made_exact, new_typed, site_here};
 ghost use Rattle.jn_expr.specs.Envs.{ArePartsOf, IsScope, Stays, parts, here_at};
 ghost use Rattle.jn_expr.specs.Told.{PlanTold};
-ghost use Rattle.jn_expr.specs.Values.{IsValue, typed_in};
+ghost use Rattle.jn_base.specs.Fits.{TypeFits};
+ghost use Rattle.jn_expr.specs.Values.{IsValue, TypedFits, typed_in};
 ghost use Rattle.jn_expr.specs.Steps.{LeadsTold};
 ghost use Rattle.jn_expr.specs.Calling.{body_of};
 ghost use Rattle.jn_expr.specs.Making.{IsLast, IsMade, made_left};
@@ -56,6 +57,7 @@ pub fn make_without(
 ) -> Result<Making, CheckFault>
     requires scope { IsScope env.now.pool scope.old }
     requires number { InPool env.now.pool ty }
+    requires fits { TypeFits (scope_in env.now.pool scope.old) (shown env.now.pool ty) }
     ensures told { (p : AProgram) (es : List (AnExpr × Typing)) → length es ≡ count → LeadsTold p
         (made_without (here_at class.now m.now env.now.vars.list) at es (scope_in env.now.pool scope.old)
         (shown env.now.pool ty))
@@ -65,7 +67,7 @@ pub fn make_without(
     if count != 0 {
         return Err(refused(alloc, Rule::E17, at, class, m.name.name));
     }
-    let path = fresh_path(alloc, &env.pool, scope, ty)?;
+    let path = fresh_path(&env.pool, scope, ty)?;
     Ok(Making {
         value: Value {
             ty,
@@ -93,6 +95,7 @@ pub fn make_by(
     requires parts { ArePartsOf p.now (parts env.old) }
     requires scope { IsScope env.old.pool scope.old }
     requires number { InPool env.old.pool ty }
+    requires fits { TypeFits (scope_in env.old.pool scope.old) (shown env.old.pool ty) }
     ensures told { (es : List (AnExpr × Typing)) → length es ≡ count → LeadsTold p.now
         (made_with (here_at class.now m.now env.old.vars.list) at es (scope_in env.old.pool scope.old)
         (shown env.old.pool ty) (Some (body_of owner.now method.now)))
@@ -123,6 +126,7 @@ pub fn make_by(
 pub fn made(env: &mut Env, scope: &Scope, x: Value) -> Result<Value, CheckFault>
     requires scope { IsScope env.old.pool scope.now }
     requires number { InPool env.old.pool x.ty }
+    requires fits { TypedFits (typed_in env.old.pool scope.now x) }
     ensures told { (p : AProgram) → PlanTold p (gives (typed_in env.old.pool scope.now x))
         (typed_in env.new.pool scope.now) env.old.marks env.new.marks result }
     ensures value { IfOk result (λ v. IsValue env.new.pool scope.now scope.now v) }

@@ -11,6 +11,7 @@ ghost use Rattle.jn_expr.specs.Envs.{ArePartsOf, IsScope, Stays, parts, here_at}
 ghost use Rattle.jn_expr.specs.Told.{PlanTold};
 ghost use Rattle.jn_expr.specs.Steps.{IsCall, passed_in};
 ghost use Rattle.jn_expr.specs.Calling.{body_of, OwnerLeads};
+ghost use Rattle.jn_expr.specs.Variables.{PathThere};
 ghost use Rattle.jn_expr.specs.Values.{IsValue, typed_in};
 
 use crate::calls::result_of;
@@ -37,6 +38,7 @@ pub fn begin_super(
 ) -> Result<Bound, CheckFault>
     requires parts { ArePartsOf p.now (parts env.old) }
     requires scope { IsScope env.old.pool scope.now }
+    requires this { PathThere (scope_in env.old.pool scope.now) 0 }
     ensures told { (es : List (AnExpr × Typing)) → OwnerLeads p.now name.now.name
         (ask (OfTerm role.Super (site_here (here_at class.now m.now env.old.vars.list)) t.now)
         (taken (super_typed (here_at class.now m.now env.old.vars.list) t.now name.now es

@@ -15,6 +15,7 @@ ghost use Rattle.jn_rules.specs.Exprs.{Typing, Typed, path_type, of_atom, super_
 ghost use Rattle.jn_expr.specs.Envs.{ArePartsOf, IsScope, Stays, parts, here_at};
 ghost use Rattle.jn_expr.specs.Steps.{LeadsTold, IsCall};
 ghost use Rattle.jn_expr.specs.Calling.{body_of, OwnerLeads};
+ghost use Rattle.jn_expr.specs.Variables.{PathThere};
 ghost use Rattle.jn_expr.specs.Supering.{super_asked, super_left, constraint_asked};
 
 use crate::calls::{begin_call, enter};
@@ -44,7 +45,8 @@ fn this_below(
     scope: &Scope,
     x: &Atom,
 ) -> Result<bool, AllocError>
-    requires { IsScope pool.old scope.now }
+    requires scope { IsScope pool.old scope.now }
+    requires this { PathThere (scope_in pool.old scope.now) 0 }
     ensures below { IfOk result (λ r. (p : AProgram) → IsFilled p table.now
         → Answers (Below p (scope_in pool.old scope.now) (path_type (scope_in pool.old scope.now) 0)
         (normal_type (scope_in pool.old scope.now) (of_atom x.now))) r) }
@@ -53,7 +55,7 @@ fn this_below(
     let this = path_type(alloc, pool, scope, 0)?;
     let from = pool.intern(&this)?;
     let to = normal_atom(alloc, pool, scope, x)?;
-    below(alloc, judge, pool, table, scope, from, to)
+    below(judge, pool, table, scope, from, to)
 }
 
 /// The class that has the body that a `super` calls: E18 at the term where `this` is not below it, E16 at the name
@@ -69,6 +71,7 @@ pub fn super_owner(
     x: &Atom,
 ) -> Result<Bound, CheckFault>
     requires scope { IsScope env.old.pool scope.now }
+    requires this { PathThere (scope_in env.old.pool scope.now) 0 }
     ensures told { (p : AProgram) (es : List (AnExpr × Typing)) → ArePartsOf p (parts env.old)
         → OwnerLeads p name.now.name
         (super_asked (here_at class.now m.now env.old.vars.list) t.now name.now es

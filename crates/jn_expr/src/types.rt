@@ -3,9 +3,11 @@
 ghost use Rattle.std.specs.Prelude.{◌≡◌, ◌≤◌, ◌<◌, ◌^◌, suc, cond, nat_lt, IfOk, IsTrue, List, length};
 ghost use Rattle.jn_base.specs.declared.tree.Program.{Program};
 ghost use Rattle.jn_base.specs.declared.types.Ty.{Ty as AType};
+ghost use Rattle.jn_base.specs.Fits.{TypeFits};
 ghost use Rattle.jn_table.specs.Tables.{IsFilled};
 ghost use Rattle.jn_intern.specs.Pools.{InPool, shown, scope_in, Keeps};
 ghost use Rattle.jn_sem.specs.Below.{Below};
+ghost use Rattle.jn_sem.specs.Normal.{swapped, MovedFits};
 ghost use Rattle.jn_sem.specs.NormalFunction.{normal_type};
 ghost use Rattle.jn_subtype.specs.Binds.{binds_in};
 ghost use Rattle.jn_rules.specs.Questions.{Answers};
@@ -23,7 +25,6 @@ use std::alloc::{AllocError, Global};
 
 /// Whether the first type is below the second one.
 pub fn below(
-    alloc: Global,
     judge: &mut Judge,
     pool: &mut Pool,
     table: &Table,
@@ -34,16 +35,12 @@ pub fn below(
     requires s { InPool pool.old s }
     requires t { InPool pool.old t }
     requires scope { IsScope pool.old scope.now }
+    requires s_fits { TypeFits (scope_in pool.old scope.now) (shown pool.old s) }
+    requires t_fits { TypeFits (scope_in pool.old scope.now) (shown pool.old t) }
     ensures below { IfOk result (λ r. (p : Program) → IsFilled p table.now
         → Answers (Below p (scope_in pool.old scope.now) (shown pool.old s) (shown pool.old t)) r) }
     ensures keeps { Keeps pool.old pool.new }
 {
-    if !type_fits(alloc, pool, scope, pool.show(s))? {
-        return Err(AllocError);
-    }
-    if !type_fits(alloc, pool, scope, pool.show(t))? {
-        return Err(AllocError);
-    }
     judge.sub(pool, table, scope, s, t)
 }
 
@@ -59,15 +56,36 @@ pub fn put_in(
     requires number { InPool pool.old t }
     requires scope { IsScope pool.old scope.now }
     requires short { length to.now ≤ length from.now }
+    requires moved { MovedFits (scope_in pool.old scope.now) (swapped from.now to.now) (shown pool.old t) }
     ensures is { IfOk result (λ u. Shows pool.new u
         (put_in (scope_in pool.old scope.now) from.now to.now (shown pool.old t))) }
+    ensures fits { IfOk result (λ u. TypeFits (scope_in pool.new scope.now) (shown pool.new u)) }
     ensures keeps { Keeps pool.old pool.new }
 {
-    let front = &from[..to.len()];
-    if !moved_fits(alloc, pool, scope, pool.show(t), front, to)? {
+    subst(alloc, pool, scope, t, &from[..to.len()], to)
+}
+
+/// The same of a type of which it isn't known that it fits with its paths replaced.
+pub fn put_tested(
+    alloc: Global,
+    pool: &mut Pool,
+    scope: &Scope,
+    t: TyId,
+    from: &[u32],
+    to: &[u32],
+) -> Result<TyId, AllocError>
+    requires number { InPool pool.old t }
+    requires scope { IsScope pool.old scope.now }
+    requires short { length to.now ≤ length from.now }
+    ensures is { IfOk result (λ u. Shows pool.new u
+        (put_in (scope_in pool.old scope.now) from.now to.now (shown pool.old t))) }
+    ensures fits { IfOk result (λ u. TypeFits (scope_in pool.new scope.now) (shown pool.new u)) }
+    ensures keeps { Keeps pool.old pool.new }
+{
+    if !moved_fits(alloc, pool, scope, pool.show(t), &from[..to.len()], to)? {
         return Err(AllocError);
     }
-    subst(alloc, pool, scope, t, front, to)
+    put_in(alloc, pool, scope, t, from, to)
 }
 
 /// The type in normal form.
@@ -75,6 +93,7 @@ pub fn normal_of(alloc: Global, pool: &mut Pool, scope: &Scope, t: TyId) -> Resu
     requires number { InPool pool.old t }
     requires scope { IsScope pool.old scope.now }
     ensures is { IfOk result (λ u. Shows pool.new u (normal_type (scope_in pool.old scope.now) (shown pool.old t))) }
+    ensures fits { IfOk result (λ u. TypeFits (scope_in pool.new scope.now) (shown pool.new u)) }
     ensures keeps { Keeps pool.old pool.new }
 {
     if !type_fits(alloc, pool, scope, pool.show(t))? {
@@ -126,21 +145,14 @@ fn next_path(binds: &[Bind]) -> Result<u32, AllocError>
 }
 
 /// A fresh path with the type.
-pub fn fresh_path(
-    alloc: Global,
-    pool: &Pool,
-    scope: &mut Scope,
-    ty: TyId,
-) -> Result<u32, AllocError>
+pub fn fresh_path(pool: &Pool, scope: &mut Scope, ty: TyId) -> Result<u32, AllocError>
     requires number { InPool pool.now ty }
     requires scope { IsScope pool.now scope.old }
+    requires fits { TypeFits (scope_in pool.now scope.old) (shown pool.now ty) }
     ensures { IfOk result (λ q. IsPassing pool.now scope.old scope.new (shown pool.now ty) None q) }
 {
     let path = next_path(&scope.binds)?;
     if !is_free(&scope.binds, path) {
-        return Err(AllocError);
-    }
-    if !type_fits(alloc, pool, scope, pool.show(ty))? {
         return Err(AllocError);
     }
     scope.binds.push(Bind { path, ty })?;
@@ -149,7 +161,6 @@ pub fn fresh_path(
 
 /// The path of a value of the type: its own, or a fresh one.
 pub fn path_of(
-    alloc: Global,
     pool: &Pool,
     scope: &mut Scope,
     ty: TyId,
@@ -157,10 +168,11 @@ pub fn path_of(
 ) -> Result<u32, AllocError>
     requires number { InPool pool.now ty }
     requires scope { IsScope pool.now scope.old }
+    requires fits { TypeFits (scope_in pool.now scope.old) (shown pool.now ty) }
     ensures { IfOk result (λ q. IsPassing pool.now scope.old scope.new (shown pool.now ty) path q) }
 {
     match path {
         Some(q) => Ok(q),
-        None => fresh_path(alloc, pool, scope, ty),
+        None => fresh_path(pool, scope, ty),
     }
 }

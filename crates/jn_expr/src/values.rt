@@ -1,8 +1,11 @@
 //! Literals, paths and variables.
 
-ghost use Rattle.std.specs.Prelude.{◌≡◌, All, IfOk, option_copied, reverse};
+ghost use Rattle.std.specs.Prelude.{◌≡◌, true, All, IfOk, option_copied, reverse};
 ghost use Rattle.jn_base.specs.declared.tree.Program.{Program};
 ghost use Rattle.jn_base.specs.declared.tree.Method.{Method as AMethod};
+ghost use Rattle.jn_base.specs.declared.names.Var.{Var as AVar};
+ghost use Rattle.jn_base.specs.Atoms.{Among};
+ghost use Rattle.jn_base.specs.Fits.{TypeFits};
 ghost use Rattle.jn_base.specs.Resolve.{newest, is_class, var_named};
 ghost use Rattle.jn_intern.specs.Pools.{InPool, ScopeInPool, scope_in};
 ghost use Rattle.jn_subtype.specs.Binds.{binds_in};
@@ -10,7 +13,7 @@ ghost use Rattle.jn_rules.specs.Exprs.{masks_at, path_type, of_path, plain, give
 ghost use Rattle.jn_expr.specs.Envs.{IsScope, Stays, here_at};
 ghost use Rattle.jn_expr.specs.Told.{PlanTold};
 ghost use Rattle.jn_expr.specs.Values.{IsProduced, IsValue, typed_in};
-ghost use Rattle.jn_expr.specs.Variables.{KnownIs, known_typed};
+ghost use Rattle.jn_expr.specs.Variables.{PathThere, VarFits, KnownIs, known_typed};
 
 use crate::env::{Env, Value};
 use crate::fault::refused;
@@ -51,7 +54,8 @@ pub fn produce(env: &mut Env, ty: &Ty) -> Result<TyId, AllocError>
 
 /// A value of the type, which is no path.
 pub fn plain(env: &mut Env, scope: &Scope, ty: &Ty) -> Result<Value, CheckFault>
-    requires { IsScope env.old.pool scope.now }
+    requires scope { IsScope env.old.pool scope.now }
+    requires fits { TypeFits (scope_in env.old.pool scope.now) ty.now }
     ensures told { (p : Program) → PlanTold p (gives (plain ty.now (scope_in env.old.pool scope.now)))
         (typed_in env.new.pool scope.now) env.old.marks env.new.marks result }
     ensures value { IfOk result (λ v. IsValue env.new.pool scope.now scope.now v) }
@@ -97,7 +101,8 @@ pub fn path_value(
     scope: &Scope,
     path: u32,
 ) -> Result<Value, CheckFault>
-    requires { IsScope env.old.pool scope.now }
+    requires scope { IsScope env.old.pool scope.now }
+    requires there { PathThere (scope_in env.old.pool scope.now) path }
     ensures told { (p : Program) → PlanTold p (gives (of_path path (scope_in env.old.pool scope.now)))
         (typed_in env.new.pool scope.now) env.old.marks env.new.marks result }
     ensures value { IfOk result (λ v. IsValue env.new.pool scope.now scope.now v) }
@@ -153,7 +158,9 @@ fn known_value(
     scope: &Scope,
     known: &Known,
 ) -> Result<Value, CheckFault>
-    requires { IsScope env.old.pool scope.now }
+    requires scope { IsScope env.old.pool scope.now }
+    requires fits { TypeFits (scope_in env.old.pool scope.now) known.now.ty }
+    requires there { known.now.is_path ≡ true → PathThere (scope_in env.old.pool scope.now) known.now.path }
     ensures told { (p : Program) → PlanTold p (gives (known_typed known.now (scope_in env.old.pool scope.now)))
         (typed_in env.new.pool scope.now) env.old.marks env.new.marks result }
     ensures value { IfOk result (λ v. IsValue env.new.pool scope.now scope.now v) }
@@ -175,7 +182,8 @@ pub fn variable(
     at: Place,
     x: Name,
 ) -> Result<Value, CheckFault>
-    requires { IsScope env.old.pool scope.now }
+    requires scope { IsScope env.old.pool scope.now }
+    requires vars { (v : AVar) → Among env.old.vars.list v → VarFits (scope_in env.old.pool scope.now) v }
     ensures told { (p : Program) (m : AMethod) → PlanTold p
         (var_gives (here_at class.now m env.old.vars.list) at x (scope_in env.old.pool scope.now)
         (var_named env.old.vars x))

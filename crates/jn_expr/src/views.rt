@@ -9,7 +9,8 @@ ghost use Rattle.jn_rules.specs.Exprs.{Typed, plain, gives, site_here, by_sharin
 ghost use Rattle.jn_sem.specs.NormalFunction.{normal_type};
 ghost use Rattle.jn_expr.specs.Envs.{ArePartsOf, IsScope, Stays, parts, here_at};
 ghost use Rattle.jn_expr.specs.Told.{PlanTold};
-ghost use Rattle.jn_expr.specs.Values.{IsValue, typed_in};
+ghost use Rattle.jn_base.specs.Fits.{TypeFits};
+ghost use Rattle.jn_expr.specs.Values.{IsValue, TypedFits, typed_in};
 ghost use Rattle.jn_expr.specs.Viewing.{TargetTold, TargetLeads, granted_or, changed};
 
 use crate::env::{Env, Value};
@@ -97,6 +98,7 @@ pub fn begin_view(
 pub fn plain_of(env: &mut Env, scope: &Scope, ty: TyId) -> Result<Value, CheckFault>
     requires scope { IsScope env.old.pool scope.now }
     requires number { InPool env.old.pool ty }
+    requires fits { TypeFits (scope_in env.old.pool scope.now) (shown env.old.pool ty) }
     ensures told { (p : AProgram) → PlanTold p (gives
         (plain (shown env.old.pool ty) (scope_in env.old.pool scope.now)))
         (typed_in env.new.pool scope.now) env.old.marks env.new.marks result }
@@ -136,6 +138,7 @@ fn by_sharing(
     requires parts { ArePartsOf p.now (parts env.old) }
     requires scope { IsScope env.old.pool scope.now }
     requires number { InPool env.old.pool from }
+    requires fits { TypeFits (scope_in env.old.pool scope.now) (shown env.old.pool from) }
     ensures told { (u : Target) → target.now ≡ target_type u → atom.now ≡ u.atom → PlanTold p.now
         (by_sharing at (scope_in env.old.pool scope.now) (shown env.old.pool from) u
         (viewed_as u (scope_in env.old.pool scope.now)) Root)
@@ -169,6 +172,7 @@ fn unless_path(
     requires parts { ArePartsOf p.now (parts env.old) }
     requires scope { IsScope env.old.pool scope.now }
     requires number { InPool env.old.pool from }
+    requires fits { TypeFits (scope_in env.old.pool scope.now) (shown env.old.pool from) }
     ensures told { (u : Target) → target.now ≡ target_type u → PlanTold p.now
         (by_sharing at (scope_in env.old.pool scope.now) (shown env.old.pool from) u
         (viewed_as u (scope_in env.old.pool scope.now)) u.atom.anchor)
@@ -200,6 +204,7 @@ fn granted_or(
     requires parts { ArePartsOf p.now (parts env.old) }
     requires scope { IsScope env.old.pool scope.now }
     requires number { InPool env.old.pool from }
+    requires fits { TypeFits (scope_in env.old.pool scope.now) (shown env.old.pool from) }
     ensures told { (u : Target) → target.now ≡ target_type u → PlanTold p.now
         (granted_or (here_at class.now m.now env.old.vars.list) at u (shown env.old.pool from)
         (scope_in env.old.pool scope.now))
@@ -235,6 +240,7 @@ pub fn change_view(
     requires parts { ArePartsOf p.now (parts env.old) }
     requires scope { IsScope env.old.pool scope.now }
     requires number { InPool env.old.pool x.ty }
+    requires fits { TypedFits (typed_in env.old.pool scope.now x) }
     ensures told { (u : Target) → target.now ≡ target_type u → PlanTold p.now
         (changed (here_at class.now m.now env.old.vars.list) at place u (typed_in env.old.pool scope.now x))
         (typed_in env.new.pool scope.now) env.old.marks env.new.marks result }

@@ -12,14 +12,14 @@ ghost use Rattle.jn_heads.specs.Params.{header_in};
 ghost use Rattle.jn_rules.specs.Plans.{Plan, OfTerm, OfView, ask, then_do, taken};
 ghost use Rattle.jn_rules.specs.Exprs.{Passed, site_here, expr_types, links_typed, suffixes_typed, suffix_typed, args_typed, new_typed, super_typed, super_gives, view_typed};
 ghost use Rattle.jn_rules.specs.Forms.{typed_expr, typed_args, typed_links, typed_parts, part_types};
-ghost use Rattle.jn_expr.specs.Envs.{ArePartsOf, IsScope, Stays, parts, here_at};
+ghost use Rattle.jn_expr.specs.Envs.{ArePartsOf, IsScope, IsThere, Stays, parts, here_at};
 ghost use Rattle.jn_expr.specs.Passing.{Grows};
 ghost use Rattle.jn_expr.specs.Told.{PlanTold};
 ghost use Rattle.jn_expr.specs.Steps.{LeadsTold, inverted, negated, link_typed, IsCall, passed_in};
 ghost use Rattle.jn_expr.specs.Calling.{body_of, called, arg_left, IsPassed};
 ghost use Rattle.jn_expr.specs.Making.{made_call};
 ghost use Rattle.jn_expr.specs.Typing.{TypeTold, AwaitsArgs};
-ghost use Rattle.jn_expr.specs.Values.{IsValue, typed_in};
+ghost use Rattle.jn_expr.specs.Values.{IsValue, TypedFits, typed_in};
 
 use crate::calls::{begin_method, pass_arg, result_of};
 use crate::env::{Call, Env, Value};
@@ -55,6 +55,8 @@ pub fn value_of(
 ) -> Result<Value, CheckFault>
     requires parts { ArePartsOf p.now (parts env.old) }
     requires scope { IsScope env.old.pool scope.old }
+    requires there { IsThere p.now (site_here (here_at class.now m.now env.old.vars.list))
+        (scope_in env.old.pool scope.old) }
     ensures told { PlanTold p.now
         (expr_types (here_at class.now m.now env.old.vars.list) e.now (scope_in env.old.pool scope.old))
         (typed_in env.new.pool scope.new) env.old.marks env.new.marks result }
@@ -127,6 +129,8 @@ fn type_not(
 ) -> Result<Value, CheckFault>
     requires parts { ArePartsOf p.now (parts env.old) }
     requires scope { IsScope env.old.pool scope.old }
+    requires there { IsThere p.now (site_here (here_at class.now m.now env.old.vars.list))
+        (scope_in env.old.pool scope.old) }
     ensures told { PlanTold p.now (then_do
         (expr_types (here_at class.now m.now env.old.vars.list) e.now (scope_in env.old.pool scope.old))
         (inverted (here_at class.now m.now env.old.vars.list) e.now.at))
@@ -153,6 +157,8 @@ fn type_negative(
 ) -> Result<Value, CheckFault>
     requires parts { ArePartsOf p.now (parts env.old) }
     requires scope { IsScope env.old.pool scope.old }
+    requires there { IsThere p.now (site_here (here_at class.now m.now env.old.vars.list))
+        (scope_in env.old.pool scope.old) }
     ensures told { PlanTold p.now (then_do
         (expr_types (here_at class.now m.now env.old.vars.list) e.now (scope_in env.old.pool scope.old))
         (negated (here_at class.now m.now env.old.vars.list) e.now.at))
@@ -181,6 +187,8 @@ fn type_view(
 ) -> Result<Value, CheckFault>
     requires parts { ArePartsOf p.now (parts env.old) }
     requires scope { IsScope env.old.pool scope.old }
+    requires there { IsThere p.now (site_here (here_at class.now m.now env.old.vars.list))
+        (scope_in env.old.pool scope.old) }
     ensures told { PlanTold p.now
         (ask (OfView (site_here (here_at class.now m.now env.old.vars.list)) view.now)
         (taken (view_typed (here_at class.now m.now env.old.vars.list) at
@@ -213,7 +221,10 @@ fn type_link(
 ) -> Result<Value, CheckFault>
     requires parts { ArePartsOf p.now (parts env.old) }
     requires scope { IsScope env.old.pool scope.old }
+    requires there { IsThere p.now (site_here (here_at class.now m.now env.old.vars.list))
+        (scope_in env.old.pool scope.old) }
     requires number { InPool env.old.pool x.ty }
+    requires fits { TypedFits (typed_in env.old.pool scope.old x) }
     ensures told { PlanTold p.now
         (link_typed (here_at class.now m.now env.old.vars.list) at (typed_in env.old.pool scope.old x) l.now
         (expr_types (here_at class.now m.now env.old.vars.list) l.now.right))
@@ -245,7 +256,10 @@ fn type_links(
 ) -> Result<Value, CheckFault>
     requires parts { ArePartsOf p.now (parts env.old) }
     requires scope { IsScope env.old.pool scope.old }
+    requires there { IsThere p.now (site_here (here_at class.now m.now env.old.vars.list))
+        (scope_in env.old.pool scope.old) }
     requires number { InPool env.old.pool x.ty }
+    requires fits { TypedFits (typed_in env.old.pool scope.old x) }
     ensures told { PlanTold p.now
         (links_typed (here_at class.now m.now env.old.vars.list) at (typed_in env.old.pool scope.old x)
         (typed_links (here_at class.now m.now env.old.vars.list) links.now))
@@ -280,7 +294,10 @@ fn type_part(
 ) -> Result<Value, CheckFault>
     requires parts { ArePartsOf p.now (parts env.old) }
     requires scope { IsScope env.old.pool scope.old }
+    requires there { IsThere p.now (site_here (here_at class.now m.now env.old.vars.list))
+        (scope_in env.old.pool scope.old) }
     requires number { InPool env.old.pool x.ty }
+    requires fits { TypedFits (typed_in env.old.pool scope.old x) }
     ensures told { PlanTold p.now
         (part_types (here_at class.now m.now env.old.vars.list) part.now at (typed_in env.old.pool scope.old x))
         (typed_in env.new.pool scope.new) env.old.marks env.new.marks result }
@@ -320,7 +337,10 @@ fn type_parts(
 ) -> Result<Value, CheckFault>
     requires parts { ArePartsOf p.now (parts env.old) }
     requires scope { IsScope env.old.pool scope.old }
+    requires there { IsThere p.now (site_here (here_at class.now m.now env.old.vars.list))
+        (scope_in env.old.pool scope.old) }
     requires number { InPool env.old.pool x.ty }
+    requires fits { TypedFits (typed_in env.old.pool scope.old x) }
     ensures told { PlanTold p.now
         (suffixes_typed whole at (typed_parts (here_at class.now m.now env.old.vars.list) suffixes.now)
         (typed_in env.old.pool scope.old x))
@@ -356,6 +376,8 @@ fn type_arg(
 ) -> Result<(), CheckFault>
     requires parts { ArePartsOf p.now (parts env.old) }
     requires scope { IsScope env.old.pool scope.old }
+    requires there { IsThere p.now (site_here (here_at class.now m.now env.old.vars.list))
+        (scope_in env.old.pool scope.old) }
     ensures told { (x : AVar) (go : List ℕ → AScope → Plan Passed)
         → slice_get call.old.header.at.vars.list (length call.old.paths.items - 1) ≡ Some x → LeadsTold p.now
         (then_do (expr_types (here_at class.now m.now env.old.vars.list) e.now (scope_in env.old.pool scope.old))
@@ -386,6 +408,8 @@ fn type_args(
 ) -> Result<(), CheckFault>
     requires parts { ArePartsOf p.now (parts env.old) }
     requires scope { IsScope env.old.pool scope.old }
+    requires there { IsThere p.now (site_here (here_at class.now m.now env.old.vars.list))
+        (scope_in env.old.pool scope.old) }
     requires first { length call.old.paths.items ≡ 1 }
     ensures told { PlanTold p.now
         (args_typed (here_at class.now m.now env.old.vars.list) call.old.from.items call.old.header.at.vars.list
@@ -421,6 +445,8 @@ fn type_called(
 ) -> Result<Value, CheckFault>
     requires parts { ArePartsOf p.now (parts env.old) }
     requires scope { IsScope env.old.pool scope.old }
+    requires there { IsThere p.now (site_here (here_at class.now m.now env.old.vars.list))
+        (scope_in env.old.pool scope.old) }
     requires call { IsCall env.old.pool call.old }
     requires first { length call.old.paths.items ≡ 1 }
     ensures told { PlanTold p.now
@@ -453,7 +479,10 @@ fn type_call(
 ) -> Result<Value, CheckFault>
     requires parts { ArePartsOf p.now (parts env.old) }
     requires scope { IsScope env.old.pool scope.old }
+    requires there { IsThere p.now (site_here (here_at class.now m.now env.old.vars.list))
+        (scope_in env.old.pool scope.old) }
     requires number { InPool env.old.pool x.ty }
+    requires fits { TypedFits (typed_in env.old.pool scope.old x) }
     ensures told { PlanTold p.now
         (suffix_typed (here_at class.now m.now env.old.vars.list) name.now
         (Some (typed_args (here_at class.now m.now env.old.vars.list) args.now)) at
@@ -486,7 +515,10 @@ fn type_made(
 ) -> Result<Value, CheckFault>
     requires parts { ArePartsOf p.now (parts env.old) }
     requires scope { IsScope env.old.pool scope.old }
+    requires there { IsThere p.now (site_here (here_at class.now m.now env.old.vars.list))
+        (scope_in env.old.pool scope.old) }
     requires number { InPool env.old.pool value.ty }
+    requires fits { TypedFits (typed_in env.old.pool scope.old value) }
     requires call { AwaitsArgs env.old.pool constructor }
     ensures told { PlanTold p.now
         (made_call (here_at class.now m.now env.old.vars.list) env.old.pool scope.old
@@ -522,6 +554,8 @@ fn type_new(
 ) -> Result<Value, CheckFault>
     requires parts { ArePartsOf p.now (parts env.old) }
     requires scope { IsScope env.old.pool scope.old }
+    requires there { IsThere p.now (site_here (here_at class.now m.now env.old.vars.list))
+        (scope_in env.old.pool scope.old) }
     ensures told { PlanTold p.now
         (ask (OfTerm role.New (site_here (here_at class.now m.now env.old.vars.list)) t.now)
         (taken (new_typed (here_at class.now m.now env.old.vars.list) at
@@ -562,6 +596,8 @@ fn type_super_body(
 ) -> Result<Value, CheckFault>
     requires parts { ArePartsOf p.now (parts env.old) }
     requires scope { IsScope env.old.pool scope.old }
+    requires there { IsThere p.now (site_here (here_at class.now m.now env.old.vars.list))
+        (scope_in env.old.pool scope.old) }
     ensures told { PlanTold p.now
         (super_gives (here_at class.now m.now env.old.vars.list) name.now
         (typed_args (here_at class.now m.now env.old.vars.list) args.now) (scope_in env.old.pool scope.old)
@@ -597,6 +633,8 @@ fn type_super(
 ) -> Result<Value, CheckFault>
     requires parts { ArePartsOf p.now (parts env.old) }
     requires scope { IsScope env.old.pool scope.old }
+    requires there { IsThere p.now (site_here (here_at class.now m.now env.old.vars.list))
+        (scope_in env.old.pool scope.old) }
     ensures told { PlanTold p.now
         (ask (OfTerm role.Super (site_here (here_at class.now m.now env.old.vars.list)) t.now)
         (taken (super_typed (here_at class.now m.now env.old.vars.list) t.now name.now
@@ -630,6 +668,8 @@ pub fn type_of(
 ) -> Result<TyId, CheckFault>
     requires parts { ArePartsOf p.now (parts env.old) }
     requires scope { IsScope env.old.pool scope.old }
+    requires there { (Q : APath) (m : AMethod) → env.old.class ≡ shown_path Q → MethodAt p.now Q env.old.method m
+        → IsThere p.now (site_here (here_at Q m env.old.vars.list)) (scope_in env.old.pool scope.old) }
     ensures told { (Q : APath) (m : AMethod) → env.old.class ≡ shown_path Q → MethodAt p.now Q env.old.method m
         → TypeTold p.now (expr_types (here_at Q m env.old.vars.list) e.now (scope_in env.old.pool scope.old))
         env.new.pool scope.new env.old.marks env.new.marks result }

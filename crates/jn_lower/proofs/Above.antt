@@ -53,18 +53,18 @@ use Rattle.jn_lower.specs.Called.{Args, SuperArgs}
 use Rattle.jn_lower.specs.Selecting.{shape_of, method_sel}
 use Rattle.jn_lower.specs.Told.{IsCallee}
 use Rattle.jn_lower.specs.Lowering.{PartsAre}
-use Rattle.jn_lower.specs.Making.{IsThis, AboveFound, TuckedFor, AboveCalled, BareCalled}
+use Rattle.jn_lower.specs.Making.{AboveFound, TuckedFor, AboveCalled, BareCalled}
 use Rattle.jn_lower.specs.Walks.{Ready, LowersValue, LowersArgs, LowersNodeAs}
 use Rattle.jn_lower.proofs.Growing.{means}
 use Rattle.jn_lower.proofs.Calling.{super_so, bare_super_so}
 use Rattle.jn_lower.proofs.Heads.{head_is, header_silent}
 use Rattle.jn_lower.proofs.Noting.{taken_noted, wants_noted, found_noted, grants_silent}
-use Rattle.jn_lower.proofs.Taking.{term_ahead, member_ahead, ready_locals, ready_in, ready_typed, ready_tucked, own_bound}
-use Rattle.jn_lower.proofs.Seen.{named_low, this_first}
+use Rattle.jn_lower.proofs.Taking.{term_ahead, member_ahead, ready_locals, ready_in, ready_typed, ready_tucked, scoped_here, scoped_there}
+use Rattle.jn_lower.proofs.Seen.{named_low}
 use Rattle.jn_lower.proofs.Chains.{is_it, regroup}
 use Rattle.jn_lower.proofs.Behind.{settles, put_kept}
 use Rattle.jn_lower.proofs.Passing.{no_args_done, one_arg_done}
-use Rattle.jn_lower.proofs.Making.{this_is, no_items, callee_shape, one_header, method_there}
+use Rattle.jn_lower.proofs.Making.{no_items, callee_shape, one_header, method_there}
 
 -- ---- what is noted
 
@@ -179,10 +179,10 @@ found g n scratch h u m es sc x z ms rest w0 w1 parts ready ahead f c =
     let B = bound sc (atom_of c.atom) in
     let s = scope_at (spot_at (site_here h) role.Super) (vars_at (site_here h)) in
     let here : slice_get n.classes x.class ≡ Some B =
-    f.class n parts.classes sc (this_is g h sc ready.class (own_bound g scratch h sc w0 ready))
+    f.class n parts.classes sc (scoped_here g scratch h sc w0 ready)
     ∙ ap (λ (a : ShownAtom). Some (bound sc (atom_of a))) one.same in
     let there : slice_get n.classes x.class ≡ Some (bound s (atom_of c.atom)) =
-    f.class n parts.classes s (this_is g h s ready.class (this_first (site_here h) ready.apart))
+    f.class n parts.classes s (scoped_there g scratch h sc w0 ready)
     ∙ ap (λ (a : ShownAtom). Some (bound s (atom_of a))) one.same in
     let shape = shape_of f.callee.params.items f.callee.kind in
     record {

@@ -37,6 +37,10 @@ use Rattle.jn_lower.specs.Lowering.{PartsAre, BodyIs}
 use Rattle.jn_lower.specs.Walks.{Ready, LowersStmts, Begun, Finished}
 use Rattle.jn_lower.proofs.Growing.{added, earlier}
 use Rattle.jn_lower.proofs.Finishing.{locals_fit}
+use Rattle.jn_base.specs.declared.tree.Param.{Param}
+use Rattle.jn_base.specs.Paths.{Path}
+use Rattle.jn_lower.specs.Params.{AtParam, AreParamBounds}
+use Rattle.jn_lower.proofs.ParamBounds.{params_known}
 use Rattle.jn_lower.proofs.Heads.{HeadIs, head_is, header_silent}
 
 header_same : {x y : Header} → ◌≡◌ {A = Result Header Refusal} (Ok x) (Ok y) → x ≡ y
@@ -88,14 +92,23 @@ front (x ∷ xs) (y ∷ ys) f =
     ap (λ (k : ℕ). k ∷ take (length xs) ys) (one_some (f 0 x refl))
     ∙ ap (λ (l : List ℕ). x ∷ l) (front xs ys (λ q k e. f (suc q) k e))
 
+kind_there : (xs : List Param) (j : ℕ) (x : Param) → slice_get xs j ≡ Some x
+    → slice_get (map param_kind xs) j ≡ Some (param_kind x)
+kind_there [] j x e = absurd cc
+kind_there (y ∷ xs) zero x e = ap (λ (z : Param). Some (param_kind z)) (same e) where
+  same : Some y ≡ Some x → y ≡ x
+  same e = cc
+kind_there (y ∷ xs) (suc j) x e = kind_there xs j x e
+
 -- ---- the whole
 
 pub body_stands : (g : Parts) (n : Naming) (m : Method) (r : Resolved) (b : Body) (k : Header) (c0 c1 c3 : Emitter)
-    (w1 w2 : Walk) (code : Code) → PartsAre g.p.now g.t.now g.slots.now g.names.now n → g.class.now ≡ r.class → BodyIs g.p.now m r b k → Begun m c0
+    (w1 w2 : Walk) (code : Code) → PartsAre g.p.now g.t.now g.slots.now g.names.now n → g.class.now ≡ r.class
+    → AreParamBounds g.t.now g.class.now m.name.name m.params g.bounds.now → BodyIs g.p.now m r b k → Begun m c0
     → Adds (param_tests 1 m.params) c0 c1 → w1.out ≡ c1 → ((ms : List Mark) → AreSorted ms r → Ahead ms w1.marks)
     → LowersStmts g m.body w1 w2 → Adds (last_return (written_result m.result)) w2.out c3 → Finished m c3 code
     → TypedBodyAt g.p.now n b k code
-body_stands g n m r b k c0 c1 c3 w1 w2 code parts class is begun tested at_first marks all over end =
+body_stands g n m r b k c0 c1 c3 w1 w2 code parts class are is begun tested at_first marks all over end =
     let head = subst (λ (z : Method). HeadIs z.params z.result k) is.method (head_is g.p.now b k is.header) in
     let noted = body_noted g n b k is.resolved.marks parts is.header is.resolved.noted in
     let scratch = path_behind m.body (suc (length m.params)) in
@@ -114,6 +127,19 @@ body_stands g n m r b k c0 c1 c3 w1 w2 code parts class is begun tested at_first
           omega (arith, l, most, length-map m.params param_kind);
       paths = head.paths;
       low = λ q l. refl;
+      known = λ q B e.
+          let a = are q B e in
+          let l = slice_get_within m.params a.place a.param a.at in
+          let most = end.few in
+          let number = a.number in
+          record {
+            bound = params_known g.p.now g.t.now b k parts.filled parts.one is.header g.class.now (class ∙ is.resolved.class) q B
+                (subst (λ (z : Method). AtParam g.t.now g.class.now z.name.name z.params q B) (sym is.method) a);
+            few = omega (arith, l, most, number);
+            kind = param_kind a.param;
+            at = ap (λ (o : Locals). slice_get o.kinds q) locals1 ∙ ap (λ (ks : List ℕ). slice_get ks q) begun.kinds
+                ∙ ap (slice_get (3 ∷ map param_kind m.params)) number ∙ kind_there m.params a.place a.param a.at;
+          };
     } in
     let d = (all n scratch (body_in b k) parts).done (at_start b k) noted.after is.resolved.marks [] ready
     (subst (λ (z : Method). Notes g.p.now (stmts_type (body_in b k) z.body (at_start b k)) is.resolved.marks noted.after) is.method noted.noted)

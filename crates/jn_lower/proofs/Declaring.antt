@@ -1,5 +1,5 @@
 -- Locals and assignments: each step of the walk, and what it does.
-use Rattle.std.proofs.Common.{◌≡◌, ◌<◌, ℕ, List, [], ◌∷◌, ◌++◌, length, map, drop, Bool, true, false, ◌⊎◌, inl, inr, zero, suc, refl, sym, ap, ◌∙◌, subst, append-nil}
+use Rattle.std.proofs.Common.{◌≡◌, ◌<◌, ℕ, List, [], ◌∷◌, ◌++◌, length, map, drop, Bool, true, false, ◌⊎◌, inl, inr, zero, suc, refl, sym, ap, ◌∙◌, subst, arith, append-nil}
 use Rattle.std.proofs.Math.Seq.{drop-append_seam}
 use Rattle.std.specs.Prelude.{Result, Ok, Option, Some, None, slice_get, not, cond, nat_eq}
 use Rattle.jn_base.specs.declared.tree.Named.{Named}
@@ -19,7 +19,8 @@ use Rattle.jn_base.specs.Atoms.{Among, first, later, atoms_in, first_at}
 use Rattle.jn_base.specs.Scopes.{Scope, bound_of}
 use Rattle.jn_laws.specs.LawsOfWritten.{HeaderPaths}
 use Rattle.jn_laws.proofs.WrittenTypes.{written_kinds}
-use Rattle.jn_base.specs.Resolve.{is_class, var_named}
+use Rattle.std.proofs.lemmas.Option.{slice_get_within}
+use Rattle.jn_base.specs.Resolve.{is_class, var_named, var_bind}
 use Rattle.jn_base.specs.ResolveTypes.{ResolveType, mask_names}
 use Rattle.jn_code.specs.declared.instr.Instr.TheVariants as ins
 use Rattle.jn_sem.specs.Terms.{spot_at, vars_at}
@@ -48,7 +49,7 @@ use Rattle.jn_lower.proofs.Taking.{var_ahead, ready_grown, ready_locals, seen_bo
 use Rattle.jn_lower.proofs.LeafForms.{named_among, newest_named}
 use Rattle.jn_lower.proofs.Written.{told, type_is, kind_kept, class_kept, void_kept}
 use Rattle.jn_lower.proofs.Chains.{regroup}
-use Rattle.jn_lower.proofs.Seen.{first_low, scope_more, paths_more, among_more}
+use Rattle.jn_lower.proofs.Seen.{bound_passed, first_low, scope_more, paths_more, among_more}
 use Rattle.jn_lower.proofs.Blocks.{behind_it}
 
 -- ---- the terms of a written type are passed over
@@ -143,6 +144,14 @@ ready_more g scratch b x v old new ready kinds scr path valued few written = rec
       (first_low (bound_of x.scope) (bound_of s) (atoms_in v.ty) (λ y r k m e. seen_bound g scratch (here b x) x.scope old ready r (written y r k m e)))
       ∙ ap (λ (R : Path). cond (nat_eq q v.path) (first_at (bound_of s) (atoms_in v.ty)) R) (ready.low q l)
       ∙ ap (λ (t : Scope). bound_of t q) (sym (scope_more (site_here (here b x)) v));
+  known = λ q B e. let k = ready.known q B e in
+      let l = slice_get_within old.out.locals.kinds q k.kind k.at in record {
+        bound = ap (λ (t : Scope). bound_of t q) (scope_more (site_here (here b x)) v)
+            ∙ bound_passed (var_bind v) s q (λ i. omega (arith, i, path, l)) ∙ k.bound;
+        few = k.few;
+        kind = k.kind;
+        at = ap (λ (ks : List ℕ). slice_get ks q) kinds ∙ front_kind old.out.locals.kinds (kind_of_type v.ty) q k.kind k.at;
+      };
 }
   where
     vs : List Var

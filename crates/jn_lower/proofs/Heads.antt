@@ -52,7 +52,7 @@ record Behind (before : List Var) (xs : List Param) (vars : List Var) : Type 0 w
   all : vars ≡ before ++ more
   are : AreThey (suc (length before)) xs more
 
-list_same : {xs ys : List Var} → ◌≡◌ {A = Result (List Var) Refusal} (Ok xs) (Ok ys) → xs ≡ ys
+pub list_same : {xs ys : List Var} → ◌≡◌ {A = Result (List Var) Refusal} (Ok xs) (Ok ys) → xs ≡ ys
 list_same e = cc
 
 is_param : (p : Program) (b : Body) (before : List Var) (x : Param) (t : Ty)
@@ -167,7 +167,7 @@ above_all n _ _ (more {xs = xs} {vs = vs} h r) v (later m) = above_all (suc n) x
 type_same : {t u : Ty} → ◌≡◌ {A = Result Ty Refusal} (Ok t) (Ok u) → t ≡ u
 type_same e = cc
 
-header_same : {x y : Header} → ◌≡◌ {A = Result Header Refusal} (Ok x) (Ok y) → x ≡ y
+pub header_same : {x y : Header} → ◌≡◌ {A = Result Header Refusal} (Ok x) (Ok y) → x ≡ y
 header_same e = cc
 
 result_so : (t : Ty) (k : ℕ) → (t ≡ ty.Void → ⊥) → kind_of_type t ≡ k → result_kind t ≡ k

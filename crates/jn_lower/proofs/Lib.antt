@@ -28,8 +28,8 @@ pub mod Passing
 pub mod FieldKinds
 pub mod Behind
 pub mod Setting
-pub mod Bounding
 pub mod Making
 pub mod Above
 pub mod NamedClasses
+pub mod ParamBounds
 pub mod Forming

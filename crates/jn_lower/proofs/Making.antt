@@ -61,23 +61,16 @@ use Rattle.jn_lower.specs.Selecting.{shape_of, method_sel}
 use Rattle.jn_lower.specs.Selecting as selecting
 use Rattle.jn_lower.specs.Told.{IsCallee}
 use Rattle.jn_lower.specs.Lowering.{PartsAre}
-use Rattle.jn_lower.specs.Making.{IsThis, IsLast, Constructs, ConstructsNot, ByMark, MadeWith, by, without, unmarked, MadeBy, MadeOf}
+use Rattle.jn_lower.specs.Making.{IsLast, Constructs, ConstructsNot, ByMark, MadeWith, by, without, unmarked, MadeBy, MadeOf}
 use Rattle.jn_lower.specs.Walks.{Ready, Done, LowersArgs, LowersNodeAs}
 use Rattle.jn_lower.proofs.Growing.{means}
 use Rattle.jn_lower.proofs.Calling.{new_so}
 use Rattle.jn_lower.proofs.CtorCodes.{ctors_found}
 use Rattle.jn_lower.proofs.Heads.{head_is, header_silent}
 use Rattle.jn_lower.proofs.Noting.{taken_noted, wants_noted, gives_noted}
-use Rattle.jn_lower.proofs.Taking.{term_ahead, member_ahead, had_ahead, ready_locals, ready_in, own_bound, same_bound}
+use Rattle.jn_lower.proofs.Taking.{term_ahead, member_ahead, had_ahead, ready_locals, ready_in, scoped_here, same_bound}
 use Rattle.jn_lower.proofs.Seen.{named_low}
 use Rattle.jn_lower.proofs.Chains.{regroup, last_one}
-
--- ---- the class of the body
-
-pub this_is : (g : Parts) (h : Here) (s : Scope) → g.class.now ≡ shown h.class → bound_of s 0 ≡ h.class
-    → IsThis g.class.now s
-this_is g h s class own =
-    own ∙ sym (reverse-reverse h.class) ∙ ap (λ (q : ShownPath). reverse q.names) (sym class)
 
 -- ---- the shape by which a body is called
 
@@ -293,7 +286,7 @@ module _ (g : Parts) (u : Term) (es : List Expr) (keeps : Bool) (pl : Place) (n 
       → Done (Value g.p.now n scratch h sc keeps (expr pl (node.New u es))) rest z.ty w0 w4
   by_either rest ms z (Some b) cons noted ready ahead (by so m) = by_one rest ms z b cons noted ready ahead m
   by_either rest ms z (Some b) cons noted ready ahead (without empty so stays found) =
-      absurd (so parts.filled sc (this_is g h sc ready.class (own_bound g scratch h sc w0 ready))
+      absurd (so parts.filled sc (scoped_here g scratch h sc w0 ready)
       (made_class g scratch h sc w0 u a ready is)
       (b.class, (body_of g.p.now sc (atom_of a) C last.0 b last.1 cons).least.among))
   by_either rest ms z (Some b) cons noted ready ahead (unmarked empty none stays found) =
@@ -317,7 +310,7 @@ module _ (g : Parts) (u : Term) (es : List Expr) (keeps : Bool) (pl : Place) (n 
       (fresh_with (normal_type sc (made_exact (atom_of a))) sc).scope)) ms z noted in
       let empty = sym (length-map es (typed_expr h)) ∙ eqb-true (length (typed_args h es)) 0 w.test in
       let class = made_class g scratch h sc w0 u a ready is in
-      let has = so empty parts.filled sc (this_is g h sc ready.class (own_bound g scratch h sc w0 ready)) class in
+      let has = so empty parts.filled sc (scoped_here g scratch h sc w0 ready) class in
       absurd (parts.least (bound sc (atom_of a)) C class has
       (λ b body. none b (constructor_of g.p.now sc (atom_of a) C last.0 b last.1 body)))
   by_either rest ms z None none noted ready ahead (without empty so stays found) =

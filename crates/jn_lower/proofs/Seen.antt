@@ -117,7 +117,7 @@ passed_over [] s others = refl
 passed_over (b ∷ bs) s others =
     bound_passed b (bs ++ s) 0 (others b first) ∙ passed_over bs s (λ c m. others c (later m))
 
-var_of_bind : (vs : List Var) (b : Bind) → Among (map var_bind vs) b → (v : Var) × Among vs v × (b ≡ var_bind v)
+pub var_of_bind : (vs : List Var) (b : Bind) → Among (map var_bind vs) b → (v : Var) × Among vs v × (b ≡ var_bind v)
 var_of_bind [] b m = elim m [ ]
 var_of_bind (v ∷ vs) _ first = (v, first, refl)
 var_of_bind (v ∷ vs) b (later m) = let r = var_of_bind vs b m in (r.0, later r.1, r.2)

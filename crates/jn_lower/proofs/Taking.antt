@@ -1,6 +1,7 @@
 -- How marks are taken, and what still stands behind a step of a walk.
 use Rattle.std.proofs.Common.{◌≡◌, ℕ, List, [], ◌∷◌, ◌++◌, refl, sym, ap, ◌∙◌, subst, arith}
-use Rattle.std.specs.Prelude.{Some, slice_get}
+use Rattle.std.specs.Prelude.{Some, slice_get, reverse}
+use Rattle.std.proofs.lemmas.List.{reverse-reverse}
 use Rattle.jn_base.specs.declared.types.Atom.{Atom as ShownAtom}
 use Rattle.jn_base.specs.declared.types.ValKind.{ValKind}
 use Rattle.jn_base.specs.declared.path.Path.{Path as ShownPath}
@@ -27,6 +28,7 @@ use Rattle.jn_lower.specs.declared.walk.Walk.{Walk}
 use Rattle.jn_lower.specs.Cursors.{Ahead, TermTaken, VarTaken, MemberTaken, KindTaken}
 use Rattle.jn_lower.specs.Called.{Tucks}
 use Rattle.jn_lower.specs.Emitted.{Grown}
+use Rattle.jn_lower.specs.Making.{Scoped}
 use Rattle.jn_lower.specs.Walks.{kind_number, Had, Low, Ready}
 use Rattle.jn_lower.proofs.Seen.{low_joined, anchor_low, apart_bound, this_first, expr_low}
 
@@ -127,6 +129,8 @@ ready_grown g scratch h sc old new grown r = record {
   few = r.few;
   paths = r.paths;
   low = r.low;
+  known = λ q B e. let k = r.known q B e in
+      record { bound = k.bound; few = k.few; kind = k.kind; at = grown.locals.kinds q k.kind k.at };
 }
 
 pub ready_locals : (g : Parts) (scratch : ℕ) (h : Here) (sc : Scope) (old new : Walk)
@@ -141,6 +145,8 @@ ready_locals g scratch h sc old new e r = record {
   few = r.few;
   paths = r.paths;
   low = r.low;
+  known = λ q B i. let k = r.known q B i in
+      record { bound = k.bound; few = k.few; kind = k.kind; at = ap (λ (o : Locals). slice_get o.kinds q) e ∙ k.at };
 }
 
 -- behind what brings `this` below the first argument of `super`
@@ -158,6 +164,8 @@ ready_tucked g scratch h sc kind old new t r =
       few = r.few;
       paths = r.paths;
       low = r.low;
+      known = λ q B e. let k = r.known q B e in
+          record { bound = k.bound; few = k.few; kind = k.kind; at = ap (λ (l : List ℕ). slice_get l q) kinds ∙ k.at };
     }
 
 -- ---- scopes
@@ -172,6 +180,21 @@ pub seen_bound : (g : Parts) (scratch : ℕ) (h : Here) (sc : Scope) (w : Walk) 
     → HeaderPath h.vars q → bound_of sc q ≡ bound_of (scope_of (site_here h)) q
 seen_bound g scratch h sc w r q (of_this e) = r.low q (omega (arith, e))
 seen_bound g scratch h sc w r q (of_param v m e f c) = let l = r.few v m in r.low q (omega (arith, e, l))
+
+-- the scope, and that in which terms are resolved, have the class of the body and the known bounds
+pub scoped_here : (g : Parts) (scratch : ℕ) (h : Here) (sc : Scope) (w : Walk) → Ready g scratch h sc w
+    → Scoped g.class.now g.bounds.now sc
+scoped_here g scratch h sc w r = record {
+  this = own_bound g scratch h sc w r ∙ sym (reverse-reverse h.class) ∙ ap (λ (q : ShownPath). reverse q.names) (sym r.class);
+  has = λ q B e. let k = r.known q B e in r.low q k.few ∙ k.bound;
+}
+
+pub scoped_there : (g : Parts) (scratch : ℕ) (h : Here) (sc : Scope) (w : Walk) → Ready g scratch h sc w
+    → Scoped g.class.now g.bounds.now (scope_of (site_here h))
+scoped_there g scratch h sc w r = record {
+  this = this_first (site_here h) r.apart ∙ sym (reverse-reverse h.class) ∙ ap (λ (q : ShownPath). reverse q.names) (sym r.class);
+  has = λ q B e. (r.known q B e).bound;
+}
 
 pub same_bound : (g : Parts) (scratch : ℕ) (h : Here) (sc : Scope) (w : Walk) → Ready g scratch h sc w → (x : Atom)
     → ((q k : ℕ) → x.anchor ≡ Up q k → HeaderPath h.vars q) → bound sc x ≡ bound (scope_of (site_here h)) x
@@ -192,6 +215,7 @@ ready_in g scratch h s t w low r = record {
   few = r.few;
   paths = r.paths;
   low = low_joined (scope_of (site_here h)) s t r.low low;
+  known = r.known;
 }
 
 -- with other masks
@@ -209,6 +233,12 @@ ready_apart g scratch b x y w vars apart r = record {
       (r.paths v (subst (λ (vs : List Var). Among vs v) vars m));
   low = λ q l. apart_bound x.scope y.scope apart q ∙ r.low q l
       ∙ ap (λ (vs : List Var). bound_of (scope_of (site_in_of vs)) q) (sym vars);
+  known = λ q B e. let k = r.known q B e in record {
+    bound = ap (λ (vs : List Var). bound_of (scope_of (site_in_of vs)) q) vars ∙ k.bound;
+    few = k.few;
+    kind = k.kind;
+    at = k.at;
+  };
 }
   where
     site_in_of : List Var → Site

@@ -32,15 +32,15 @@ use Rattle.jn_lower.specs.Written.{written_kind, is_reference, written_terms}
 ok_same : {A : Type 0} (a b : A) → ◌≡◌ {A = Result A Refusal} (Ok a) (Ok b) → a ≡ b
 ok_same a b e = cc
 
-not_refused : {A : Type 0} (a : A) (r : Refusal) → ◌≡◌ {A = Result A Refusal} (Ok a) (Err r) → ⊥
+pub not_refused : {A : Type 0} (a : A) (r : Refusal) → ◌≡◌ {A = Result A Refusal} (Ok a) (Err r) → ⊥
 not_refused a r e = cc
 
 -- ---- class types
 
 -- it has these atoms
-record Classed (xs : List ShownAtom) (t : Ty) : Type 0 where
-  masks : Masks
-  is : t ≡ ty.Class xs masks
+pub record Classed (xs : List ShownAtom) (t : Ty) : Type 0 where
+  pub masks : Masks
+  pub is : t ≡ ty.Class xs masks
 
 module _ (p : Program) (names : List Name) (spot : Spot) (vars : Vars) (t : Ty) where
   taken_ok : (xs : List ShownAtom) (ms : List Named) → Taken names xs ms (Ok t) → Classed xs t
@@ -60,7 +60,7 @@ module _ (p : Program) (names : List Name) (spot : Spot) (vars : Vars) (t : Ty) 
   masks_ok bounds xs ms true h = unfit_ok xs ms h.first h.gives
   masks_ok bounds xs ms false h = unmasked_ok xs ms h
 
-  depths_ok : (ts : List Term) (ms : List Named) (bounds : List Path) (xs : List ShownAtom)
+  pub depths_ok : (ts : List Term) (ms : List Named) (bounds : List Path) (xs : List ShownAtom)
       → DepthsGive p names spot ts ms bounds xs (Ok t) → Classed xs t
   depths_ok ts ms bounds xs (many a b others n e f) = absurd (not_refused t _ f)
   depths_ok ts ms bounds xs (one d h) = masks_ok bounds xs ms (may_mask spot.role) h

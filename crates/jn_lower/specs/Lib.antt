@@ -16,7 +16,7 @@ pub mod Told
 pub mod Cursors
 pub mod Lowering
 pub mod Walks
-pub mod Bounds
 pub mod Making
 pub mod Alike
+pub mod Params
 pub mod Formed

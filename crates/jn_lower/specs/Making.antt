@@ -1,5 +1,5 @@
 -- What a walk does at `new` and at `super`.
-use Rattle.std.specs.Prelude.{◌≡◌, ◌++◌, ℕ, List, [], ◌∷◌, length, reverse, Bool, true, false, Option, Some, None, slice_get}
+use Rattle.std.specs.Prelude.{◌≡◌, ◌++◌, ℕ, List, [], ◌∷◌, length, drop, reverse, Bool, true, false, Option, Some, None, slice_get}
 use Rattle.jn_base.specs.declared.tree.Name.{Name}
 use Rattle.jn_base.specs.declared.tree.Method.{Method}
 use Rattle.jn_base.specs.declared.types.Anchor.{Anchor}
@@ -27,6 +27,7 @@ use Rattle.jn_lower.specs.Called.{Tucks}
 use Rattle.jn_lower.specs.Classes.{AreClassesOf, AddsClass}
 use Rattle.jn_lower.specs.Selecting.{IsCtorOf, made_by}
 use Rattle.jn_lower.specs.Told.{IsCallee, MakesBy}
+use Rattle.jn_lower.specs.Params.{HasBounds}
 use Rattle.jn_lower.specs.Walks.{Had, Settled}
 
 -- ---- bounds, where `this` has the class at the path
@@ -34,12 +35,23 @@ use Rattle.jn_lower.specs.Walks.{Had, Settled}
 abbrev pub IsThis : ShownPath → Scope → Type 0
 IsThis class s = bound_of s 0 ≡ reverse class.names
 
--- the bound of an anchor, and of an atom, in each such scope
-abbrev pub IsAnchorBound : ShownPath → Anchor → Path → Type 0
-IsAnchorBound class a B = (s : Scope) → IsThis class s → B ≡ anchor_at (bound_of s) a
+-- and the variables have these bounds
+pub record Scoped (class : ShownPath) (bounds : List (Option Path)) (s : Scope) : Type 0 where
+  pub this : IsThis class s
+  pub has : HasBounds bounds s
 
-abbrev pub IsAtomBound : ShownPath → ShownAtom → Path → Type 0
-IsAtomBound class x B = (s : Scope) → IsThis class s → B ≡ bound s (atom_of x)
+-- the known bound of a variable without its last k names
+pub record IsVariableBound (bounds : List (Option Path)) (q k : ℕ) (B : Path) : Type 0 where
+  pub whole : Path
+  pub at : slice_get bounds q ≡ Some (Some whole)
+  pub is : B ≡ drop k whole
+
+-- the bound of an anchor, and of an atom, in each such scope
+pub record IsAnchorBound (class : ShownPath) (bounds : List (Option Path)) (a : Anchor) (B : Path) : Type 0 where
+  pub is : (s : Scope) → Scoped class bounds s → B ≡ anchor_at (bound_of s) a
+
+pub record IsAtomBound (class : ShownPath) (bounds : List (Option Path)) (x : ShownAtom) (B : Path) : Type 0 where
+  pub is : (s : Scope) → Scoped class bounds s → B ≡ bound s (atom_of x)
 
 -- ---- new objects
 
@@ -50,13 +62,13 @@ IsLast x C = (P : Path) × ((atom_of x).names ++ (atom_of x).exact ≡ C ∷ P)
 -- where the bound of the atom is a class, it has a constructor
 abbrev pub Constructs : Parts → ShownAtom → Name → Type 0
 Constructs g x C =
-    IsFilled g.p.now g.t.now → (s : Scope) → IsThis g.class.now s → IsClass g.p.now (bound s (atom_of x))
+    IsFilled g.p.now g.t.now → (s : Scope) → Scoped g.class.now g.bounds.now s → IsClass g.p.now (bound s (atom_of x))
     → HasMethod g.p.now (bound s (atom_of x)) C
 
 -- or has none
 abbrev pub ConstructsNot : Parts → ShownAtom → Name → Type 0
 ConstructsNot g x C =
-    IsFilled g.p.now g.t.now → (s : Scope) → IsThis g.class.now s → IsClass g.p.now (bound s (atom_of x))
+    IsFilled g.p.now g.t.now → (s : Scope) → Scoped g.class.now g.bounds.now s → IsClass g.p.now (bound s (atom_of x))
     → HasMethod g.p.now (bound s (atom_of x)) C → ⊥
 
 -- whether it has one
@@ -123,7 +135,7 @@ pub record AboveFound (g : Parts) (f : Name) (count : ℕ) (x : Above) (old new 
   pub term : TermTaken atom old.marks mid
   pub member : MemberTaken path mid new.marks
   pub out : new.out ≡ old.out
-  pub class : (n : Naming) → AreClassesOf g.t.now n → (s : Scope) → IsThis g.class.now s
+  pub class : (n : Naming) → AreClassesOf g.t.now n → (s : Scope) → Scoped g.class.now g.bounds.now s
       → slice_get n.classes x.class ≡ Some (bound s (atom_of atom))
   pub is : (m : Method) → MethodAt g.p.now (reverse path.names) f m → IsCallee g.names.now.methods f m callee
   pub many : length callee.params.items ≡ count

@@ -29,7 +29,7 @@ use Rattle.jn_base.specs.declared.types.ValKind.TheVariants as kind
 use Rattle.jn_base.specs.declared.names.Var.{Var}
 use Rattle.jn_base.specs.Parts.{expr}
 use Rattle.jn_base.specs.Atoms.{Among, atom_of}
-use Rattle.jn_base.specs.Paths.{shown}
+use Rattle.jn_base.specs.Paths.{Path, shown}
 use Rattle.jn_base.specs.Scopes.{Scope, bound_of}
 use Rattle.jn_code.specs.declared.instr.Instr.{Instr}
 use Rattle.jn_code.specs.declared.instr.Instr.TheVariants as ins
@@ -158,9 +158,16 @@ pub record BindsWritten (fixed : Bool) (tt : TypeTerm) (q : ℕ) (old new : Walk
 abbrev pub Low : Scope → Scope → Type 0
 Low s t = (q : ℕ) → q < 256 → bound_of t q ≡ bound_of s q
 
+-- the path has the bound there, and is that of a local
+pub record KnownAt (s : Scope) (kinds : List ℕ) (q : ℕ) (B : Path) : Type 0 where
+  pub bound : bound_of s q ≡ B
+  pub few : q < 256
+  pub kind : ℕ
+  pub at : slice_get kinds q ≡ Some kind
+
 -- The body stands in the class that is told. Local 0 is a reference; the local of each variable in scope has the kind
 -- of its type, none is `void`, and none has the number of `this`, or of a fresh path. Paths have the bounds that they
--- have where terms are resolved.
+-- have where terms are resolved, and the known ones are those that are told.
 pub record Ready (g : Parts) (scratch : ℕ) (h : Here) (sc : Scope) (w : Walk) : Type 0 where
   pub class : g.class.now ≡ shown h.class
   pub above : w.out.locals.scratch ≡ scratch
@@ -171,6 +178,8 @@ pub record Ready (g : Parts) (scratch : ℕ) (h : Here) (sc : Scope) (w : Walk) 
   pub few : (v : Var) → Among h.vars v → v.path < 256
   pub paths : (v : Var) → Among h.vars v → HeaderPaths h.vars v.ty
   pub low : Low (scope_of (site_here h)) sc
+  pub known : (q : ℕ) (B : Path) → slice_get g.bounds.now q ≡ Some (Some B)
+      → KnownAt (scope_of (site_here h)) w.out.locals.kinds q B
 
 -- These marks are left, the form stands where it was emitted, and the value that was had last has the type's kind.
 pub record Done (There : Code → ℕ → ℕ → Type 0) (rest : List Mark) (t : Ty) (old new : Walk) : Type 0 where

@@ -17,6 +17,7 @@ pub mod leaves;
 pub mod locals;
 pub mod members;
 pub mod named_classes;
+pub mod param_bounds;
 pub mod params;
 pub mod path_behind;
 pub mod selecting;

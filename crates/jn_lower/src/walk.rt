@@ -9,6 +9,7 @@ use jn_base::path::Path;
 use jn_base::tree::Program;
 use jn_base::types::ValKind;
 use jn_code::Instr;
+use jn_names::Bound;
 use jn_share::Slots;
 use jn_table::Table;
 use std::alloc::{AllocError, Global};
@@ -23,6 +24,8 @@ pub struct Parts<'a> {
     pub names: &'a Selectors,
     /// The class that declares the body.
     pub class: &'a Path,
+    /// The bounds of its parameters by their numbers, where they are known.
+    pub bounds: &'a [Option<Bound>],
 }
 
 /// A walk over a body: what was emitted so far, the marks that are left, and the kind of the value that was had last.

@@ -17,6 +17,7 @@ use crate::emitter::Emitter;
 use crate::ending::code_of;
 use crate::formed::is_formed;
 use crate::kinds::{is_reference, written_kind};
+use crate::param_bounds::param_bounds;
 use crate::params::testing;
 use crate::path_behind::{next_number, path_behind};
 use crate::straight::last_return;
@@ -163,6 +164,7 @@ pub fn lower(
     let mut out = begin(alloc, m)?;
     test_params(&mut out, m.params.as_slice())?;
     let class = declaring(r);
+    let known = param_bounds(alloc, t, class, m)?;
     let g = Parts {
         alloc,
         p,
@@ -170,6 +172,7 @@ pub fn lower(
         slots,
         names: s,
         class,
+        bounds: known.as_slice(),
     };
     let marks = Marks::of(r);
     let mut w = Walk {

@@ -1,6 +1,6 @@
 ghost use Rattle.std.specs.Prelude.{◌≡◌, false, IfOk, OnOk};
 ghost use Rattle.jn_base.specs.declared.tree.Name.{Name as AName};
-ghost use Rattle.jn_lower.specs.Making.{SaysConstructs, SaysOf, Unmarked, ByMark, MadeWith, MadeBy, MadeOf, IsLast};
+ghost use Rattle.jn_lower.specs.Making.{IsAtomBound, SaysConstructs, SaysOf, Unmarked, ByMark, MadeWith, MadeBy, MadeOf, IsLast};
 ghost use Rattle.jn_lower.specs.Walks.{NoneTwice};
 
 use crate::bounds::class_bound;
@@ -12,26 +12,28 @@ use crate::named_classes::named_construct;
 use crate::selecting::{constructor_number, name_of};
 use crate::walk::{Parts, Walk, had};
 use jn_base::tree::Name;
-use jn_base::types::{Anchor, Atom};
+use jn_base::types::Atom;
+use jn_names::Bound;
 use std::alloc::AllocError;
 
-/// Whether the class of the atom, by its bound, has a method of that name. One that isn't in the table, which no
-/// checked body makes, is refused for want of memory.
-fn bound_constructs(g: &Parts, x: &Atom, name: Name) -> Result<bool, AllocError>
+/// Whether the class of the atom, of which that is the bound, has a method of that name. One that isn't in the table,
+/// which no checked body makes, is refused for want of memory.
+fn bound_constructs(g: &Parts, x: &Atom, b: Bound, name: Name) -> Result<bool, AllocError>
+    requires { IsAtomBound g.now.class.now g.now.bounds.now x.now b }
     ensures { IfOk result (SaysConstructs g.now x.now name) }
 {
-    let bound = class_bound(g.alloc, g.class, x)?;
-    match bound.number(g.t) {
+    match b.number(g.t) {
         None => Err(AllocError),
         Some(id) => Ok(has_method(g.t, id, name)),
     }
 }
 
 /// The same as an answer that may be none.
-fn own_constructs(g: &Parts, x: &Atom, name: Name) -> Result<Option<bool>, AllocError>
+fn own_constructs(g: &Parts, x: &Atom, b: Bound, name: Name) -> Result<Option<bool>, AllocError>
+    requires { IsAtomBound g.now.class.now g.now.bounds.now x.now b }
     ensures { IfOk result (SaysOf g.now x.now name) }
 {
-    let told = bound_constructs(g, x, name)?;
+    let told = bound_constructs(g, x, b, name)?;
     Ok(Some(told))
 }
 
@@ -43,21 +45,15 @@ fn name_constructs(g: &Parts, x: &Atom, name: Name) -> Result<Option<bool>, Allo
     named_construct(g.alloc, g.t, name)
 }
 
-/// Whether the class of the atom, whose last name that is, has a constructor. Where it hangs on a variable, and some
+/// Whether the class of the atom, whose last name that is, has a constructor. Where its bound isn't known, and some
 /// classes of the name have one and others none, nothing is told.
 fn constructs(g: &Parts, x: &Atom, name: Name) -> Result<Option<bool>, AllocError>
     requires { IsLast x.now name }
     ensures { IfOk result (SaysOf g.now x.now name) }
 {
-    match x.anchor {
-        Anchor::Root => own_constructs(g, x, name),
-        Anchor::Up(q, _) => {
-            if q == 0 {
-                own_constructs(g, x, name)
-            } else {
-                name_constructs(g, x, name)
-            }
-        }
+    match class_bound(g.alloc, g.class, g.bounds, x)? {
+        Some(b) => own_constructs(g, x, b, name),
+        None => name_constructs(g, x, name),
     }
 }
 

@@ -4,7 +4,7 @@ ghost use Rattle.jn_base.specs.Atoms.{atom_of};
 ghost use Rattle.jn_base.specs.Scopes.{Scope, bound};
 ghost use Rattle.std.specs.Prelude.{slice_get, Some};
 ghost use Rattle.jn_lower.specs.Classes.{AreClassesOf};
-ghost use Rattle.jn_lower.specs.Making.{IsThis, AboveFound, TuckedFor, AboveCalled, BareCalled};
+ghost use Rattle.jn_lower.specs.Making.{Scoped, AboveFound, TuckedFor, AboveCalled, BareCalled};
 ghost use Rattle.jn_lower.specs.Walks.{NoneTwice};
 
 use crate::bounds::class_bound;
@@ -14,6 +14,8 @@ use crate::walk::{Parts, Walk};
 use crate::walk_members::settle;
 use jn_base::tree::Name;
 use jn_base::types::Atom;
+use jn_names::Bound;
+use jn_table::Table;
 use std::alloc::AllocError;
 
 /// What `super` calls: the numbers of the class and of the selector, the kind of the result, and that of the first
@@ -26,16 +28,24 @@ pub struct Above {
     pub first: u8,
 }
 
-/// The number of the atom's class. One that isn't in the table, which no checked body has, is refused for want of
-/// memory.
-fn class_number(g: &Parts, x: &Atom) -> Result<u16, AllocError>
-    ensures { IfOk result (λ k. (n : Naming) → AreClassesOf g.now.t.now n → (s : Scope) → IsThis g.now.class.now s
-        → slice_get n.classes k ≡ Some (bound s (atom_of x.now))) }
+/// The number of the class. One that isn't in the table, which no checked body has, is refused for want of memory.
+fn number_of(t: &Table, b: &Bound) -> Result<u16, AllocError>
+    ensures { IfOk result (λ k. (n : Naming) → AreClassesOf t.now n → slice_get n.classes k ≡ Some b.now) }
 {
-    let bound = class_bound(g.alloc, g.class, x)?;
-    match bound.number(g.t) {
+    match b.number(t) {
         None => Err(AllocError),
         Some(id) => Ok(id.0),
+    }
+}
+
+/// The number of the atom's class. One whose bound isn't known is refused for want of memory.
+fn class_number(g: &Parts, x: &Atom) -> Result<u16, AllocError>
+    ensures { IfOk result (λ k. (n : Naming) → AreClassesOf g.now.t.now n → (s : Scope)
+        → Scoped g.now.class.now g.now.bounds.now s → slice_get n.classes k ≡ Some (bound s (atom_of x.now))) }
+{
+    match class_bound(g.alloc, g.class, g.bounds, x)? {
+        None => Err(AllocError),
+        Some(bound) => number_of(g.t, &bound),
     }
 }
 

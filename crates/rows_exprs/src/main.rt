@@ -3,7 +3,6 @@
 #![tactic(auto)]
 
 mod ask;
-mod depth;
 mod shown;
 mod typing;
 

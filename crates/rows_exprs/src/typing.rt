@@ -4,11 +4,10 @@ ghost use Rattle.std.specs.Prelude.{◌≡◌, [], IfOk};
 ghost use Rattle.jn_base.specs.Duplicates.{duplicates};
 ghost use Rattle.jn_base.specs.WithinLimits.{IsWithinLimits};
 ghost use Rattle.jn_intern.specs.Pools.{InPool};
-ghost use Rattle.jn_heads.specs.Places.{Stands};
+ghost use Rattle.jn_heads.specs.Places.{Stands, IsIn};
 ghost use Rattle.jn_expr.specs.Envs.{ArePartsOf, parts};
 ghost use Rattle.rows_exprs.specs.Parting.{HasParts};
 
-use crate::depth::is_shallow;
 use crate::shown::{Answer, put_type, refusal_text};
 use jn_base::names::{Resolved, Vars};
 use jn_base::path::Path;
@@ -91,12 +90,7 @@ fn env_behind_names(
     let mut pool = Pool::new(alloc)?;
     match check_headers(alloc, p, &mut table, &mut pool) {
         Err(fault) => Err(fault),
-        Ok(headers) => {
-            if !is_shallow(&table) {
-                return Err(CheckFault::Memory);
-            }
-            Ok(env_with(alloc, table, pool, headers, class, method)?)
-        }
+        Ok(headers) => { Ok(env_with(alloc, table, pool, headers, class, method)?) }
     }
 }
 
@@ -188,6 +182,7 @@ fn typed_behind(
 ) -> Result<String, CheckFault>
     requires parts { ArePartsOf p.now (parts env.old) }
     requires stands { Stands p.now env.old.pool at }
+    requires within { IsIn (record { class = class.now; method = m.now }) at }
 {
     let mut scope = at.scope;
     env.vars = at.vars;

@@ -6,6 +6,9 @@
 //! `status`; the bytes `out` and `err`, or so many of them as `out_length` and `err_length` say; where it has `pieces`,
 //! puts of these lengths on the first output; and the file as it was. With `by_bytes` it wants the same of a store that
 //! hands out one byte a read, and with `again` the same of the file that the first output makes.
+//!
+//! Where the case has `g`, the store holds that as the file `g`, and `g` is as it was; with `exec` it is one that was saved,
+//! and these words give `exec_status`, `exec_out` and `exec_err` on the same store.
 #![tactic(auto)]
 
 mod stores;
@@ -16,7 +19,7 @@ use jn_drive::top;
 use jn_io::{MemSink, MemStore, Store};
 use std::alloc::{AllocError, Global};
 
-const KEYS: [&str; 18] = [
+const KEYS: [&str; 23] = [
     "words",
     "source",
     "source_hex",
@@ -35,6 +38,11 @@ const KEYS: [&str; 18] = [
     "pieces",
     "by_bytes",
     "again",
+    "g",
+    "exec",
+    "exec_status",
+    "exec_out",
+    "exec_err",
 ];
 
 /// The room of an output whose case doesn't say it.
@@ -55,13 +63,14 @@ impl Rows for WholeRows {
         tally.keys(case, &KEYS)?;
         let source = bytes_of(alloc, case, "source")?.unwrap_or(Vec::new(alloc));
         let mut store = store_of(alloc, case, source.as_slice())?;
-        let outcome = outcome_of(alloc, case, &mut store)?;
+        let outcome = outcome_of(alloc, case, "words", &mut store)?;
         compare(alloc, case, &outcome, tally)?;
         tally.bytes(
             "the file f",
             source.as_slice(),
             store.file("f").unwrap_or(b"no file"),
         )?;
+        saved(alloc, case, &mut store, tally)?;
         by_bytes(alloc, case, store, tally)?;
         again(alloc, case, &outcome, tally)
     }
@@ -74,6 +83,9 @@ fn main(rt: HostRuntime) -> anyhow::Result<()> {
 fn store_of(alloc: Global, case: &Case, source: &[u8]) -> Result<MemStore, CasesFault> {
     let mut store = MemStore::new(alloc, case.numbers(alloc, "fails")?.as_slice())?;
     store.add("f", source)?;
+    if let Some(g) = bytes_of(alloc, case, "g")? {
+        store.add("g", g.as_slice())?;
+    }
     Ok(store)
 }
 
@@ -82,8 +94,13 @@ fn sink_of(alloc: Global, case: &Case, room: &str, fails: &str) -> Result<MemSin
     Ok(MemSink::new(alloc, room, case.numbers(alloc, fails)?.as_slice())?)
 }
 
-fn outcome_of<S: Store>(alloc: Global, case: &Case, store: &mut S) -> Result<Outcome, CasesFault> {
-    let words = case.texts(alloc, "words")?;
+fn outcome_of<S: Store>(
+    alloc: Global,
+    case: &Case,
+    key: &str,
+    store: &mut S,
+) -> Result<Outcome, CasesFault> {
+    let words = case.texts(alloc, key)?;
     let mut out = Noted {
         sink: sink_of(alloc, case, "out_room", "out_fails")?,
         sizes: Vec::new(alloc),
@@ -155,6 +172,41 @@ fn compare_output(
     }
 }
 
+/// The file `g` is as it was, or what `exec` says of it holds.
+fn saved(
+    alloc: Global,
+    case: &Case,
+    store: &mut MemStore,
+    tally: &mut Tally,
+) -> Result<(), CasesFault> {
+    if case.list("exec").is_some() {
+        return executed(alloc, case, store, tally);
+    }
+    let none = Vec::from_slice(alloc, b"no file")?;
+    let wanted = bytes_of(alloc, case, "g")?.unwrap_or(none);
+    tally.bytes(
+        "the file g",
+        wanted.as_slice(),
+        store.file("g").unwrap_or(b"no file"),
+    )?;
+    Ok(())
+}
+
+fn executed(
+    alloc: Global,
+    case: &Case,
+    store: &mut MemStore,
+    tally: &mut Tally,
+) -> Result<(), CasesFault> {
+    let outcome = outcome_of(alloc, case, "exec", store)?;
+    let wanted = case.number("exec_status").unwrap_or(-1);
+    tally.number("exec_status", wanted, outcome.status)?;
+    let out = outcome.out.sink.bytes();
+    compare_output(alloc, case, ("exec_out", "exec_out_length"), out, tally)?;
+    let err = outcome.err.bytes();
+    compare_output(alloc, case, ("exec_err", "exec_err_length"), err, tally)
+}
+
 fn by_bytes(
     alloc: Global,
     case: &Case,
@@ -165,7 +217,7 @@ fn by_bytes(
         return Ok(());
     }
     let mut store = ByBytes { store };
-    let outcome = outcome_of(alloc, case, &mut store)?;
+    let outcome = outcome_of(alloc, case, "words", &mut store)?;
     compare(alloc, case, &outcome, tally)
 }
 
@@ -179,6 +231,6 @@ fn again(
         return Ok(());
     }
     let mut store = store_of(alloc, case, outcome.out.sink.bytes())?;
-    let outcome = outcome_of(alloc, case, &mut store)?;
+    let outcome = outcome_of(alloc, case, "words", &mut store)?;
     compare(alloc, case, &outcome, tally)
 }

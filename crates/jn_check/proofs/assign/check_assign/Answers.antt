@@ -10,6 +10,11 @@ use Rattle.jn_check.proofs.Standing.{is_scope, stays_but}
 use Rattle.jn_check.proofs.Telling.{below_as, leads_as}
 use Rattle.jn_check.proofs.KeptLaws.{kept_after, kept_told}
 use Rattle.jn_check.proofs.LocalLaws.{assign_below}
+use Rattle.std.proofs.Common.{sym, subst}
+use Rattle.jn_laws.specs.LawsOfWritten.{site_with}
+use Rattle.jn_expr.specs.Envs.{IsThere}
+use Rattle.jn_check.proofs.Standing.{there_before}
+use Rattle.jn_check.proofs.LocalLaws.{assigned_fits}
 use Rattle.jn_check.proofs.assign.check_assign.Goals as goal
 
 pub check_below-requires-clause-scope : goal.check_below-requires-clause-scope
@@ -40,3 +45,17 @@ returns-in_ok-note_var-in-Some-clause-after c =
 pub returns-in_ok-note_var-in-Some-clause-stays : goal.returns-in_ok-note_var-in-Some-clause-stays
 returns-in_ok-note_var-in-Some-clause-stays c =
     stays_but (record { same = c.check_below.ensures.stays.same; pool = keeps_more c.in_ok-variable_named.ensures.keeps c.check_below.ensures.stays.pool })
+
+pub check_below-requires-clause-there : goal.check_below-requires-clause-there
+check_below-requires-clause-there c =
+    subst (IsThere c.args.p.now (site_with c.args.class.now c.args.m.now.name.name c.args.env.now.vars.list))
+    (sym (scope_kept c.args.x.now.scope c.requires.before.known c.in_ok-variable_named.ensures.keeps))
+    (there_before c.args.p.now c.args.class.now c.args.m.now.name.name c.args.env.now.pool c.args.env.now.vars.list c.args.x.now c.requires.before)
+
+pub check_below-requires-clause-fits : goal.check_below-requires-clause-fits
+check_below-requires-clause-fits c =
+    assigned_fits c.args.p.now (site_with c.args.class.now c.args.m.now.name.name c.args.env.now.vars.list) (scope_in c.variable_named.new.pool c.args.x.now.scope)
+    (subst (IsThere c.args.p.now (site_with c.args.class.now c.args.m.now.name.name c.args.env.now.vars.list))
+    (sym (scope_kept c.args.x.now.scope c.requires.before.known c.in_ok-variable_named.ensures.keeps))
+    (there_before c.args.p.now c.args.class.now c.args.m.now.name.name c.args.env.now.pool c.args.env.now.vars.list c.args.x.now c.requires.before))
+    c.variable_named.new.pool c.args.name.now.name c.in-Some.v c.in_ok-variable_named.field-0 c.in-Some.is c.in_ok-variable_named.ensures.is

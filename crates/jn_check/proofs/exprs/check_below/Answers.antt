@@ -8,6 +8,7 @@ use Rattle.jn_expr.proofs.Scopes.{parts_stay}
 use Rattle.jn_expr.proofs.CallSteps.{below_at}
 use Rattle.jn_check.proofs.Standing.{cut_back}
 use Rattle.jn_check.proofs.Telling.{fault_first, below_go, below_went, not_below}
+use Rattle.jn_expr.proofs.Typeds.{fits_later}
 use Rattle.jn_check.proofs.exprs.check_below.Goals as goal
 
 pub below-requires-clause-t : goal.below-requires-clause-t
@@ -52,3 +53,10 @@ returns-then-not-branch-clause-stays c = record { same = c.value_of.ensures.stay
 
 pub returns-else-not-branch-clause-stays : goal.returns-else-not-branch-clause-stays
 returns-else-not-branch-clause-stays c = record { same = c.value_of.ensures.stays.same; pool = keeps_more c.value_of.ensures.stays.pool c.below.ensures.keeps }
+
+pub below-requires-clause-s_fits : goal.below-requires-clause-s_fits
+below-requires-clause-s_fits c = c.in-Ok.ensures.value.fits.type
+
+pub below-requires-clause-t_fits : goal.below-requires-clause-t_fits
+below-requires-clause-t_fits c =
+    fits_later c.requires.scope c.value_of.ensures.stays.pool c.in-Ok.ensures.value.grows c.in-Ok.ensures.value.scope c.requires.number c.requires.fits

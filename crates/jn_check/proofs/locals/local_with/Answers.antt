@@ -7,6 +7,8 @@ use Rattle.jn_expr.proofs.Scopes.{vars_stay}
 use Rattle.jn_check.specs.States.{before_at}
 use Rattle.jn_check.proofs.Standing.{is_scope, stays_but, but_more}
 use Rattle.jn_check.proofs.LocalLaws.{with_fault, with_told, with_after}
+use Rattle.jn_check.proofs.Standing.{there_before}
+use Rattle.jn_rule_laws.proofs.KnownTypes.{for_known}
 use Rattle.jn_check.proofs.locals.local_with.Goals as goal
 
 pub check_below-requires-clause-scope : goal.check_below-requires-clause-scope
@@ -36,3 +38,10 @@ returns-in_ok-add_local-in-Ok-clause-after c =
 
 pub returns-in_err-add_local-in-Ok-clause-stays : goal.returns-in_err-add_local-in-Ok-clause-stays
 returns-in_err-add_local-in-Ok-clause-stays c = but_more (stays_but (record { same = c.check_below.ensures.stays.same; pool = c.check_below.ensures.stays.pool })) c.add_local.ensures.stays
+
+pub check_below-requires-clause-there : goal.check_below-requires-clause-there
+check_below-requires-clause-there c = there_before c.args.p.now c.args.class.now c.args.m.now.name.name c.args.env.now.pool c.args.env.now.vars.list c.args.x.now c.requires.before
+
+pub check_below-requires-clause-fits : goal.check_below-requires-clause-fits
+check_below-requires-clause-fits c =
+    (for_known (there_before c.args.p.now c.args.class.now c.args.m.now.name.name c.args.env.now.pool c.args.env.now.vars.list c.args.x.now c.requires.before).scope (record { fits = c.requires.there.fits; named = c.requires.there.named })).fits

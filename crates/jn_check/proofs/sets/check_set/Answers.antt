@@ -7,6 +7,7 @@ use Rattle.jn_check.specs.States.{in_at, before_at}
 use Rattle.jn_check.proofs.Standing.{is_scope, stays_but}
 use Rattle.jn_check.proofs.Telling.{told_fault}
 use Rattle.jn_check.proofs.SetLaws.{scope_again, set_after, set_went}
+use Rattle.jn_check.proofs.Standing.{there_before}
 use Rattle.jn_check.proofs.sets.check_set.Goals as goal
 
 pub stored-requires-clause-scope : goal.stored-requires-clause-scope
@@ -49,3 +50,6 @@ returns-in_ok-drop_field-in-Ok-clause-after c =
 
 pub returns-in_ok-drop_field-in-Ok-clause-stays : goal.returns-in_ok-drop_field-in-Ok-clause-stays
 returns-in_ok-drop_field-in-Ok-clause-stays c = stays_but (record { same = c.stored.ensures.stays.same; pool = keeps_more c.stored.ensures.stays.pool c.in_ok-drop_field-in-Ok.ensures.keeps })
+
+pub stored-requires-clause-there : goal.stored-requires-clause-there
+stored-requires-clause-there c = there_before c.args.p.now c.args.class.now c.args.m.now.name.name c.args.env.now.pool c.args.env.now.vars.list c.args.x.now c.requires.before

@@ -8,6 +8,8 @@ use Rattle.jn_expr.specs.Values.{typed_in}
 use Rattle.jn_expr.proofs.Scopes.{stays_more, vars_stay}
 use Rattle.jn_check.specs.Storing.{stored_in}
 use Rattle.jn_check.proofs.SetLaws.{go_set, left_set, receiver_fault, field_fault, value_fault, value_leads, leads_in, below_in}
+use Rattle.jn_expr.proofs.Scopes.{grows_more}
+use Rattle.jn_expr.proofs.Typeds.{stays_there}
 use Rattle.jn_check.proofs.sets.stored.Goals as goal
 
 pub returns-in-Err-clause-told : goal.returns-in-Err-clause-told
@@ -65,3 +67,8 @@ returns-in-Ok-check_below-clause-told c = λ t n.
 
 pub returns-in-Ok-check_below-clause-stays : goal.returns-in-Ok-check_below-clause-stays
 returns-in-Ok-check_below-clause-stays c = stays_more (stays_more c.value_of.ensures.stays c.stored_in.ensures.stays) c.check_below.ensures.stays
+
+pub check_below-requires-clause-there : goal.check_below-requires-clause-there
+check_below-requires-clause-there c =
+    stays_there c.args.p.now c.args.class.now c.args.m.now c.requires.there (stays_more c.value_of.ensures.stays c.stored_in.ensures.stays) c.requires.scope
+    (grows_more c.in-Ok.ensures.value.grows c.in-Ok-stored_in.ensures.slot.grows) c.in-Ok-stored_in.ensures.slot.scope

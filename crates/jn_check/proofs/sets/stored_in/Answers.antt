@@ -12,6 +12,8 @@ use Rattle.jn_expr.specs.Told.{FaultIs, refusal_at}
 use Rattle.jn_expr.specs.Values.{typed_in}
 use Rattle.jn_expr.proofs.FieldSteps.{finds_at}
 use Rattle.jn_check.proofs.SetLaws.{no_class, no_field, field_leads}
+use Rattle.jn_table.specs.declared.table.Table.{Table}
+use Rattle.jn_expr.specs.Envs.{ArePartsOf, parts}
 use Rattle.jn_check.proofs.sets.stored_in.Goals as goal
 
 pub returns-then-not-is_class-clause-told : goal.returns-then-not-is_class-clause-told
@@ -42,3 +44,12 @@ returns-in_ok-id-in-Some-clause-told c = λ go.
 
 pub returns-in_ok-id-in-Some-clause-slot : goal.returns-in_ok-id-in-Some-clause-slot
 returns-in_ok-id-in-Some-clause-slot c = c.in_ok-id-in-Some.ensures.is.slot
+
+pub field_at-requires-clause-parts : goal.field_at-requires-clause-parts
+field_at-requires-clause-parts c =
+    subst (λ (t : Table). ArePartsOf c.args.p.now (record (parts c.args.env.now) { table = t })) (sym c.in_ok-field_of.ensures.kept) c.requires.parts
+
+pub field_at-requires-clause-found : goal.field_at-requires-clause-found
+field_at-requires-clause-found c =
+    finds_at c.args.p.now (scope_in c.args.env.now.pool c.args.scope.now) _ _ c.args.f.now.name (found_in c.in_ok-field_of.field-0) (Some (found_of c.in-Some.found)) c.show-2.ensures
+    (ap found_in c.in-Some.is) c.in_ok-field_of.ensures.is

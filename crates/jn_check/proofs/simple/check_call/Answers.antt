@@ -7,6 +7,7 @@ use Rattle.jn_check.specs.States.{in_at, before_at}
 use Rattle.jn_check.proofs.Standing.{is_scope, stays_but}
 use Rattle.jn_check.proofs.Telling.{told_fault}
 use Rattle.jn_check.proofs.KeptLaws.{kept_after, kept_told}
+use Rattle.jn_check.proofs.Standing.{there_before}
 use Rattle.jn_check.proofs.simple.check_call.Goals as goal
 
 pub type_alone-requires-clause-scope : goal.type_alone-requires-clause-scope
@@ -36,3 +37,6 @@ returns-in-Ok-clause-after c =
 
 pub returns-in-Ok-clause-stays : goal.returns-in-Ok-clause-stays
 returns-in-Ok-clause-stays c = stays_but c.type_alone.ensures.stays
+
+pub type_alone-requires-clause-there : goal.type_alone-requires-clause-there
+type_alone-requires-clause-there c = there_before c.args.p.now c.args.class.now c.args.m.now.name.name c.args.env.now.pool c.args.env.now.vars.list c.args.x.now c.requires.before

@@ -7,6 +7,7 @@ use Rattle.jn_expr.proofs.Leading.{leads_of_fault}
 use Rattle.jn_check.specs.States.{in_at, before_at}
 use Rattle.jn_check.proofs.Standing.{is_scope}
 use Rattle.jn_check.proofs.SimpleLaws.{test_held, test_failed}
+use Rattle.jn_check.proofs.Standing.{there_before}
 use Rattle.jn_check.proofs.simple.check_condition.Goals as goal
 
 pub type_alone-requires-clause-scope : goal.type_alone-requires-clause-scope
@@ -37,3 +38,6 @@ returns-else-not-is_bool-clause-told c = λ t go.
 
 pub returns-else-not-is_bool-clause-kept : goal.returns-else-not-is_bool-clause-kept
 returns-else-not-is_bool-clause-kept c = record { declared = refl; scope = c.in-Ok.ensures.kept; next = refl }
+
+pub type_alone-requires-clause-there : goal.type_alone-requires-clause-there
+type_alone-requires-clause-there c = there_before c.args.p.now c.args.class.now c.args.m.now.name.name c.args.env.now.pool c.args.env.now.vars.list c.args.x.now c.requires.before

@@ -10,6 +10,7 @@ use Rattle.jn_check.proofs.Standing.{is_scope, stays_but}
 use Rattle.jn_check.proofs.Telling.{told_fault}
 use Rattle.jn_check.proofs.SimpleLaws.{test_held, test_failed}
 use Rattle.jn_check.proofs.KeptLaws.{kept_after, kept_told}
+use Rattle.jn_check.proofs.Standing.{there_before}
 use Rattle.jn_check.proofs.simple.check_print.Goals as goal
 
 pub type_alone-requires-clause-scope : goal.type_alone-requires-clause-scope
@@ -54,3 +55,6 @@ returns-else-not-is_printed-clause-after c =
 
 pub returns-else-not-is_printed-clause-stays : goal.returns-else-not-is_printed-clause-stays
 returns-else-not-is_printed-clause-stays c = stays_but c.type_alone.ensures.stays
+
+pub type_alone-requires-clause-there : goal.type_alone-requires-clause-there
+type_alone-requires-clause-there c = there_before c.args.p.now c.args.class.now c.args.m.now.name.name c.args.env.now.pool c.args.env.now.vars.list c.args.x.now c.requires.before

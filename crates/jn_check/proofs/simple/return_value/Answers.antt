@@ -8,6 +8,9 @@ use Rattle.jn_check.proofs.Standing.{is_scope, stays_but}
 use Rattle.jn_check.proofs.Telling.{told_as, leads_as}
 use Rattle.jn_check.proofs.SimpleLaws.{return_below, never_ok}
 use Rattle.jn_check.proofs.KeptLaws.{kept_after, kept_told}
+use Rattle.jn_check.proofs.Standing.{there_before}
+use Rattle.std.proofs.Common.{subst}
+use Rattle.jn_base.specs.Fits.{TypeFits}
 use Rattle.jn_check.proofs.simple.return_value.Goals as goal
 
 pub check_below-requires-clause-scope : goal.check_below-requires-clause-scope
@@ -40,3 +43,10 @@ returns-clause-after c =
 
 pub returns-clause-stays : goal.returns-clause-stays
 returns-clause-stays c = stays_but c.check_below.ensures.stays
+
+pub check_below-requires-clause-there : goal.check_below-requires-clause-there
+check_below-requires-clause-there c = there_before c.args.p.now c.args.class.now c.args.m.now.name.name c.args.env.now.pool c.args.env.now.vars.list c.args.x.now c.requires.before
+
+pub check_below-requires-clause-fits : goal.check_below-requires-clause-fits
+check_below-requires-clause-fits c =
+    subst (TypeFits (scope_in c.args.env.now.pool c.args.x.now.scope)) c.show-2.ensures (c.in_ok-type_fits.ensures c.if-not-branch.false)

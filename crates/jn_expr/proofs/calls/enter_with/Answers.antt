@@ -1,5 +1,6 @@
 use Rattle.jn_expr.proofs.Scopes.{scope_stays}
 use Rattle.jn_expr.proofs.CallSteps.{begun}
+use Rattle.jn_expr.proofs.Typeds.{fits_kept}
 use Rattle.jn_expr.proofs.calls.enter_with.Goals as goal
 
 pub path_of-requires-clause-scope : goal.path_of-requires-clause-scope
@@ -9,3 +10,6 @@ pub returns-in_ok-call-in-Ok-clause-call : goal.returns-in_ok-call-in-Ok-clause-
 returns-in_ok-call-in-Ok-clause-call c =
     begun c.args.env.now.pool c.enter.new.env.pool c.args.scope.now c.path_of.new.scope c.args.x.ty c.args.x.path c.in_ok-path-in-Ok.path c.in-Ok.header c.in_ok-call-in-Ok.call
     c.requires.scope c.requires.number c.enter.ensures.stays.pool c.in-Ok.ensures.number c.in_ok-path-in-Ok.ensures c.in_ok-call-in-Ok.ensures
+
+pub path_of-requires-clause-fits : goal.path_of-requires-clause-fits
+path_of-requires-clause-fits c = fits_kept c.requires.scope c.enter.ensures.stays.pool c.requires.number c.requires.fits.type

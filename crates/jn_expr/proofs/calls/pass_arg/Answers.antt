@@ -6,6 +6,7 @@ use Rattle.jn_expr.specs.Envs.{here_at}
 use Rattle.jn_expr.specs.Values.{typed_in}
 use Rattle.jn_expr.proofs.Scopes.{scope_stays}
 use Rattle.jn_expr.proofs.CallSteps.{below_at, arg_refused, arg_told, arg_path}
+use Rattle.jn_expr.proofs.Typeds.{fits_kept, passed_fits}
 use Rattle.jn_expr.proofs.calls.pass_arg.Goals as goal
 
 pub below-requires-clause-scope : goal.below-requires-clause-scope
@@ -53,3 +54,13 @@ returns-clause-told c = λ p x go filled e.
     c.requires.scope c.requires.number (keeps_more c.in_ok-want.ensures.keeps c.below.ensures.keeps) c.type_passed-passed.ensures.is
     (c.below.ensures.keeps.shows c.in_ok-want.want c.in_ok-want.ensures.number ∙ (c.in_ok-want.ensures.is x e).shows) c.in_ok-path.ensures)
     c.in_ok-push.ensures.items
+
+pub below-requires-clause-s_fits : goal.below-requires-clause-s_fits
+below-requires-clause-s_fits c = fits_kept c.requires.scope c.in_ok-want.ensures.keeps c.requires.number c.requires.fits.type
+
+pub path_of-requires-clause-fits : goal.path_of-requires-clause-fits
+path_of-requires-clause-fits c =
+    passed_fits (scope_in c.below.new.pool c.args.scope.now) (shown c.below.new.pool c.args.v.ty) (shown c.below.new.pool c.in_ok-want.want)
+    (shown c.below.new.pool c.type_passed-passed.result) c.type_passed-passed.ensures.is
+    (fits_kept c.requires.scope (keeps_more c.in_ok-want.ensures.keeps c.below.ensures.keeps) c.requires.number c.requires.fits.type)
+    (fits_kept (scope_stays c.requires.scope c.in_ok-want.ensures.keeps) c.below.ensures.keeps c.in_ok-want.ensures.number c.in_ok-want.ensures.fits)

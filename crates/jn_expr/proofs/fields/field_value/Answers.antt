@@ -33,5 +33,13 @@ returns-in-Some-clause-told c =
     (finds_at c.args.p.now s _ _ c.args.f.now.name (found_in c.in_ok-field_of.field-0) (Some (found_of c.in-Some.found)) c.show-2.ensures (ap found_in c.in-Some.is)
     c.in_ok-field_of.ensures.is)
     c.read_field.result
-    (c.read_field.ensures.told c.args.p.now
-    (subst (λ (t : Table). ArePartsOf c.args.p.now (record (parts c.args.env.now) { table = t })) (sym c.in_ok-field_of.ensures.kept) c.requires.parts))
+    c.read_field.ensures.told
+
+pub read_field-requires-clause-parts : goal.read_field-requires-clause-parts
+read_field-requires-clause-parts c =
+    subst (λ (t : Table). ArePartsOf c.args.p.now (record (parts c.args.env.now) { table = t })) (sym c.in_ok-field_of.ensures.kept) c.requires.parts
+
+pub read_field-requires-clause-found : goal.read_field-requires-clause-found
+read_field-requires-clause-found c =
+    finds_at c.args.p.now (scope_in c.args.env.now.pool c.args.scope.now) _ _ c.args.f.now.name (found_in c.in_ok-field_of.field-0) (Some (found_of c.in-Some.found)) c.show-2.ensures
+    (ap found_in c.in-Some.is) c.in_ok-field_of.ensures.is

@@ -7,6 +7,7 @@ use Rattle.jn_expr.specs.Envs.{here_at}
 use Rattle.jn_expr.specs.Granting.{constraint_grants}
 use Rattle.jn_expr.proofs.Scopes.{scope_stays, stays_more}
 use Rattle.jn_expr.proofs.Granting.{rest_true, rest_false, rest_fault, rest_none, quiet_at, at_bool}
+use Rattle.jn_expr.proofs.Typeds.{fits_kept}
 use Rattle.jn_expr.proofs.grants.header_grants.Goals as goal
 
 pub constraint_grants-requires-clause-scope : goal.constraint_grants-requires-clause-scope
@@ -75,3 +76,6 @@ returns-clause-told c = λ u e.
     (scope_in c.args.env.now.pool c.args.scope.now) (shown c.args.env.now.pool c.args.from) u
     (sym (ap (λ (xs : List Constraint). drop i xs) is) ∙ drop_of_length-le c.as_slice-constraint-items.result.now {i = i} (search rules))
     (c.loop-constraint.invariant.rest u e)
+
+pub constraint_grants-requires-clause-fits : goal.constraint_grants-requires-clause-fits
+constraint_grants-requires-clause-fits c = fits_kept c.requires.scope c.loop-constraint.invariant.stays.pool c.requires.number c.requires.fits

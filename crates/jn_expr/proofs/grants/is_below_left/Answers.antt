@@ -2,6 +2,7 @@ use Rattle.std.proofs.lemmas.Result.{IfOk-weaker}
 use Rattle.jn_intern.proofs.Pools.{keeps_more, scope_kept}
 use Rattle.jn_expr.proofs.Scopes.{scope_stays}
 use Rattle.jn_expr.proofs.Granting.{formed, below_back}
+use Rattle.jn_expr.proofs.Typeds.{fits_kept}
 use Rattle.jn_expr.proofs.grants.is_below_left.Goals as goal
 
 pub normal_of-requires-clause-scope : goal.normal_of-requires-clause-scope
@@ -21,3 +22,6 @@ returns-clause-below c =
 
 pub returns-clause-keeps : goal.returns-clause-keeps
 returns-clause-keeps c = keeps_more c.in_ok-id.ensures.keeps (keeps_more c.in_ok-form.ensures.keeps c.below.ensures.keeps)
+
+pub below-requires-clause-s_fits : goal.below-requires-clause-s_fits
+below-requires-clause-s_fits c = fits_kept c.requires.scope (keeps_more c.in_ok-id.ensures.keeps c.in_ok-form.ensures.keeps) c.requires.number c.requires.fits

@@ -3,6 +3,8 @@ use Rattle.jn_rules.specs.Exprs.{is_int}
 use Rattle.jn_expr.specs.Envs.{here_at}
 use Rattle.jn_expr.specs.Values.{typed_in}
 use Rattle.jn_expr.proofs.Typing.{negated_told}
+use Rattle.jn_intern.specs.Pools.{scope_in}
+use Rattle.jn_expr.proofs.Typeds.{number_fits}
 use Rattle.jn_expr.proofs.operators.negate.Goals as goal
 
 pub returns-clause-told : goal.returns-clause-told
@@ -10,3 +12,6 @@ returns-clause-told c = λ p.
     negated_told p (typed_in c.plain.new.env.pool c.args.scope.now) c.args.env.now.marks c.plain.new.env.marks c.plain.result
     (here_at c.args.class.now c.args.m.now c.args.env.now.vars.list) c.args.at (typed_in c.args.env.now.pool c.args.scope.now c.args.x)
     (sym (ap is_int c.show.ensures) ∙ (sym c.is_int.ensures ∙ c.if-not-is_int.false)) (c.plain.ensures.told p)
+
+pub plain-requires-clause-fits : goal.plain-requires-clause-fits
+plain-requires-clause-fits c = number_fits (scope_in c.args.env.now.pool c.args.scope.now)

@@ -6,6 +6,8 @@ use Rattle.jn_expr.specs.Envs.{here_at}
 use Rattle.jn_expr.specs.Told.{PlanTold}
 use Rattle.jn_expr.specs.Values.{typed_in}
 use Rattle.jn_expr.proofs.Typing.{operated_told}
+use Rattle.jn_base.specs.Fits.{TypeFits}
+use Rattle.jn_expr.proofs.Typeds.{operator_fits}
 use Rattle.jn_expr.proofs.operators.operate.Goals as goal
 
 pub returns-clause-told : goal.returns-clause-told
@@ -18,3 +20,8 @@ returns-clause-told c = λ p.
     (subst (λ (t : Ty). PlanTold p (gives (plain t (scope_in c.args.env.now.pool c.args.scope.now))) (typed_in c.plain.new.env.pool c.args.scope.now) c.args.env.now.marks
     c.plain.new.env.marks c.plain.result)
     c.operator_type-ty.ensures (c.plain.ensures.told p))
+
+pub plain-requires-clause-fits : goal.plain-requires-clause-fits
+plain-requires-clause-fits c =
+    let s = scope_in c.args.env.now.pool c.args.scope.now in
+    subst (TypeFits s) (sym c.operator_type-ty.ensures) (operator_fits s c.args.l.now.op)

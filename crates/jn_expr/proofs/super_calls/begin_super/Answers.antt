@@ -2,10 +2,14 @@ use Rattle.jn_intern.specs.Pools.{scope_in}
 use Rattle.jn_intern.proofs.Pools.{scope_kept}
 use Rattle.jn_expr.proofs.Scopes.{scope_stays, stays_more, parts_stay, vars_stay}
 use Rattle.jn_expr.proofs.WalkSupers.{super_term_fault, super_begun}
+use Rattle.jn_expr.proofs.Typeds.{there_kept}
 use Rattle.jn_expr.proofs.super_calls.begin_super.Goals as goal
 
 pub super_owner-requires : goal.super_owner-requires
-super_owner-requires c = record { scope = scope_stays c.requires.scope c.in-Ok.ensures.stays.pool }
+super_owner-requires c = record {
+  scope = scope_stays c.requires.scope c.in-Ok.ensures.stays.pool;
+  this = there_kept c.requires.scope c.in-Ok.ensures.stays.pool c.requires.this;
+}
 
 pub returns-in-Err-clause-told : goal.returns-in-Err-clause-told
 returns-in-Err-clause-told c = λ es.

@@ -1,7 +1,5 @@
 use Rattle.std.proofs.Common.{◌∙◌, ap, subst, List}
-use Rattle.jn_base.specs.Fits.{TypeFits}
 use Rattle.jn_intern.specs.declared.scope.Bind.{Bind}
-use Rattle.jn_intern.specs.Pools.{scope_in}
 use Rattle.jn_subtype.specs.Binds.{binds_in}
 use Rattle.jn_rules.specs.Exprs.{next_path}
 use Rattle.jn_expr.specs.Fitting.{IsFree}
@@ -12,6 +10,6 @@ pub returns : goal.returns
 returns c =
     fresh_bound c.args.pool.now c.args.scope.now _ c.args.ty c.in_ok-path.path c.requires.scope c.requires.number
     (subst (λ (bs : List Bind). IsFree bs c.in_ok-path.path) c.deref-2.ensures.value (c.is_free.ensures c.if-not-is_free.false))
-    (subst (TypeFits (scope_in c.args.pool.now c.args.scope.now)) c.show.ensures (c.in_ok-type_fits.ensures c.if-not-branch.false))
+    c.requires.fits
     (c.in_ok-path.ensures c.args.pool.now ∙ ap (λ (bs : List Bind). next_path (binds_in c.args.pool.now bs)) c.deref.ensures.value)
     c.in_ok-push.ensures.items

@@ -16,3 +16,6 @@ returns-then-is_null-clause-told c = λ u e.
     (sym (ap is_object c.show.ensures) ∙ (sym c.is_object.ensures ∙ c.if-not-is_object.false))
     (sym (ap is_null_type c.show-2.ensures) ∙ (sym c.is_null.ensures ∙ c.if-is_null.true))
     (viewed_at c.args.p.now show c.args.env.now.marks c.viewed.new.env.marks c.viewed.result u s s c.args.target.now refl e (c.viewed.ensures.told c.args.p.now))
+
+pub granted_or-requires-clause-fits : goal.granted_or-requires-clause-fits
+granted_or-requires-clause-fits c = c.requires.fits.type

@@ -6,6 +6,7 @@ use Rattle.jn_expr.specs.Envs.{here_at}
 use Rattle.jn_expr.specs.Values.{typed_in}
 use Rattle.jn_expr.proofs.Scopes.{scope_stays, stays_more}
 use Rattle.jn_expr.proofs.Viewing.{granted_fault, granted_told, viewed_at, by_sharing_at, quiet_is}
+use Rattle.jn_expr.proofs.Typeds.{fits_kept}
 use Rattle.jn_expr.proofs.views.granted_or.Goals as goal
 
 pub viewed-requires : goal.viewed-requires
@@ -49,3 +50,6 @@ returns-else-granted-clause-told c = λ u e.
 
 pub returns-else-granted-clause-stays : goal.returns-else-granted-clause-stays
 returns-else-granted-clause-stays c = stays_more c.header_grants.ensures.stays c.unless_path.ensures.stays
+
+pub unless_path-requires-clause-fits : goal.unless_path-requires-clause-fits
+unless_path-requires-clause-fits c = fits_kept c.requires.scope c.header_grants.ensures.stays.pool c.requires.number c.requires.fits

@@ -35,6 +35,8 @@ use Rattle.jn_expr.proofs.WalkForms.{number_form, truth_form, null_form, this_fo
 use Rattle.jn_expr.proofs.WalkSteps.{view_fault, view_value_fault, view_told, link_refused, link_fault, link_told, links_more, links_fault, links_end, parts_more, parts_fault, parts_end, arg_fault, arg_leads, IsAt, is_at, args_more, args_fault, args_out, args_end}
 use Rattle.jn_expr.proofs.WalkCalls.{args_count, passed_none, passed_more, passed_behind, call_stays, header_stays, args_refused, args_went, result_at, begun_fault, begun_told, made_none, made_some, made_at, one_arg_at, got_at}
 use Rattle.jn_expr.proofs.WalkSupers.{owner_fault, owner_told}
+use Rattle.jn_expr.proofs.Typeds.{truth_fits, number_fits, no_object_fits, typed_later, this_there, vars_there, stays_there}
+use Rattle.jn_expr.proofs.Sizes.{post_below, chain_below}
 use Rattle.jn_expr.proofs.walk.+typing.Goals as goal
 
 pub type_not-invert-requires-clause-scope : goal.type_not-invert-requires-clause-scope
@@ -91,7 +93,8 @@ type_negative-returns-in-Ok-clause-stays t c =
 
 pub type_view-value_of-requires : goal.type_view-value_of-requires
 type_view-value_of-requires t c =
-    (search rules, (parts_stay c.requires.parts c.in-Ok.ensures.stays, scope_stays c.requires.scope c.in-Ok.ensures.stays.pool))
+    let SCOPE = scope_stays c.requires.scope c.in-Ok.ensures.stays.pool in
+    (search rules, (parts_stay c.requires.parts c.in-Ok.ensures.stays, (SCOPE, stays_there c.args.p.now c.args.class.now c.args.m.now c.requires.there c.in-Ok.ensures.stays c.requires.scope (grows_none c.args.scope.now) SCOPE)))
 
 pub type_view-change_view-requires-clause-parts : goal.type_view-change_view-requires-clause-parts
 type_view-change_view-requires-clause-parts t c =
@@ -104,6 +107,10 @@ type_view-change_view-requires-clause-scope t c =
 pub type_view-change_view-requires-clause-number : goal.type_view-change_view-requires-clause-number
 type_view-change_view-requires-clause-number t c =
     c.in-Ok-value_of.ensures.value.number
+
+pub type_view-change_view-requires-clause-fits : goal.type_view-change_view-requires-clause-fits
+type_view-change_view-requires-clause-fits t c =
+    c.in-Ok-value_of.ensures.value.fits
 
 pub type_view-returns-in-Err-value_of-clause-stays : goal.type_view-returns-in-Err-value_of-clause-stays
 type_view-returns-in-Err-value_of-clause-stays t c =
@@ -165,7 +172,7 @@ type_link-returns-in-Ok-clause-stays t c =
 
 pub type_links-loop-l-init : goal.type_links-loop-l-init
 type_links-loop-l-init t c =
-    record { stays = stays_same c.args.env.now; parts = c.requires.parts; scope = c.requires.scope; number = c.requires.number; grows = grows_none c.args.scope.now; leads = leads_here _ c.args.env.now.marks }
+    record { stays = stays_same c.args.env.now; parts = c.requires.parts; scope = c.requires.scope; there = c.requires.there; number = c.requires.number; fits = c.requires.fits; grows = grows_none c.args.scope.now; leads = leads_here _ c.args.env.now.marks }
 
 pub type_links-returns-in-Err-clause-told : goal.type_links-returns-in-Err-clause-told
 type_links-returns-in-Err-clause-told t c =
@@ -183,6 +190,8 @@ type_links-loop-l-preserved t c =
       parts = parts_stay c.requires.parts (stays_more c.loop-l.invariant.stays c.in-Ok.ensures.stays);
       scope = c.in-Ok.ensures.value.scope;
       number = c.in-Ok.ensures.value.number;
+      there = stays_there c.args.p.now c.args.class.now c.args.m.now c.loop-l.invariant.there c.in-Ok.ensures.stays c.loop-l.invariant.scope c.in-Ok.ensures.value.grows c.in-Ok.ensures.value.scope;
+      fits = c.in-Ok.ensures.value.fits;
       grows = grows_more c.loop-l.invariant.grows c.in-Ok.ensures.value.grows;
       leads = links_more c.args.p.now (here_at c.args.class.now c.args.m.now c.args.env.now.vars.list) c.args.at c.args.links.now c.loop-l.l-index c.l-item.result c.loop-l-test.true c.l-item.is _ (typed_in c.loop-l.env.pool c.loop-l.scope c.loop-l.left) c.args.env.now.marks c.loop-l.env.marks c.type_link.new.env.marks c.loop-l.invariant.leads (typed_in c.type_link.new.env.pool c.type_link.new.scope c.in-Ok.value)
           (subst (λ (vs : List Var). PlanTold c.args.p.now (link_typed (here_at c.args.class.now c.args.m.now vs) c.args.at (typed_in c.loop-l.env.pool c.loop-l.scope c.loop-l.left) c.l-item.result (expr_types (here_at c.args.class.now c.args.m.now vs) c.l-item.result.right)) (typed_in c.type_link.new.env.pool c.type_link.new.scope) c.loop-l.env.marks c.type_link.new.env.marks (Ok c.in-Ok.value)) (vars_stay c.loop-l.invariant.stays) c.in-Ok.ensures.told);
@@ -194,7 +203,7 @@ type_links-returns-clause-told t c =
 
 pub type_links-returns-clause-value : goal.type_links-returns-clause-value
 type_links-returns-clause-value t c =
-    record { scope = c.loop-l.invariant.scope; number = c.loop-l.invariant.number; grows = c.loop-l.invariant.grows }
+    record { scope = c.loop-l.invariant.scope; number = c.loop-l.invariant.number; grows = c.loop-l.invariant.grows; fits = c.loop-l.invariant.fits }
 
 pub type_links-returns-clause-stays : goal.type_links-returns-clause-stays
 type_links-returns-clause-stays t c =
@@ -211,7 +220,7 @@ type_part-returns-in-Some-clause-told t c =
 
 pub type_parts-loop-part-init : goal.type_parts-loop-part-init
 type_parts-loop-part-init t c =
-    record { stays = stays_same c.args.env.now; parts = c.requires.parts; scope = c.requires.scope; number = c.requires.number; grows = grows_none c.args.scope.now; leads = leads_here _ c.args.env.now.marks }
+    record { stays = stays_same c.args.env.now; parts = c.requires.parts; scope = c.requires.scope; there = c.requires.there; number = c.requires.number; fits = c.requires.fits; grows = grows_none c.args.scope.now; leads = leads_here _ c.args.env.now.marks }
 
 pub type_parts-returns-in-Err-clause-told : goal.type_parts-returns-in-Err-clause-told
 type_parts-returns-in-Err-clause-told t c =
@@ -229,6 +238,8 @@ type_parts-loop-part-preserved t c =
       parts = parts_stay c.requires.parts (stays_more c.loop-part.invariant.stays c.in-Ok.ensures.stays);
       scope = c.in-Ok.ensures.value.scope;
       number = c.in-Ok.ensures.value.number;
+      there = stays_there c.args.p.now c.args.class.now c.args.m.now c.loop-part.invariant.there c.in-Ok.ensures.stays c.loop-part.invariant.scope c.in-Ok.ensures.value.grows c.in-Ok.ensures.value.scope;
+      fits = c.in-Ok.ensures.value.fits;
       grows = grows_more c.loop-part.invariant.grows c.in-Ok.ensures.value.grows;
       leads = parts_more c.args.p.now (here_at c.args.class.now c.args.m.now c.args.env.now.vars.list) c.args.whole c.loop-part.place c.args.suffixes.now c.loop-part.part-index c.part-item.result c.loop-part-test.true c.part-item.is _ (typed_in c.loop-part.env.pool c.loop-part.scope c.loop-part.value) c.args.env.now.marks c.loop-part.env.marks c.type_part.new.env.marks c.loop-part.invariant.leads (typed_in c.type_part.new.env.pool c.type_part.new.scope c.in-Ok.next)
           (subst (λ (vs : List Var). PlanTold c.args.p.now (part_types (here_at c.args.class.now c.args.m.now vs) c.part-item.result c.loop-part.place (typed_in c.loop-part.env.pool c.loop-part.scope c.loop-part.value)) (typed_in c.type_part.new.env.pool c.type_part.new.scope) c.loop-part.env.marks c.type_part.new.env.marks (Ok c.in-Ok.next)) (vars_stay c.loop-part.invariant.stays) c.in-Ok.ensures.told);
@@ -240,7 +251,7 @@ type_parts-returns-clause-told t c =
 
 pub type_parts-returns-clause-value : goal.type_parts-returns-clause-value
 type_parts-returns-clause-value t c =
-    record { scope = c.loop-part.invariant.scope; number = c.loop-part.invariant.number; grows = c.loop-part.invariant.grows }
+    record { scope = c.loop-part.invariant.scope; number = c.loop-part.invariant.number; grows = c.loop-part.invariant.grows; fits = c.loop-part.invariant.fits }
 
 pub type_parts-returns-clause-stays : goal.type_parts-returns-clause-stays
 type_parts-returns-clause-stays t c =
@@ -253,6 +264,10 @@ type_arg-pass_arg-requires-clause-scope t c =
 pub type_arg-pass_arg-requires-clause-number : goal.type_arg-pass_arg-requires-clause-number
 type_arg-pass_arg-requires-clause-number t c =
     c.in-Ok.ensures.value.number
+
+pub type_arg-pass_arg-requires-clause-fits : goal.type_arg-pass_arg-requires-clause-fits
+type_arg-pass_arg-requires-clause-fits t c =
+    c.in-Ok.ensures.value.fits
 
 pub type_arg-returns-in-Err-clause-told : goal.type_arg-returns-in-Err-clause-told
 type_arg-returns-in-Err-clause-told t c =
@@ -274,7 +289,7 @@ type_arg-returns-in-Ok-clause-stays t c =
 
 pub type_args-loop-e-init : goal.type_args-loop-e-init
 type_args-loop-e-init t c =
-    record { stays = stays_same c.args.env.now; parts = c.requires.parts; passed = passed_none c.args.env.now.pool c.args.scope.now c.args.call.now c.requires.scope (grows_none c.args.scope.now); count = c.requires.first; leads = leads_here _ c.args.env.now.marks }
+    record { stays = stays_same c.args.env.now; parts = c.requires.parts; there = c.requires.there; passed = passed_none c.args.env.now.pool c.args.scope.now c.args.call.now c.requires.scope (grows_none c.args.scope.now); count = c.requires.first; leads = leads_here _ c.args.env.now.marks }
 
 pub type_args-returns-then-len-clause-told : goal.type_args-returns-then-len-clause-told
 type_args-returns-then-len-clause-told t c =
@@ -321,6 +336,7 @@ type_args-loop-e-preserved t c =
     record {
       stays = stays_more c.loop-e.invariant.stays c.in-Ok.ensures.stays;
       parts = parts_stay c.requires.parts (stays_more c.loop-e.invariant.stays c.in-Ok.ensures.stays);
+      there = stays_there c.args.p.now c.args.class.now c.args.m.now c.loop-e.invariant.there c.in-Ok.ensures.stays c.loop-e.invariant.passed.scope c.in-Ok.ensures.passed.grows c.in-Ok.ensures.passed.scope;
       passed = passed_more c.loop-e.invariant.passed c.in-Ok.ensures.passed;
       count = c.in-Ok.ensures.longer ∙ ap (λ (n : ℕ). n + 1) c.loop-e.invariant.count;
       leads = args_more c.args.p.now (here_at c.args.class.now c.args.m.now c.args.env.now.vars.list) c.args.call.now.from.items c.args.call.now.header.at.vars.list c.args.args.now c.loop-e.e-index _ c.loop-e.call.paths.items (scope_in c.loop-e.env.pool c.loop-e.scope) c.args.env.now.marks c.loop-e.env.marks c.loop-e.invariant.leads c.e-item.result c.loop-e-test.true c.e-item.is AT c.type_arg.new.call.paths.items (scope_in c.type_arg.new.env.pool c.type_arg.new.scope) c.type_arg.new.env.marks
@@ -358,7 +374,8 @@ type_called-returns-in-Ok-clause-stays t c =
 
 pub type_call-type_called-requires : goal.type_call-type_called-requires
 type_call-type_called-requires t c =
-    (search rules, (parts_stay c.requires.parts c.in-Ok.ensures.stays, (c.in-Ok.ensures.call.scope, (c.in-Ok.ensures.call.is_call, ap length c.in-Ok.ensures.call.paths))))
+    let THERE = stays_there c.args.p.now c.args.class.now c.args.m.now c.requires.there c.in-Ok.ensures.stays c.requires.scope c.in-Ok.ensures.call.grows c.in-Ok.ensures.call.scope in
+    (search rules, (parts_stay c.requires.parts c.in-Ok.ensures.stays, (c.in-Ok.ensures.call.scope, (THERE, (c.in-Ok.ensures.call.is_call, ap length c.in-Ok.ensures.call.paths)))))
 
 pub type_call-returns-in-Err-clause-told : goal.type_call-returns-in-Err-clause-told
 type_call-returns-in-Err-clause-told t c =
@@ -380,7 +397,7 @@ type_call-returns-in-Ok-clause-stays t c =
 
 pub type_made-type_args-requires : goal.type_made-type_args-requires
 type_made-type_args-requires t c =
-    (search rules, (c.requires.parts, (c.requires.scope, c.requires.call.begun c.in-Some.begun c.in-Some.is)))
+    (search rules, (c.requires.parts, (c.requires.scope, (c.requires.there, c.requires.call.begun c.in-Some.begun c.in-Some.is))))
 
 pub type_made-returns-in-None-clause-told : goal.type_made-returns-in-None-clause-told
 type_made-returns-in-None-clause-told t c =
@@ -393,6 +410,10 @@ type_made-made-requires-in-Ok-clause-scope t c =
 pub type_made-made-requires-in-Ok-clause-number : goal.type_made-made-requires-in-Ok-clause-number
 type_made-made-requires-in-Ok-clause-number t c =
     c.in-Ok.ensures.stays.pool.has c.args.value.ty c.requires.number
+
+pub type_made-made-requires-in-Ok-clause-fits : goal.type_made-made-requires-in-Ok-clause-fits
+type_made-made-requires-in-Ok-clause-fits t c =
+    typed_later c.requires.scope c.in-Ok.ensures.stays.pool c.in-Ok.ensures.passed.grows c.in-Ok.ensures.passed.scope c.requires.number c.requires.fits
 
 pub type_made-returns-in-Err-clause-told : goal.type_made-returns-in-Err-clause-told
 type_made-returns-in-Err-clause-told t c =
@@ -417,7 +438,8 @@ type_made-returns-clause-stays t c =
 
 pub type_new-type_made-requires : goal.type_new-type_made-requires
 type_new-type_made-requires t c =
-    (search rules, (parts_stay c.requires.parts c.in-Ok.ensures.stays, (c.in-Ok.ensures.made.scope, (c.in-Ok.ensures.made.number, record { call = c.in-Ok.ensures.made.call; begun = c.in-Ok.ensures.made.begun }))))
+    let THERE = stays_there c.args.p.now c.args.class.now c.args.m.now c.requires.there c.in-Ok.ensures.stays c.requires.scope c.in-Ok.ensures.made.grows c.in-Ok.ensures.made.scope in
+    (search rules, (parts_stay c.requires.parts c.in-Ok.ensures.stays, (c.in-Ok.ensures.made.scope, (THERE, (c.in-Ok.ensures.made.number, (c.in-Ok.ensures.made.fits, record { call = c.in-Ok.ensures.made.call; begun = c.in-Ok.ensures.made.begun }))))))
 
 pub type_new-returns-in-Err-clause-told : goal.type_new-returns-in-Err-clause-told
 type_new-returns-in-Err-clause-told t c =
@@ -439,7 +461,8 @@ type_new-returns-in-Ok-clause-stays t c =
 
 pub type_super_body-type_args-requires : goal.type_super_body-type_args-requires
 type_super_body-type_args-requires t c =
-    (search rules, (parts_stay c.requires.parts c.in-Ok.ensures.stays, (scope_stays c.requires.scope c.in-Ok.ensures.stays.pool, c.in-Ok.ensures.begun)))
+    let SCOPE = scope_stays c.requires.scope c.in-Ok.ensures.stays.pool in
+    (search rules, (parts_stay c.requires.parts c.in-Ok.ensures.stays, (SCOPE, (stays_there c.args.p.now c.args.class.now c.args.m.now c.requires.there c.in-Ok.ensures.stays c.requires.scope (grows_none c.args.scope.now) SCOPE, c.in-Ok.ensures.begun))))
 
 pub type_super_body-returns-in-Err-type_args-clause-stays : goal.type_super_body-returns-in-Err-type_args-clause-stays
 type_super_body-returns-in-Err-type_args-clause-stays t c =
@@ -486,7 +509,8 @@ type_super_body-returns-clause-stays t c =
 
 pub type_super-type_super_body-requires : goal.type_super-type_super_body-requires
 type_super-type_super_body-requires t c =
-    (search rules, (parts_stay c.requires.parts c.in-Ok.ensures.stays, scope_stays c.requires.scope c.in-Ok.ensures.stays.pool))
+    let SCOPE = scope_stays c.requires.scope c.in-Ok.ensures.stays.pool in
+    (search rules, (parts_stay c.requires.parts c.in-Ok.ensures.stays, (SCOPE, stays_there c.args.p.now c.args.class.now c.args.m.now c.requires.there c.in-Ok.ensures.stays c.requires.scope (grows_none c.args.scope.now) SCOPE)))
 
 pub type_super-returns-in-Err-clause-told : goal.type_super-returns-in-Err-clause-told
 type_super-returns-in-Err-clause-told t c =
@@ -578,3 +602,47 @@ value_of-returns-in-Ok-value_of-clause-value t c =
 pub value_of-returns-in-Ok-value_of-clause-stays : goal.value_of-returns-in-Ok-value_of-clause-stays
 value_of-returns-in-Ok-value_of-clause-stays t c =
     stays_more c.in-Ok-value_of.ensures.stays c.type_links.ensures.stays
+
+pub value_of-type_parts-requires : goal.value_of-type_parts-requires
+value_of-type_parts-requires t c =
+    let M = post_below c.args.e.now c.in-Post.first c.in-Post.suffixes c.as_slice-in-Ok.result.now c.in-Post.is c.as_slice-in-Ok.ensures in (
+      omega (arith, M, c.decreases),
+      (
+        parts_stay c.requires.parts c.in-Ok.ensures.stays,
+        (
+          c.in-Ok.ensures.value.scope,
+          (
+            stays_there c.args.p.now c.args.class.now c.args.m.now c.requires.there c.in-Ok.ensures.stays c.requires.scope c.in-Ok.ensures.value.grows c.in-Ok.ensures.value.scope,
+            (c.in-Ok.ensures.value.number, c.in-Ok.ensures.value.fits),
+          ),
+        ),
+      ),
+    )
+
+pub value_of-type_links-requires : goal.value_of-type_links-requires
+value_of-type_links-requires t c =
+    let M = chain_below c.args.e.now c.in-Chain.field-0 c.in-Chain.first c.in-Chain.links c.as_slice-in-Ok-value_of.result.now c.in-Chain.is c.as_slice-in-Ok-value_of.ensures in (
+      omega (arith, M, c.decreases),
+      (
+        parts_stay c.requires.parts c.in-Ok-value_of.ensures.stays,
+        (
+          c.in-Ok-value_of.ensures.value.scope,
+          (
+            stays_there c.args.p.now c.args.class.now c.args.m.now c.requires.there c.in-Ok-value_of.ensures.stays c.requires.scope c.in-Ok-value_of.ensures.value.grows c.in-Ok-value_of.ensures.value.scope,
+            (c.in-Ok-value_of.ensures.value.number, c.in-Ok-value_of.ensures.value.fits),
+          ),
+        ),
+      ),
+    )
+
+pub type_super-begin_super-requires-clause-this : goal.type_super-begin_super-requires-clause-this
+type_super-begin_super-requires-clause-this t c =
+    this_there c.args.p.now (site_here (here_at c.args.class.now c.args.m.now c.args.env.now.vars.list)) (scope_in c.args.env.now.pool c.args.scope.now) c.requires.there
+
+pub value_of-path_value-requires-clause-there : goal.value_of-path_value-requires-clause-there
+value_of-path_value-requires-clause-there t c =
+    this_there c.args.p.now (site_here (here_at c.args.class.now c.args.m.now c.args.env.now.vars.list)) (scope_in c.args.env.now.pool c.args.scope.now) c.requires.there
+
+pub value_of-variable-requires-clause-vars : goal.value_of-variable-requires-clause-vars
+value_of-variable-requires-clause-vars t c =
+    vars_there c.args.p.now (site_here (here_at c.args.class.now c.args.m.now c.args.env.now.vars.list)) (scope_in c.args.env.now.pool c.args.scope.now) c.requires.there

@@ -1,10 +1,10 @@
 use Rattle.std.proofs.Common.{◌≡◌, ◌+◌, drop, length}
 use Rattle.jn_intern.specs.Pools.{InPool, scope_in}
-use Rattle.jn_rules.specs.Exprs.{links_typed, suffixes_typed, args_typed}
+use Rattle.jn_rules.specs.Exprs.{site_here, links_typed, suffixes_typed, args_typed}
 use Rattle.jn_rules.specs.Forms.{typed_args, typed_links, typed_parts}
-use Rattle.jn_expr.specs.Envs.{ArePartsOf, IsScope, Stays, parts, here_at}
+use Rattle.jn_expr.specs.Envs.{ArePartsOf, IsScope, IsThere, Stays, parts, here_at}
 use Rattle.jn_expr.specs.Passing.{Grows}
-use Rattle.jn_expr.specs.Values.{typed_in}
+use Rattle.jn_expr.specs.Values.{typed_in, TypedFits}
 use Rattle.jn_expr.specs.Steps.{Leads}
 use Rattle.jn_expr.specs.Calling.{IsPassed}
 use Rattle.jn_expr.proofs.walk.+typing.Given as goal
@@ -14,7 +14,9 @@ invariant-type_links-loop-l l = record {
   stays : Stays l.fn.env l.env;
   parts : ArePartsOf l.p (parts l.env);
   scope : IsScope l.env.pool l.scope;
+  there : IsThere l.p (site_here (here_at l.class l.m l.env.vars.list)) (scope_in l.env.pool l.scope);
   number : InPool l.env.pool l.left.ty;
+  fits : TypedFits (typed_in l.env.pool l.scope l.left);
   grows : Grows l.fn.scope l.scope;
   leads : Leads l.p
       (links_typed (here_at l.class l.m l.fn.env.vars.list) l.at (typed_in l.fn.env.pool l.fn.scope l.fn.x) (typed_links (here_at l.class l.m l.fn.env.vars.list) l.links))
@@ -27,7 +29,9 @@ invariant-type_parts-loop-part l = record {
   stays : Stays l.fn.env l.env;
   parts : ArePartsOf l.p (parts l.env);
   scope : IsScope l.env.pool l.scope;
+  there : IsThere l.p (site_here (here_at l.class l.m l.env.vars.list)) (scope_in l.env.pool l.scope);
   number : InPool l.env.pool l.value.ty;
+  fits : TypedFits (typed_in l.env.pool l.scope l.value);
   grows : Grows l.fn.scope l.scope;
   leads : Leads l.p
       (suffixes_typed l.whole l.fn.at (typed_parts (here_at l.class l.m l.fn.env.vars.list) l.suffixes) (typed_in l.fn.env.pool l.fn.scope l.fn.x))
@@ -39,6 +43,7 @@ abbrev pub invariant-type_args-loop-e : goal.invariant-type_args-loop-e
 invariant-type_args-loop-e l = record {
   stays : Stays l.fn.env l.env;
   parts : ArePartsOf l.p (parts l.env);
+  there : IsThere l.p (site_here (here_at l.class l.m l.env.vars.list)) (scope_in l.env.pool l.scope);
   passed : IsPassed l.env.pool l.fn.scope l.scope l.fn.call l.call;
   count : length l.call.paths.items ≡ l.e-index + 1;
   leads : Leads l.p

@@ -9,15 +9,15 @@ use Rattle.jn_lower.proofs.walk_new.bound_constructs.Goals as goal
 pub returns : goal.returns
 returns c =
     let p = c.args.g.now.p.now in
-    let B = c.in_ok-bound.bound in
+    let B = c.args.b in
     let x = atom_of c.args.x.now in
     record {
-      yes = λ told filled s this class.
-          let e : B ≡ bound s x = c.in_ok-bound.ensures s this in
+      yes = λ told filled s scoped class.
+          let e : B ≡ bound s x = c.requires.is s scoped in
           subst (λ (R : Path). HasMethod p R c.args.name) e
           ((c.has_method.ensures p B filled c.in-Some.ensures.some).0 told);
-      no = λ told filled s this class has.
-          let e : B ≡ bound s x = c.in_ok-bound.ensures s this in
+      no = λ told filled s scoped class has.
+          let e : B ≡ bound s x = c.requires.is s scoped in
           unlike (sym told ∙ (c.has_method.ensures p B filled c.in-Some.ensures.some).1
           (subst (λ (R : Path). HasMethod p R c.args.name) (sym e) has));
     }

@@ -1,12 +1,12 @@
-use Rattle.std.proofs.Common.{◌≡◌, List, map, ◌∙◌, ap, subst}
-use Rattle.std.specs.Prelude.{Some, slice_get}
-use Rattle.jn_base.specs.declared.path.Path.{Path as ShownPath}
-use Rattle.jn_base.specs.Paths.{Path, shown}
-use Rattle.jn_table.proofs.Shown.{at_shown}
+use Rattle.std.proofs.Common.{◌≡◌, ◌∙◌, Option, ap, subst}
+use Rattle.std.specs.Prelude.{Some, IfSome}
+use Rattle.jn_base.specs.Paths.{Path}
+use Rattle.jn_lower.specs.Making.{IsAtomBound}
+use Rattle.jn_lower.proofs.NextLocals.{if_ok}
 use Rattle.jn_lower.proofs.walk_super.class_number.Goals as goal
 
-pub returns : goal.returns
-returns c = λ n classes s this.
-    at_shown n.classes c.in-Some.id.0 c.in_ok-bound.bound
-    (subst (λ (xs : List ShownPath). slice_get xs c.in-Some.id.0 ≡ Some (shown c.in_ok-bound.bound)) classes c.in-Some.ensures.some)
-    ∙ ap (λ (R : Path). Some R) (c.in_ok-bound.ensures s this)
+pub returns-in-Some : goal.returns-in-Some
+returns-in-Some c =
+    let known = subst (λ (o : Option Path). IfSome o (IsAtomBound c.args.g.now.class.now c.args.g.now.bounds.now c.args.x.now))
+    c.in-Some.is c.in_ok-class_bound.ensures in
+    if_ok c.number_of.result (λ k f n classes s scoped. f n classes ∙ ap (λ (R : Path). Some R) (known.is s scoped)) c.number_of.ensures

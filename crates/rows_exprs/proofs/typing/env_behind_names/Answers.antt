@@ -1,4 +1,3 @@
-use Rattle.std.proofs.Common.{rules}
 use Rattle.jn_expr.specs.Envs.{parts}
 use Rattle.rows_exprs.proofs.Parts.{named, are_parts}
 use Rattle.rows_exprs.proofs.typing.env_behind_names.Goals as goal
@@ -8,5 +7,5 @@ check_headers-requires-clause-table c = c.in_ok-table.ensures.table (named c.arg
 
 pub returns-in_ok-env_with-in-Ok : goal.returns-in_ok-env_with-in-Ok
 returns-in_ok-env_with-in-Ok c =
-    are_parts c.args.p.now c.check_headers.new.t c.in-Ok.headers (parts c.in_ok-env_with-in-Ok.field-0) c.requires.once
-    (c.is_shallow.ensures (search rules) c.args.p.now c.in-Ok.ensures.parts.filled) c.in-Ok.ensures.parts c.in_ok-env_with-in-Ok.ensures
+    are_parts c.args.p.now c.check_headers.new.t c.in-Ok.headers (parts c.in_ok-env_with-in-Ok.field-0) c.requires.limits c.requires.once
+    c.in-Ok.ensures.parts c.in_ok-env_with-in-Ok.ensures

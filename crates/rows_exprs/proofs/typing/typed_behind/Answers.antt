@@ -1,5 +1,5 @@
 use Rattle.jn_expr.specs.Envs.{parts}
-use Rattle.rows_exprs.proofs.Parts.{parts_with, first_scope}
+use Rattle.rows_exprs.proofs.Parts.{parts_with, first_scope, place_there}
 use Rattle.rows_exprs.proofs.typing.typed_behind.Goals as goal
 
 pub value_of-requires-clause-parts : goal.value_of-requires-clause-parts
@@ -7,3 +7,6 @@ value_of-requires-clause-parts c = parts_with c.args.p.now (parts c.args.env.now
 
 pub value_of-requires-clause-scope : goal.value_of-requires-clause-scope
 value_of-requires-clause-scope c = first_scope c.args.p.now c.args.env.now.pool c.args.at c.requires.stands
+
+pub value_of-requires-clause-there : goal.value_of-requires-clause-there
+value_of-requires-clause-there c = place_there c.args.p.now c.args.class.now c.args.m.now c.args.env.now.pool c.args.at c.requires.stands c.requires.within
