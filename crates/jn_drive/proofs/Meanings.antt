@@ -20,18 +20,18 @@ use Rattle.jn_drive.proofs.Agreeing.{tells_run}
 
 tree_verdict : (p : Program) (bytes : List ℕ) (reply : Reply) → IsTextOf p bytes → TreeReply p sources.Check reply → VerdictReply bytes reply
 tree_verdict p bytes reply is (TreeReply.passed h) = VerdictReply.accepted (Verdict.of_tree p is h) refl
-tree_verdict p bytes reply is (TreeReply.not_passed r h) = VerdictReply.refused (Some p) r (Verdict.of_tree p is h) refl
+tree_verdict p bytes reply is (TreeReply.not_passed r h) = VerdictReply.refused (Some p) r is (Verdict.of_tree p is h) refl
 
 source_verdict : (bytes : List ℕ) (reply : Reply) → SourceReply sources.Check bytes reply → VerdictReply bytes reply
-source_verdict bytes reply (SourceReply.refused r by e) = VerdictReply.refused None r (Verdict.of_text r by refl) e
+source_verdict bytes reply (SourceReply.refused r by e) = VerdictReply.refused None r tt (Verdict.of_text r by refl) e
 source_verdict bytes reply (SourceReply.to_tree p is tree) = tree_verdict p bytes reply is tree
 
 pub checks_are_verdicts : (job : Job) (bytes : List ℕ) (reply : Reply) → job.kind ≡ kinds.OnSource sources.Check → JobReply job bytes reply → VerdictReply bytes reply
 checks_are_verdicts job bytes reply e h = source_verdict bytes reply (subst (λ (k : JobKind). ReplyBy k job bytes reply) e h)
 
 refused_meaning : (job : Job) (bytes line : List ℕ) (reply : Reply) → IsRefusalLine bytes line → reply ≡ refused_reply line → MeaningReply job bytes reply
-refused_meaning job bytes line reply (IsRefusalLine.of_text r by is) e = MeaningReply.refused None r (Verdict.of_text r by refl) (e ∙ ap refused_reply is)
-refused_meaning job bytes line reply (IsRefusalLine.of_tree p r text by is) e = MeaningReply.refused (Some p) r (Verdict.of_tree p text by) (e ∙ ap refused_reply is)
+refused_meaning job bytes line reply (IsRefusalLine.of_text r by is) e = MeaningReply.refused None r tt (Verdict.of_text r by refl) (e ∙ ap refused_reply is)
+refused_meaning job bytes line reply (IsRefusalLine.of_tree p r text by is) e = MeaningReply.refused (Some p) r text (Verdict.of_tree p text by) (e ∙ ap refused_reply is)
 
 run_meaning : (job : Job) (bytes : List ℕ) (reply : Reply) → SourceRunReply job bytes reply → MeaningReply job bytes reply
 run_meaning job bytes reply (SourceRunReply.refused line by e) = refused_meaning job bytes line reply by e

@@ -1,5 +1,5 @@
 -- What `check` and `run` reply, as the verdict of the source and the meaning of its program.
-use Rattle.std.specs.Prelude.{◌≡◌, ℕ, List, [], Option, Err}
+use Rattle.std.specs.Prelude.{◌≡◌, ℕ, List, [], Option, Err, None, Some, ⊤}
 use Rattle.jn_base.specs.declared.tree.Program.{Program}
 use Rattle.jn_base.specs.declared.refusal.Refusal.{Refusal}
 use Rattle.jn_rules.specs.Verdict.{IsAccepted, Verdict}
@@ -12,11 +12,16 @@ use Rattle.jn_drive.specs.Words.{Job}
 use Rattle.jn_drive.specs.Saved.{IsImageFile}
 use Rattle.jn_drive.specs.Reply.{Reply, JobReply, TellsRun, output_reply, refused_reply}
 
+-- The program whose names the line of a refusal tells: that of the source, where its text and words spell one.
+abbrev pub IsNamedBy : List ℕ → Option Program → Type 0
+IsNamedBy bytes None = ⊤
+IsNamedBy bytes (Some p) = IsTextOf p bytes
+
 -- The source is accepted, and nothing is put; or it is refused, and the reply is the line of the refusal.
 pub data VerdictReply (bytes : List ℕ) (reply : Reply) : Type 0 where
   accepted : IsAccepted bytes → reply ≡ output_reply [] → VerdictReply bytes reply
-  refused : (p : Option Program) (r : Refusal) → Verdict bytes (Err r) → reply ≡ refused_reply (line_of p r)
-      → VerdictReply bytes reply
+  refused : (p : Option Program) (r : Refusal) → IsNamedBy bytes p → Verdict bytes (Err r)
+      → reply ≡ refused_reply (line_of p r) → VerdictReply bytes reply
 
 abbrev pub ChecksAreVerdicts : Type 0
 ChecksAreVerdicts =
@@ -28,8 +33,8 @@ ChecksAreVerdicts =
 pub data MeaningReply (job : Job) (bytes : List ℕ) (reply : Reply) : Type 0 where
   accepted : IsAccepted bytes → (p : Program) → IsTextOf p bytes → NeverStuck p
       → TellsRun p job.arena job.depth job.steps reply → MeaningReply job bytes reply
-  refused : (p : Option Program) (r : Refusal) → Verdict bytes (Err r) → reply ≡ refused_reply (line_of p r)
-      → MeaningReply job bytes reply
+  refused : (p : Option Program) (r : Refusal) → IsNamedBy bytes p → Verdict bytes (Err r)
+      → reply ≡ refused_reply (line_of p r) → MeaningReply job bytes reply
 
 abbrev pub RunsTellMeanings : Type 0
 RunsTellMeanings =
