@@ -14,17 +14,7 @@ use Rattle.jn_table.specs.Gather.{StandsInside, AreInside, NamedIn, PartIn, Memb
 use Rattle.jn_table.specs.declared.entry.Entry.{Entry}
 use Rattle.jn_table.specs.declared.gather.Part.{Part}
 
-pub inside_at : (es : List Entry) (i : ℕ) (x : Entry) (P : Path) → i < length es → x ≡ get_or es i x
-    → x.namespace ≡ P → StandsInside es P i
-inside_at es i x P l is at = (x, slice_get_read es (length es) i x refl l is, at)
-
-pub not_inside : (es : List Entry) (i : ℕ) (x : Entry) (P : Path) → i < length es → x ≡ get_or es i x
-    → (x.namespace ≡ P → ⊥) → StandsInside es P i → ⊥
-not_inside es i x P l is none s =
-    none (subst (λ (e : Entry). e.namespace ≡ P)
-    (same_some (slice_get es i) s.0 x s.1 (slice_get_read es (length es) i x refl l is)) s.2)
-
-pub inside_within : (es : List Entry) (P : Path) (i : ℕ) → StandsInside es P i → i < length es
+inside_within : (es : List Entry) (P : Path) (i : ℕ) → StandsInside es P i → i < length es
 inside_within es P i s = slice_get_within es i s.0 s.1
 
 module _ (es : List Entry) (paths : List Path) (rows : Graph) (are : AreInside es paths rows) where

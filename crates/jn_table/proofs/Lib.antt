@@ -28,3 +28,5 @@ pub mod UniverseRight
 pub mod Fillings
 pub mod OwnParts
 pub mod Located
+pub mod Grouped
+pub mod Nears

@@ -36,7 +36,7 @@ abbrev numbered_first : ℕ → List Name → List Name
 numbered_first n xs = record { 0 = n } ∷ xs
 
 -- names are told by their numbers
-names_exact : (a b : List Name) → name_numbers a ≡ name_numbers b → a ≡ b
+pub names_exact : (a b : List Name) → name_numbers a ≡ name_numbers b → a ≡ b
 names_exact [] [] e = refl
 names_exact [] (y ∷ ys) e = cc
 names_exact (x ∷ xs) [] e = cc

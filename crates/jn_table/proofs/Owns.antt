@@ -6,41 +6,38 @@ use Rattle.std.specs.declared.alloc.Global.{Global}
 use Rattle.std.proofs.lemmas.Option.{slice_get_read}
 use Rattle.jn_reach.proofs.Searches.{same_some}
 use Rattle.jn_base.specs.declared.tree.Name.{Name}
-use Rattle.jn_base.specs.Paths.{Path}
-use Rattle.jn_table.specs.Gather.{Gains, OwnIn, part_of}
+use Rattle.jn_table.specs.Gather.{Gains, HasNameAt, part_of}
 use Rattle.jn_table.specs.Own.{HasAt}
 use Rattle.jn_table.specs.declared.entry.Entry.{Entry}
 use Rattle.jn_table.specs.declared.gather.Part.{Part}
 use Rattle.jn_table.proofs.Places.{same_item}
 use Rattle.jn_table.proofs.Gathers.{gains_none, gains_more, gains_all, gains_exact, none_of}
 
-abbrev IsOwn : Path → Part → Entry → Name → Type 0
-IsOwn R part e D = (e.path ≡ R) × Contains (part_of part e) D
+abbrev HasAmong : List Entry → Part → List ℕ → Name → Type 0
+HasAmong es part row D = Any (HasNameAt es part D) row
 
-pub own_none : (R : Path) (part : Part) (all : List Name) → all ≡ [] → Gains (OwnIn [] R part) [] all
-own_none R part all e =
-    subst (Gains (OwnIn [] R part) []) (sym e)
-    (gains_none (OwnIn [] R part) [] (λ D a. none_of (λ (x : Entry). IsOwn R part x D) a))
+pub own_none : (es : List Entry) (part : Part) (all : List Name) → all ≡ [] → Gains (HasAmong es part []) [] all
+own_none es part all e =
+    subst (Gains (HasAmong es part []) []) (sym e)
+    (gains_none (HasAmong es part []) [] (λ D a. none_of (HasNameAt es part D) a))
 
--- one more entry: its names, or none of them
-pub own_more : (R : Path) (part : Part) (es : List Entry) (i : ℕ) (x : Entry) (mid after : List Name)
-    → i < length es → x ≡ get_or es i x
-    → x.path ≡ R → Gains (OwnIn (take i es) R part) [] mid → Gains (Contains (part_of part x)) mid after
-    → Gains (OwnIn (take (i + 1) es) R part) [] after
-own_more R part es i x mid after l is at g h =
-    gains_more (IsOwn R part) es i x (Contains (part_of part x)) [] mid after l is (λ D w. w.1) (λ D c. (at, c)) g h
+-- one more number: the names of its entry
+pub own_more : (es : List Entry) (part : Part) (row : List ℕ) (k d : ℕ) (x : Entry) (mid after : List Name)
+    → k < length row → get_or row k d < length es → x ≡ get_or es (get_or row k d) x
+    → Gains (HasAmong es part (take k row)) [] mid → Gains (Contains (part_of part x)) mid after
+    → Gains (HasAmong es part (take (k + 1) row)) [] after
+own_more es part row k d x mid after l within is g h =
+    let at = slice_get_read es (length es) (get_or row k d) x refl within is in
+    gains_more (λ i D. HasNameAt es part D i) row k (get_or row k d) (Contains (part_of part x)) [] mid after l
+    (same_item row k d l)
+    (λ D w. subst (λ (e : Entry). Contains (part_of part e) D)
+    (same_some (slice_get es (get_or row k d)) w.0 x w.1 at) w.2)
+    (λ D c. (x, at, c)) g h
 
-pub own_skipped : (R : Path) (part : Part) (es : List Entry) (i : ℕ) (x : Entry) (mid : List Name) → i < length es
-    → x ≡ get_or es i x
-    → (x.path ≡ R → ⊥) → Gains (OwnIn (take i es) R part) [] mid → Gains (OwnIn (take (i + 1) es) R part) [] mid
-own_skipped R part es i x mid l is none g =
-    gains_more (IsOwn R part) es i x (λ D. ⊥) [] mid mid l is (λ D w. none w.0) (λ D b. absurd b) g
-    (gains_none (λ D. ⊥) mid (λ D b. b))
-
-pub own_all : (R : Path) (part : Part) (es : List Entry) (i : ℕ) (all : List Name) → length es ≤ i
-    → Gains (OwnIn (take i es) R part) [] all → (D : Name) → Contains all D ↔ OwnIn es R part D
-own_all R part es i all past g =
-    gains_exact (OwnIn es R part) [] all refl (gains_all (IsOwn R part) es i [] all past g)
+pub own_all : (es : List Entry) (part : Part) (row : List ℕ) (k : ℕ) (all : List Name) → length row ≤ k
+    → Gains (HasAmong es part (take k row)) [] all → (D : Name) → Contains all D ↔ Any (HasNameAt es part D) row
+own_all es part row k all past g =
+    gains_exact (HasAmong es part row) [] all refl (gains_all (λ i D. HasNameAt es part D i) row k [] all past g)
 
 -- one more row
 pub gathered_none : (rows : List (Vec Name Global)) (all : List Name) → all ≡ []

@@ -79,11 +79,6 @@ members_push paths R n C m all at name id u = record {
   ascending i j a b l (inr h) (inl k) = absurd (let w = slice_get_within all j b k in omega (arith, l, h.0, w))
   ascending i j a b l (inr h) (inr k) = absurd (omega (arith, l, h.0, k.0))
 
-pub members_all : (paths : List Path) (R : Path) (n : ℕ) (all : List RowMember) → n ≡ length paths
-    → MembersUpTo paths R n all
-    → MembersUpTo paths R (length paths) all
-members_all paths R n all e u = subst (λ (k : ℕ). MembersUpTo paths R k all) e u
-
 -- what was gathered, in order
 pub gathered_order : (texts : List Text) (T : Name → Type 0) (names order : List Name)
     → ((D : Name) → Contains names D ↔ T D)
@@ -111,9 +106,6 @@ rows_more texts u n rows row r now = record {
 pub rows_all : (texts : List Text) (u : Universe) (n m : ℕ) (rows : List Row) → n ≡ m → RowsOf texts u n rows
     → RowsOf texts u m rows
 rows_all texts u n m rows e r = subst (λ (k : ℕ). RowsOf texts u k rows) e r
-
-pub at_is : (paths : List Path) (n : ℕ) (P Q : Path) → slice_get paths n ≡ Some P → P ≡ Q → slice_get paths n ≡ Some Q
-at_is paths n P Q at e = subst (λ (R : Path). slice_get paths n ≡ Some R) e at
 
 pub shown_is : (path : ShownPath) (R : Path) → path.names ≡ reverse R → path ≡ shown R
 shown_is path R e = ap (λ (ns : List Name). record { names = ns }) e

@@ -65,6 +65,21 @@ StandsInside es P i = (e : Entry) × (slice_get es i ≡ Some e) × (e.namespace
 abbrev pub AreInside : List Entry → List Path → Graph → Type 0
 AreInside es paths rows = Each (λ P row. Lists (StandsInside es P) row.items) paths rows
 
+-- the entry of that number is at the path R
+abbrev pub IsAtPath : List Entry → Path → ℕ → Type 0
+IsAtPath es R i = (e : Entry) × (slice_get es i ≡ Some e) × (e.path ≡ R)
+
+-- for each path the numbers of the entries that are at it
+abbrev pub AreAtPaths : List Entry → List Path → Graph → Type 0
+AreAtPaths es paths rows = Each (λ R row. Lists (IsAtPath es R) row.items) paths rows
+
+-- the entry of that number is of that kind, has the name D in that part
+abbrev pub IsKindAt : List Entry → Kind → ℕ → Type 0
+IsKindAt es kind i = (e : Entry) × (slice_get es i ≡ Some e) × (e.kind ≡ kind)
+
+abbrev pub HasNameAt : List Entry → Part → Name → ℕ → Type 0
+HasNameAt es part D i = (e : Entry) × (slice_get es i ≡ Some e) × Contains (part_of part e) D
+
 -- the entry of that number is a declaration of D, has D
 abbrev pub NamedAt : List Entry → Name → ℕ → Type 0
 NamedAt es D i = (e : Entry) × (slice_get es i ≡ Some e) × (e.name ≡ D)

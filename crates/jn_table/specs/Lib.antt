@@ -15,3 +15,5 @@ pub mod Fills
 pub mod Tables
 pub mod OwnParts
 pub mod Places
+pub mod Groups
+pub mod Near

@@ -1,5 +1,5 @@
 -- The known paths in an order in which one is found by halves.
-use Rattle.std.specs.Prelude.{◌≡◌, ℕ, List, Contains, Some, length, map, slice_get}
+use Rattle.std.specs.Prelude.{◌≡◌, ℕ, List, Contains, Some, length, map, reverse, slice_get}
 use Rattle.std.specs.declared.cmp.Ordering.{Ordering}
 use Rattle.std.specs.Ordering.{nat_cmp, on}
 use Rattle.std.specs.Cmp.{IsTotalOrder, on_total}
@@ -7,6 +7,7 @@ use Rattle.std.specs.Cmp.Lexicographic.{slice_cmp, nat_list_cmp_total}
 use Rattle.std.specs.List.Sorted.{IsSorted}
 use Rattle.jn_base.specs.declared.tree.Name.{Name}
 use Rattle.jn_base.specs.declared.path.Path.{Path as ShownPath}
+use Rattle.jn_base.specs.Paths.{Path}
 use Rattle.jn_table.specs.declared.finding.Located.{Located}
 
 abbrev pub name_number : Name → ℕ
@@ -14,6 +15,10 @@ name_number n = n.0
 
 abbrev pub name_numbers : List Name → List ℕ
 name_numbers names = map name_number names
+
+-- the numbers of a path's names, the outermost first
+abbrev pub path_key : Path → List ℕ
+path_key R = name_numbers (reverse R)
 
 abbrev pub located_numbers : Located → List ℕ
 located_numbers l = name_numbers l.names

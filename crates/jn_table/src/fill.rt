@@ -4,6 +4,7 @@ ghost use Rattle.jn_base.specs.Paths.{shown};
 ghost use Rattle.jn_table.specs.Fills.{FillsAll, NodesAll, UniverseAll, RefusesAll};
 ghost use Rattle.jn_table.specs.Universes.{FitUniverse, RowsOf};
 ghost use Rattle.jn_table.specs.Nodes.{FitNodes};
+ghost use Rattle.jn_table.specs.Own.{AreDeclared, IsOwnOf};
 ghost use Rattle.jn_table.specs.Places.{ArePlaces};
 
 use crate::class::Row;
@@ -20,12 +21,14 @@ use jn_base::path::Path;
 use jn_base::tree::{Name, Text};
 use std::alloc::{AllocError, Global};
 
-/// The paths of a universe, in class order, with their rows and their places.
+/// The paths of a universe, in class order, with their rows and their places, and for each the numbers of the
+/// entries that are at it.
 #[derive(Drop)]
 pub struct Rows {
     pub known: Vec<Path>,
     pub rows: Vec<Row>,
     pub places: Vec<Located>,
+    pub declared: Vec<Vec<usize>>,
 }
 
 /// The paths with the outermost name first.
@@ -61,6 +64,7 @@ fn universe_in(alloc: Global, entries: &[Entry], order: &[Name]) -> Result<Unive
     ensures fits { IfOk result (λ universe. FitUniverse universe) }
     ensures closed { IfOk result (λ universe. IsClosure universe.nodes.direct.items universe.sups.items) }
     ensures ok { IfOk result (λ universe. UniverseAll entries.now order.now universe) }
+    ensures own { IfOk result (λ universe. IsOwnOf entries.now universe.nodes.paths.items universe.own) }
     ensures err { IfErr result (λ fault. RefusesAll entries.now order.now fault) }
 {
     let nodes = nodes_of(alloc, entries, order)?;
@@ -69,20 +73,22 @@ fn universe_in(alloc: Global, entries: &[Entry], order: &[Name]) -> Result<Unive
 }
 
 /// The paths of a universe with their rows.
-fn rows_in(alloc: Global, texts: &[Text], universe: &Universe) -> Result<Rows, AllocError>
-    requires { FitUniverse universe.now }
-    ensures known { IfOk result (λ all. all.known.items ≡ map shown universe.now.nodes.paths.items) }
-    ensures rows { IfOk result (λ all.
-        RowsOf texts.now universe.now (length universe.now.nodes.paths.items) all.rows.items) }
+fn rows_in(alloc: Global, texts: &[Text], universe: Universe) -> Result<Rows, AllocError>
+    requires { FitUniverse universe }
+    ensures known { IfOk result (λ all. all.known.items ≡ map shown universe.nodes.paths.items) }
+    ensures rows { IfOk result (λ all. RowsOf texts.now universe (length universe.nodes.paths.items) all.rows.items) }
     ensures places { IfOk result (λ all. ArePlaces all.known.items all.places.items) }
+    ensures declared { IfOk result (λ all. all.declared ≡ universe.own.declared) }
 {
     let known = known_of(alloc, &universe.nodes.paths)?;
     let places = places_of(alloc, &known)?;
-    let rows = rows_of(alloc, texts, universe)?;
+    let rows = rows_of(alloc, texts, &universe)?;
+    let own = universe.own;
     Ok(Rows {
         known,
         rows,
         places,
+        declared: own.declared,
     })
 }
 
@@ -96,11 +102,12 @@ pub fn fill_all(
     ensures few { IfOk result (λ all. length all.known.items ≤ 4096) }
     ensures paired { IfOk result (λ all. length all.rows.items ≡ length all.known.items) }
     ensures places { IfOk result (λ all. ArePlaces all.known.items all.places.items) }
+    ensures declared { IfOk result (λ all. AreDeclared entries.now all.known.items all.declared.items) }
     ensures ok { IfOk result (λ all. FillsAll texts.now entries.now order.now all.known.items all.rows.items) }
     ensures err { IfErr result (λ fault. RefusesAll entries.now order.now fault) }
 {
     let universe = universe_in(alloc, entries, order)?;
     judged(alloc, &universe)?;
-    let rows = rows_in(alloc, texts, &universe)?;
+    let rows = rows_in(alloc, texts, universe)?;
     Ok(rows)
 }

@@ -1,26 +1,13 @@
 ghost use Rattle.std.specs.Prelude.{◌≡◌, ◌<◌, ◌↔◌, All, Any, Contains, IsTrue, IfOk, OnOk, length};
-ghost use Rattle.jn_reach.specs.Graph.{Lists};
 ghost use Rattle.jn_base.specs.declared.tree.Name.{Name as AName};
-ghost use Rattle.jn_table.specs.Gather.{Gains, part_of, StandsInside, AreInside, NamedAmong, NamedIn, PartAmong, PartIn};
+ghost use Rattle.jn_table.specs.Gather.{Gains, part_of, AreInside, NamedAmong, NamedIn, PartAmong, PartIn};
 
 use crate::entry::Entry;
+use crate::groups::{grouped, namespace_keys, rows_at};
 use crate::route::Route;
 use jn_base::compare::{has_name, is_name};
 use jn_base::tree::Name;
 use std::alloc::{AllocError, Global};
-
-/// The numbers of the entries that stand in the namespace.
-fn inside(alloc: Global, entries: &[Entry], namespace: &Route) -> Result<Vec<usize>, AllocError>
-    ensures { IfOk result (λ row. Lists (StandsInside entries.now namespace.now) row.items) }
-{
-    let mut row = Vec::new(alloc);
-    for (number, entry) in entries.iter().enumerate() {
-        if entry.namespace.is(namespace) {
-            row.push(number)?;
-        }
-    }
-    Ok(row)
-}
 
 /// For each namespace the numbers of the entries that stand in it.
 pub fn insides(
@@ -30,11 +17,9 @@ pub fn insides(
 ) -> Result<Vec<Vec<usize>>, AllocError>
     ensures { IfOk result (λ rows. AreInside entries.now paths.now rows.items) }
 {
-    let mut rows = Vec::new(alloc);
-    for path in paths {
-        let row = inside(alloc, entries, path)?;
-        rows.push(row)?;
-    }
+    let keys = namespace_keys(alloc, entries)?;
+    let groups = grouped(alloc, &keys)?;
+    let rows = rows_at(alloc, &groups, paths)?;
     Ok(rows)
 }
 

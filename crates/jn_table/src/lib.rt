@@ -14,7 +14,8 @@
 //! depths together are one graph, whose nodes are the paths in class order (`nodes`). With the closure of its
 //! edges and with what the declarations at each path are and have (`own`) it is a `universe`, in which
 //! `judge` looks for cycles and for two kinds, and of which `row` makes the rows. `finding` has the paths in an order in
-//! which one is found by halves.
+//! which one is found by halves, and `groups` the entries by their paths and by their namespaces, and the paths
+//! by what is near them (`near`).
 //!
 //! A [`ClassId`] is the place of its path in class order.
 #![tactic(auto)]
@@ -28,9 +29,11 @@ mod field_types;
 mod fill;
 mod finding;
 mod gather;
+mod groups;
 mod judge;
 mod level;
 mod lookup;
+mod near;
 mod nodes;
 mod order;
 mod own;

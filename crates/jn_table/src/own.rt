@@ -1,18 +1,20 @@
 ghost use Rattle.std.specs.Prelude.{◌≡◌, ◌<◌, ◌↔◌, All, Any, Contains, IfOk, IsTrue, length};
 ghost use Rattle.jn_base.specs.declared.tree.Name.{Name as AName};
-ghost use Rattle.jn_table.specs.Gather.{OwnIn, KindIn};
-ghost use Rattle.jn_table.specs.Own.{OwnNames, OwnKinds, HasAt, IsFlagAt, IsOwnOf};
+ghost use Rattle.jn_table.specs.Gather.{AreAtPaths, HasNameAt, IsKindAt};
+ghost use Rattle.jn_table.specs.Own.{KindsAt, NamesAt, HasAt, IsFlagAt, IsOwnOf};
 ghost use Rattle.jn_reach.specs.Each.{Each};
 
 use crate::entry::Entry;
 use crate::gather::{Part, add_names, names_of};
+use crate::groups::{entry_keys, grouped, rows_at};
 use crate::route::Route;
 use jn_base::tree::{Kind, Name};
 use std::alloc::{AllocError, Global};
 
-/// What the declarations at each path are and have, path by path.
+/// What the declarations at each path are and have, path by path, and the numbers of their entries.
 #[derive(Drop)]
 pub struct Own {
+    pub declared: Vec<Vec<usize>>,
     pub classes: Vec<bool>,
     pub packages: Vec<bool>,
     pub methods: Vec<Vec<Name>>,
@@ -31,78 +33,96 @@ fn is_kind(a: Kind, b: Kind) -> bool
     }
 }
 
-/// Whether a declaration at the path is of that kind.
-fn has_kind(entries: &[Entry], path: &Route, kind: Kind) -> bool
-    ensures { IsTrue result ↔ KindIn entries.now path.now kind }
+/// Whether one of the entries of those numbers is of that kind.
+fn has_kind(entries: &[Entry], row: &[usize], kind: Kind) -> bool
+    requires { All (λ i. i < length entries.now) row.now }
+    ensures { IsTrue result ↔ Any (IsKindAt entries.now kind) row.now }
 {
-    for entry in entries {
-        if entry.path.is(path) && is_kind(entry.kind, kind) {
+    for number in row {
+        if is_kind(entries[*number].kind, kind) {
             return true;
         }
     }
     false
 }
 
-/// For each path whether a declaration at it is of that kind.
+/// For each row of numbers whether one of their entries is of that kind.
 fn own_kinds(
     alloc: Global,
     entries: &[Entry],
-    paths: &[Route],
+    rows: &[Vec<usize>],
     kind: Kind,
 ) -> Result<Vec<bool>, AllocError>
-    ensures { IfOk result (λ all. Each (OwnKinds entries.now kind) paths.now all.items) }
+    requires { All (λ row. All (λ i. i < length entries.now) row.items) rows.now }
+    ensures { IfOk result (λ all. Each (KindsAt entries.now kind) rows.now all.items) }
 {
     let mut all = Vec::new(alloc);
-    for path in paths {
-        all.push(has_kind(entries, path, kind))?;
+    for row in rows {
+        all.push(has_kind(entries, row, kind))?;
     }
     Ok(all)
 }
 
-/// The names that the declarations at the path have in that part.
+/// The names that the entries of those numbers have in that part.
 pub fn names_at(
     alloc: Global,
     entries: &[Entry],
-    path: &Route,
+    row: &[usize],
     part: Part,
 ) -> Result<Vec<Name>, AllocError>
-    ensures { IfOk result (λ all. (D : AName) → Contains all.items D ↔ OwnIn entries.now path.now part D) }
+    requires { All (λ i. i < length entries.now) row.now }
+    ensures { IfOk result (λ all. (D : AName) → Contains all.items D ↔ Any (HasNameAt entries.now part D) row.now) }
 {
     let mut all = Vec::new(alloc);
-    for entry in entries {
-        if entry.path.is(path) {
-            add_names(&mut all, names_of(entry, part))?;
-        }
+    for number in row {
+        add_names(&mut all, names_of(&entries[*number], part))?;
     }
     Ok(all)
 }
 
-/// For each path the names that the declarations at it have in that part.
+/// For each row of numbers the names that their entries have in that part.
 fn own_names(
     alloc: Global,
     entries: &[Entry],
-    paths: &[Route],
+    rows: &[Vec<usize>],
     part: Part,
 ) -> Result<Vec<Vec<Name>>, AllocError>
-    ensures { IfOk result (λ all. Each (OwnNames entries.now part) paths.now all.items) }
+    requires { All (λ row. All (λ i. i < length entries.now) row.items) rows.now }
+    ensures { IfOk result (λ all. Each (NamesAt entries.now part) rows.now all.items) }
 {
     let mut all = Vec::new(alloc);
-    for path in paths {
-        let names = names_at(alloc, entries, path, part)?;
+    for row in rows {
+        let names = names_at(alloc, entries, row, part)?;
         all.push(names)?;
     }
     Ok(all)
+}
+
+/// For each path the numbers of the entries that are at it.
+fn at_paths(
+    alloc: Global,
+    entries: &[Entry],
+    paths: &[Route],
+) -> Result<Vec<Vec<usize>>, AllocError>
+    ensures { IfOk result (λ rows. AreAtPaths entries.now paths.now rows.items) }
+{
+    let keys = entry_keys(alloc, entries)?;
+    let groups = grouped(alloc, &keys)?;
+    let rows = rows_at(alloc, &groups, paths)?;
+    Ok(rows)
 }
 
 /// What the declarations at each path are and have.
 pub fn own_of(alloc: Global, entries: &[Entry], paths: &[Route]) -> Result<Own, AllocError>
     ensures { IfOk result (λ own. IsOwnOf entries.now paths.now own) }
 {
-    let classes = own_kinds(alloc, entries, paths, Kind::Class)?;
-    let packages = own_kinds(alloc, entries, paths, Kind::Package)?;
-    let methods = own_names(alloc, entries, paths, Part::Methods)?;
-    let fields = own_names(alloc, entries, paths, Part::Fields)?;
+    let declared = at_paths(alloc, entries, paths)?;
+    let classes = own_kinds(alloc, entries, &declared, Kind::Class)?;
+    let packages = own_kinds(alloc, entries, &declared, Kind::Package)?;
+    let methods = own_names(alloc, entries, &declared, Part::Methods)?;
+    let fields = own_names(alloc, entries, &declared, Part::Fields)?;
     Ok(Own {
+        declared,
         classes,
         packages,
         methods,

@@ -1,6 +1,7 @@
 ghost use Rattle.std.specs.Prelude.{◌≡◌, ◌↔◌, [], ◌∷◌, ◌++◌, reverse, IsTrue, IfOk, IfSome, IfNone, length};
 ghost use Rattle.jn_base.specs.declared.tree.Name.{Name as AName};
-ghost use Rattle.jn_table.specs.Ups.{IsUnder};
+ghost use Rattle.jn_table.specs.Places.{name_numbers, path_key};
+ghost use Rattle.jn_table.specs.Ups.{IsUnder, up_path};
 
 use jn_base::compare::same_names;
 use jn_base::path::Path;
@@ -39,6 +40,27 @@ fn one_more(names: &[Name], up: &[Name]) -> Option<Name>
     None
 }
 
+/// The numbers of the names.
+fn numbers_of(alloc: Global, names: &[Name]) -> Result<Vec<u32>, AllocError>
+    ensures { IfOk result (λ numbers. numbers.items ≡ name_numbers names.now) }
+{
+    let mut numbers = Vec::new(alloc);
+    for name in names {
+        numbers.push(name.0)?;
+    }
+    Ok(numbers)
+}
+
+/// The names but for the last.
+fn without_last(names: &[Name]) -> &[Name]
+    ensures { reverse result.now ≡ up_path (reverse names.now) }
+{
+    if names.is_empty() {
+        return names;
+    }
+    &names[..names.len() - 1]
+}
+
 impl Route {
     /// The program itself, the namespace of the top-level names.
     pub fn root(alloc: Global) -> Route
@@ -47,14 +69,6 @@ impl Route {
         Route {
             names: Items::new(alloc),
         }
-    }
-
-    /// The path that is given with the outermost name first.
-    pub fn of(alloc: Global, path: &Path) -> Result<Route, AllocError>
-        ensures { IfOk result (λ route. route ≡ reverse path.now.names) }
-    {
-        let names = Items::from_slice(alloc, path.names.as_slice())?;
-        Ok(Route { names })
     }
 
     /// Whether both are one path.
@@ -81,6 +95,14 @@ impl Route {
         Ok(Route { names })
     }
 
+    /// The path without its last name. The program itself stays as it is.
+    pub fn up(&self, alloc: Global) -> Result<Route, AllocError>
+        ensures { IfOk result (λ up. up ≡ up_path self.now) }
+    {
+        let names = Items::from_slice(alloc, without_last(self.names.as_slice()))?;
+        Ok(Route { names })
+    }
+
     /// The last name of the path, where `up` is the path without it.
     pub fn under(&self, up: &Route) -> Option<Name>
         ensures some { IfSome result (λ C. self.now ≡ C ∷ up.now) }
@@ -97,6 +119,13 @@ impl Route {
             Some(_) => true,
             None => false,
         }
+    }
+
+    /// The numbers of the path's names, the outermost first.
+    pub fn key(&self, alloc: Global) -> Result<Vec<u32>, AllocError>
+        ensures { IfOk result (λ key. key.items ≡ path_key self.now) }
+    {
+        numbers_of(alloc, self.names.as_slice())
     }
 
     /// The path with the outermost name first.

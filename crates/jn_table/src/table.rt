@@ -1,4 +1,5 @@
 ghost use Rattle.std.specs.Prelude.{◌≡◌, ◌≤◌, [], length, IfOk, IfErr, IfSome, IfNone, OnOk, OnErr};
+ghost use Rattle.jn_table.specs.Own.{AreDeclared};
 ghost use Rattle.jn_table.specs.Places.{ArePlaces};
 
 use crate::class::{ClassId, Row};
@@ -10,7 +11,6 @@ use crate::gather::Part;
 use crate::lookup::has_class;
 use crate::order::{copied, name_order};
 use crate::own::names_at;
-use crate::route::Route;
 use jn_base::path::Path;
 use jn_base::tree::{Name, Program, Text};
 use sqlite_items::Items;
@@ -28,9 +28,11 @@ pub struct Table {
     known: Vec<Path>,
     rows: Vec<Row>,
     places: Vec<Located>,
+    declared: Vec<Vec<usize>>,
     ghost few: { length known.items ≤ 4096 },
     ghost paired: { length rows.items ≡ length known.items },
     ghost placed: { ArePlaces known.items places.items },
+    ghost declared_are: { AreDeclared entries.items known.items declared.items },
 }
 
 impl Table {
@@ -57,6 +59,7 @@ impl Table {
             known: Vec::new(alloc),
             rows: Vec::new(alloc),
             places: Vec::new(alloc),
+            declared: Vec::new(alloc),
         })
     }
 
@@ -85,6 +88,7 @@ impl Table {
         self.known = all.known;
         self.rows = all.rows;
         self.places = all.places;
+        self.declared = all.declared;
         Ok(())
     }
 
@@ -135,8 +139,8 @@ impl Table {
         requires { IsFilledAt self.now id }
         ensures { IfOk result (λ names. SaysMethods self.now id names.items) }
     {
-        let path = Route::of(self.alloc, &self.known[id.0 as usize])?;
-        names_at(self.alloc, &self.entries, &path, Part::Methods)
+        let row = &self.declared[id.0 as usize];
+        names_at(self.alloc, &self.entries, row, Part::Methods)
     }
 
     /// The names of the fields that the declarations at the path of a filled number have themselves.
@@ -144,7 +148,7 @@ impl Table {
         requires { IsFilledAt self.now id }
         ensures { IfOk result (λ names. SaysFields self.now id names.items) }
     {
-        let path = Route::of(self.alloc, &self.known[id.0 as usize])?;
-        names_at(self.alloc, &self.entries, &path, Part::Fields)
+        let row = &self.declared[id.0 as usize];
+        names_at(self.alloc, &self.entries, row, Part::Fields)
     }
 }

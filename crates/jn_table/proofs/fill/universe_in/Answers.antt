@@ -11,3 +11,6 @@ pub returns-clause-ok : goal.returns-clause-ok
 returns-clause-ok c =
     universe_is _ _ c.in_ok-nodes.nodes c.in_ok-universe.universe c.in_ok-nodes.ensures.ok c.in_ok-universe.ensures.nodes c.in_ok-universe.ensures.sups
     c.in_ok-universe.ensures.own
+
+pub returns-clause-own : goal.returns-clause-own
+returns-clause-own c = rw c.in_ok-universe.ensures.nodes c.in_ok-universe.ensures.own

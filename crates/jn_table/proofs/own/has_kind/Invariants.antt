@@ -1,7 +1,6 @@
-use Rattle.std.proofs.Common.{◌≡◌}
-use Rattle.jn_table.specs.declared.entry.Entry.{Entry}
 use Rattle.jn_reach.proofs.Searches.{NoneBefore}
+use Rattle.jn_table.specs.Gather.{IsKindAt}
 use Rattle.jn_table.proofs.own.has_kind.Given as goal
 
-abbrev pub invariant-loop-entry : goal.invariant-loop-entry
-invariant-loop-entry l = NoneBefore (λ (e : Entry). (e.path ≡ l.path) × (e.kind ≡ l.kind)) l.entries l.entry-index
+abbrev pub invariant-loop-number : goal.invariant-loop-number
+invariant-loop-number l = NoneBefore (IsKindAt l.entries l.kind) l.row l.number-index

@@ -4,7 +4,20 @@ use Rattle.std.specs.declared.alloc.Global.{Global}
 use Rattle.std.proofs.lemmas.Option.{slice_get_read, same_Some}
 use Rattle.jn_base.specs.Paths.{Path}
 use Rattle.jn_table.specs.Universes.{MembersUpTo, class_id}
+use Rattle.jn_table.specs.Ups.{up_path}
+use Rattle.jn_table.proofs.Nears.{row_lists}
 use Rattle.jn_table.proofs.row.numbers_of.Goals as goal
+
+pub members_of-requires-clause-row : goal.members_of-requires-clause-row
+members_of-requires-clause-row c =
+    let paths : List Path = c.args.universe.now.nodes.paths.items in
+    let n : c.args.number < length paths = c.requires.number in
+    let m : c.args.number < length c.args.near.now.members.items = omega (arith, n, c.requires.near.members_long) in
+    rw (c.deref-3.ensures.value, c.deref-4.ensures.value)
+    (row_lists (map up_path paths) paths c.args.near.now.members.items c.requires.near.members c.args.number
+    c.index-4.result.now c.index-3.result.now
+    (slice_get_read paths (length paths) c.args.number c.index-4.result.now refl n c.index-4.ensures)
+    (slice_get_read _ _ c.args.number c.index-3.result.now refl m c.index-3.ensures))
 
 pub returns : goal.returns
 returns c =
@@ -21,6 +34,6 @@ returns c =
           (same_Some _ _ (sym (slice_get_read _ _ _ c.index-2.result.now refl s c.index-2.ensures) ∙ at))
           (rw c.deref-2.ensures.value at c.in_ok-sups.ensures);
       members = λ R at. subst (λ (P : Path). MembersUpTo paths P (length paths) c.in_ok-members.members.items)
-          (same_Some _ _ (sym (slice_get_read _ _ _ c.index-3.result.now refl n c.index-3.ensures) ∙ at))
+          (same_Some _ _ (sym (slice_get_read _ _ _ c.index-4.result.now refl n c.index-4.ensures) ∙ at))
           (rw c.deref-3.ensures.value at c.in_ok-members.ensures);
     }

@@ -1,5 +1,7 @@
-use Rattle.std.proofs.Common.{◌<◌, length, refl, arith}
+use Rattle.std.proofs.Common.{◌<◌, length, map, refl, arith}
 use Rattle.std.proofs.lemmas.Option.{slice_get_read}
+use Rattle.jn_table.specs.Ups.{up_path}
+use Rattle.jn_table.proofs.Nears.{mapped_get, row_lists}
 use Rattle.jn_table.proofs.RowSteps.{shown_is, slice_there}
 use Rattle.jn_table.proofs.row.row_of.Goals as goal
 
@@ -28,3 +30,15 @@ returns c =
       methods = rw (c.deref.ensures.value, c.deref-2.ensures.value) at c.in_ok-methods.ensures;
       fields = rw (c.deref-3.ensures.value, c.deref-4.ensures.value) at c.in_ok-fields.ensures;
     }
+
+pub up_of-requires-clause-row : goal.up_of-requires-clause-row
+up_of-requires-clause-row c =
+    let paths = c.args.universe.now.nodes.paths.items in
+    let n : c.args.number < length paths = c.requires.number in
+    let m : c.args.number < length c.args.near.now.ups.items = omega (arith, n, c.requires.near.ups_long) in
+    rw (c.deref-6.ensures.value, c.deref-7.ensures.value)
+    (row_lists paths (map up_path paths) c.args.near.now.ups.items c.requires.near.ups c.args.number
+    (up_path c.index-path.result.now) c.index.result.now
+    (mapped_get up_path paths c.args.number c.index-path.result.now
+    (slice_get_read paths (length paths) c.args.number c.index-path.result.now refl n c.index-path.ensures))
+    (slice_get_read _ _ c.args.number c.index.result.now refl m c.index.ensures))

@@ -1,0 +1,7 @@
+use Rattle.std.proofs.Common.{◌≡◌, take, map}
+use Rattle.jn_index.specs.Index.{keys_in}
+use Rattle.jn_table.specs.Groups.{namespace_key}
+use Rattle.jn_table.proofs.groups.namespace_keys.Given as goal
+
+abbrev pub invariant-loop-entry : goal.invariant-loop-entry
+invariant-loop-entry l = keys_in l.keys.items ≡ map namespace_key (take l.entry-index l.entries)
