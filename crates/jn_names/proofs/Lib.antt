@@ -10,6 +10,7 @@ pub mod MaskProof
 pub mod TypeProof
 pub mod Notings
 pub mod NameSets
+pub mod Keeping
 pub mod Descent
 pub mod MemberProof
 pub mod MemberSays

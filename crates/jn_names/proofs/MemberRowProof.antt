@@ -4,12 +4,11 @@ use Rattle.std.proofs.lemmas.Bool.{cases_lt, cases_eq}
 use Rattle.std.proofs.lemmas.List.{get_or_default}
 use Rattle.std.proofs.lemmas.Option.{slice_get_read, slice_get_within}
 use Rattle.jn_reach.proofs.Searches.{NoneBefore, none_more, none_all, same_some}
-use Rattle.jn_base.specs.declared.tree.Name.{Name}
 use Rattle.jn_table.specs.declared.class.ClassId.{ClassId}
 use Rattle.jn_table.proofs.Shown.{same_id}
-use Rattle.jn_names.specs.declared.members.MemberRow.{MemberRow}
+use Rattle.jn_names.specs.declared.member_row.MemberRow.{MemberRow}
 use Rattle.jn_names.specs.declared.members.Least.TheVariants as least
-use Rattle.jn_names.specs.MemberRows.{MethodAtRow, SupAtRow, HasLowerRow, PassedRow, PassedTo, FieldlessRow, FieldlessTo, IsOneRow, AboveRow, AboveTo, LeastRow}
+use Rattle.jn_names.specs.MemberRows.{SupAtRow, HasLowerRow, PassedRow, PassedTo, FieldlessRow, FieldlessTo, IsOneRow, AboveRow, AboveTo, LeastRow}
 
 -- a fact of the row at a place
 pub of_row : {B : Type 0} (rows : List MemberRow) (i : ℕ) (row : MemberRow) (has : MemberRow → List B) (x : B) (b : Bool) (xs : List B)
@@ -34,41 +33,37 @@ one_more {A} P xs i d l h here k x m at = by_place (cases_lt k i) where
       let e : i ≡ k = omega arith in
       subst P (same_some (slice_get xs k) (get_or xs i d) x (subst (λ (n : ℕ). slice_get xs n ≡ Some (get_or xs i d)) e (read_at xs i d l)) at) here
 
-pub passed_more : (rows : List MemberRow) (sups : List ClassId) (m : Name) (but : Option ClassId) (i : ℕ) (d : ClassId) → i < length sups
-    → PassedTo rows sups m but i → PassedRow rows sups m but (get_or sups i d) → PassedTo rows sups m but (i + 1)
-passed_more rows sups m but i d l h here = one_more (PassedRow rows sups m but) sups i d l h here
+pub passed_more : (rows : List MemberRow) (ids sups : List ClassId) (but : Option ClassId) (i : ℕ) (d : ClassId) → i < length ids
+    → PassedTo rows ids sups but i → PassedRow rows ids sups but (get_or ids i d) → PassedTo rows ids sups but (i + 1)
+passed_more rows ids sups but i d l h here = one_more (PassedRow rows ids sups but) ids i d l h here
 
-pub fieldless_more : (rows : List MemberRow) (sups : List ClassId) (f : Name) (but : Option ClassId) (i : ℕ) (d : ClassId) → i < length sups
-    → FieldlessTo rows sups f but i → FieldlessRow rows f but (get_or sups i d) → FieldlessTo rows sups f but (i + 1)
-fieldless_more rows sups f but i d l h here = one_more (FieldlessRow rows f but) sups i d l h here
+pub fieldless_more : (ids sups : List ClassId) (but : Option ClassId) (i : ℕ) (d : ClassId) → i < length ids
+    → FieldlessTo ids sups but i → FieldlessRow sups but (get_or ids i d) → FieldlessTo ids sups but (i + 1)
+fieldless_more ids sups but i d l h here = one_more (FieldlessRow sups but) ids i d l h here
 
-abbrev pub StandsLower : List MemberRow → Name → ClassId → ClassId → Type 0
-StandsLower rows m s t = (t ≡ s → ⊥) × MethodAtRow rows m t × SupAtRow rows t s
+abbrev pub StandsLower : List MemberRow → List ClassId → ClassId → ClassId → Type 0
+StandsLower rows sups s t = (t ≡ s → ⊥) × Contains sups t × SupAtRow rows t s
 
-pub no_lower_more : (rows : List MemberRow) (sups : List ClassId) (m : Name) (s : ClassId) (i : ℕ) (d : ClassId) → i < length sups
-    → NoneBefore (StandsLower rows m s) sups i → (StandsLower rows m s (get_or sups i d) → ⊥) → NoneBefore (StandsLower rows m s) sups (i + 1)
-no_lower_more rows sups m s i d l h n =
-    none_more (StandsLower rows m s) sups i (get_or sups i d) l (get_or_default sups i d (get_or sups i d) l) n h
+pub no_lower_more : (rows : List MemberRow) (ids sups : List ClassId) (s : ClassId) (i : ℕ) (d : ClassId) → i < length ids
+    → NoneBefore (StandsLower rows sups s) ids i → (StandsLower rows sups s (get_or ids i d) → ⊥) → NoneBefore (StandsLower rows sups s) ids (i + 1)
+no_lower_more rows ids sups s i d l h n =
+    none_more (StandsLower rows sups s) ids i (get_or ids i d) l (get_or_default ids i d (get_or ids i d) l) n h
 
-pub lower_here : (rows : List MemberRow) (sups : List ClassId) (m : Name) (s : ClassId) (i : ℕ) (d : ClassId) → i < length sups
-    → StandsLower rows m s (get_or sups i d) → HasLowerRow rows sups m s
-lower_here rows sups m s i d l h = (
-  get_or sups i d,
-  record { among = (i, l, get_or_default sups i (get_or sups i d) d l); other = h.0; has = h.1; below = h.2 },
+pub lower_here : (rows : List MemberRow) (ids sups : List ClassId) (s : ClassId) (i : ℕ) (d : ClassId) → i < length ids
+    → StandsLower rows sups s (get_or ids i d) → HasLowerRow rows ids sups s
+lower_here rows ids sups s i d l h = (
+  get_or ids i d,
+  record { among = (i, l, get_or_default ids i (get_or ids i d) d l); super = h.1; other = h.0; below = h.2 },
 )
 
-pub no_lower : (rows : List MemberRow) (sups : List ClassId) (m : Name) (s : ClassId) (i : ℕ) → length sups ≤ i
-    → NoneBefore (StandsLower rows m s) sups i → HasLowerRow rows sups m s → ⊥
-no_lower rows sups m s i l h w =
-    none_all (StandsLower rows m s) sups i l h (w.1.among.0, w.0, w.1.among.1, w.1.among.2, (w.1.other, w.1.has, w.1.below))
+pub no_lower : (rows : List MemberRow) (ids sups : List ClassId) (s : ClassId) (i : ℕ) → length ids ≤ i
+    → NoneBefore (StandsLower rows sups s) ids i → HasLowerRow rows ids sups s → ⊥
+no_lower rows ids sups s i l h w =
+    none_all (StandsLower rows sups s) ids i l h (w.1.among.0, w.0, w.1.among.1, w.1.among.2, (w.1.other, w.1.super, w.1.below))
 
-pub above_more : (rows : List MemberRow) (sups : List ClassId) (m : Name) (a : ClassId) (i : ℕ) (d : ClassId) → i < length sups
-    → AboveTo rows sups m a i → AboveRow rows m a (get_or sups i d) → AboveTo rows sups m a (i + 1)
-above_more rows sups m a i d l h here = one_more (AboveRow rows m a) sups i d l h here
-
-pub one_here : (rows : List MemberRow) (sups : List ClassId) (m : Name) (i : ℕ) (d : ClassId) → i < length sups → MethodAtRow rows m (get_or sups i d)
-    → IsOneRow rows sups m (get_or sups i d)
-one_here rows sups m i d l h = ((i, l, get_or_default sups i (get_or sups i d) d l), h)
+pub above_more : (rows : List MemberRow) (ids sups : List ClassId) (a : ClassId) (i : ℕ) (d : ClassId) → i < length ids
+    → AboveTo rows ids sups a i → AboveRow rows sups a (get_or ids i d) → AboveTo rows ids sups a (i + 1)
+above_more rows ids sups a i d l h here = one_more (AboveRow rows sups a) ids i d l h here
 
 -- ---- the least one
 
@@ -105,34 +100,34 @@ first_place (x ∷ xs) a c = by_head (λ d. first_place xs a d) (same_or_other x
       let p = rest (tail n c.0 c.1 c.2) in
       record { place = suc p.place; at = p.at; first = behind n p }
 
-pub least_row : (rows : List MemberRow) (sups : List ClassId) (m : Name) (a : ClassId) → IsOneRow rows sups m a → AboveTo rows sups m a (length sups)
-    → (HasLowerRow rows sups m a → ⊥) → LeastRow rows sups m (least.One a)
-least_row rows sups m a one above none = (
-  record { place = p.place; at = p.at; is = record { has = one.1; other = λ e. nothing e; low = none }; before = before },
+pub least_row : (rows : List MemberRow) (ids sups : List ClassId) (a : ClassId) → IsOneRow ids sups a → AboveTo rows ids sups a (length ids)
+    → (HasLowerRow rows ids sups a → ⊥) → LeastRow rows ids sups (least.One a)
+least_row rows ids sups a one above none = (
+  record { place = p.place; at = p.at; is = record { super = one.1; other = λ e. nothing e; low = none }; before = before },
   all,
 ) where
-  p : FirstPlace sups a
-  p = first_place sups a one.0
+  p : FirstPlace ids a
+  p = first_place ids a one.0
 
   nothing : (let o : Option ClassId = None in o ≡ Some a) → ⊥
   nothing e = cc e
 
-  lower : (s : ClassId) → (a ≡ s → ⊥) → SupAtRow rows a s → HasLowerRow rows sups m s
-  lower s n b = (a, record { among = one.0; other = n; has = one.1; below = b })
+  lower : (s : ClassId) → (a ≡ s → ⊥) → SupAtRow rows a s → HasLowerRow rows ids sups s
+  lower s n b = (a, record { among = one.0; super = one.1; other = n; below = b })
 
-  passed : (s : ClassId) → (a ≡ s → ⊥) → AboveRow rows m a s → MethodAtRow rows m s → HasLowerRow rows sups m s
+  passed : (s : ClassId) → (a ≡ s → ⊥) → AboveRow rows sups a s → Contains sups s → HasLowerRow rows ids sups s
   passed s n h has = by_cases (h has) where
-    by_cases : (s ≡ a) ⊎ SupAtRow rows a s → HasLowerRow rows sups m s
+    by_cases : (s ≡ a) ⊎ SupAtRow rows a s → HasLowerRow rows ids sups s
     by_cases (inl e) = absurd (n (sym e))
     by_cases (inr b) = lower s n b
 
-  before : PassedTo rows sups m None p.place
-  before k s l at has = inr (passed s other (above k s (slice_get_within sups k s at) at) has) where
+  before : PassedTo rows ids sups None p.place
+  before k s l at has = inr (passed s other (above k s (slice_get_within ids k s at) at) has) where
     other : a ≡ s → ⊥
-    other e = p.first k l (subst (λ (c : ClassId). slice_get sups k ≡ Some c) (sym e) at)
+    other e = p.first k l (subst (λ (c : ClassId). slice_get ids k ≡ Some c) (sym e) at)
 
-  all : PassedTo rows sups m (Some a) (length sups)
+  all : PassedTo rows ids sups (Some a) (length ids)
   all k s l at has = by_cases (same_or_other a s) where
-    by_cases : (a ≡ s) ⊎ (a ≡ s → ⊥) → (Some a ≡ Some s) ⊎ HasLowerRow rows sups m s
+    by_cases : (a ≡ s) ⊎ (a ≡ s → ⊥) → (Some a ≡ Some s) ⊎ HasLowerRow rows ids sups s
     by_cases (inl e) = inl (ap Some e)
     by_cases (inr n) = inr (passed s n (above k s l at) has)

@@ -1,7 +1,13 @@
 -- What `Members` answers, and how it is built.
-use Rattle.std.proofs.Common.{◌≡◌, ◌<◌, ◌≤◌, ◌+◌, ℕ, zero, suc, List, [], ◌∷◌, ◌++◌, length, slice_get, Some, None, Option, Contains, ◌↔◌, refl, sym, ◌∙◌, subst, ◌⊎◌, inl, inr, arith}
+use Rattle.std.proofs.Common.{◌≡◌, ◌<◌, ◌≤◌, ◌+◌, ℕ, zero, suc, List, [], ◌∷◌, ◌++◌, length, slice_get, Some, None, Option, Contains, ◌↔◌, nat_eq, refl, sym, ap, ◌∙◌, subst, ◌⊎◌, inl, inr, arith}
 use Rattle.std.proofs.lemmas.Bool.{cases_lt}
+use Rattle.std.specs.Option.{option_map_or}
+use Rattle.std.specs.declared.alloc.Global.{Global}
+use Rattle.std.specs.declared.vec.Vec.{Vec}
+use Rattle.indexmap.specs.IndexMap.{get}
+use Rattle.jn_reach.proofs.Eachs.{Each-back}
 use Rattle.jn_reach.proofs.Searches.{same_some}
+use Rattle.jn_base.specs.ClassOrder.{class_cmp}
 use Rattle.jn_base.specs.declared.tree.Name.{Name}
 use Rattle.jn_base.specs.declared.tree.Program.{Program}
 use Rattle.jn_base.specs.declared.path.Path.{Path as ShownPath}
@@ -14,14 +20,18 @@ use Rattle.jn_table.specs.declared.table.Table.{Table}
 use Rattle.jn_table.specs.OwnParts.{SaysMethods, SaysFields}
 use Rattle.jn_table.specs.Rows.{IsNumber, AreClasses}
 use Rattle.jn_table.specs.Tables.{IsTableOf, IsFilled, SaysRow}
-use Rattle.jn_table.proofs.Shown.{same_id}
-use Rattle.jn_names.specs.declared.members.MemberRow.{MemberRow}
+use Rattle.jn_table.proofs.Shown.{same_id, numbers_before}
+use Rattle.jn_table.proofs.Sorted.{in_order}
+use Rattle.jn_names.specs.declared.member_row.MemberRow.{MemberRow}
 use Rattle.jn_names.specs.declared.members.Members.{Members}
 use Rattle.jn_names.specs.declared.members.Least.{Least}
 use Rattle.jn_names.specs.declared.members.Least.TheVariants as least
 use Rattle.jn_names.specs.MemberRows.{PassedTo, FirstLowRow, FieldlessTo, FirstFieldRow, LeastRow, FieldRow}
 use Rattle.jn_names.specs.Members.{IsMemberRow, RowAt, IsMembersOf, SaysLeast, SaysField}
-use Rattle.jn_names.proofs.MemberProof.{path_at, first_is, second_is, none_is, only_is, none_least, first_field_is, second_field_is, no_field_is, only_field_is, within_of}
+use Rattle.jn_names.specs.Ascending.{Ascend}
+use Rattle.jn_names.specs.ByName.{kept_at, numbers_in}
+use Rattle.jn_names.proofs.Keeping.{ascend_from}
+use Rattle.jn_names.proofs.MemberProof.{path_of, methods_own, fields_own, first_is, second_is, none_is, only_is, none_least, first_field_is, second_field_is, no_field_is, only_field_is, within_of}
 
 -- the supers of the row are those of the path of its number
 its_sups : (ms : Members) (id : ClassId) (row : MemberRow) → slice_get ms.rows.items id.0 ≡ Some row → (p : Program) (t : Table) (R : Path) → IsMembersOf p t ms
@@ -36,74 +46,118 @@ least_absent ms id m e = λ p t R g n. absurd (let k : ◌≡◌ {A = Option Mem
 pub field_absent : (ms : Members) (id : ClassId) (f : Name) → slice_get ms.rows.items id.0 ≡ None → SaysField ms id f least.None
 field_absent ms id f e = λ p t R g n. absurd (let k : ◌≡◌ {A = Option MemberRow} None (Some (g.rows id R n).row) = sym e ∙ (g.rows id R n).at in cc k)
 
+-- the numbers that are kept at the name of a method, of a field
+abbrev declaring : Members → Name → List ClassId
+declaring ms m = kept_at (get nat_eq ms.by_method) m.0
+
+abbrev with_field : Members → Name → List ClassId
+with_field ms f = kept_at (get nat_eq ms.by_field) f.0
+
 module _ (ms : Members) (id : ClassId) (m : Name) (row : MemberRow) (at : slice_get ms.rows.items id.0 ≡ Some row) where
-  pub least_none : PassedTo ms.rows.items row.sups.items m None (length row.sups.items) → SaysLeast ms id m least.None
-  least_none h = λ p t R g n. none_is p t ms g R row.sups.items (its_sups ms id row at p t R g n) m h
+  least_none : PassedTo ms.rows.items (declaring ms m) row.sups.items None (length (declaring ms m)) → SaysLeast ms id m least.None
+  least_none h = λ p t R g n.
+      none_is p t ms g R row.sups.items (its_sups ms id row at p t R g n) m (declaring ms m) (methods_own p t ms g m) (ms.methods_listed.ascend m.0) h
 
-  pub least_one : (a : ClassId) → FirstLowRow ms.rows.items row.sups.items m None a → PassedTo ms.rows.items row.sups.items m (Some a) (length row.sups.items)
-      → SaysLeast ms id m (least.One a)
+  least_one : (a : ClassId) → FirstLowRow ms.rows.items (declaring ms m) row.sups.items None a
+      → PassedTo ms.rows.items (declaring ms m) row.sups.items (Some a) (length (declaring ms m)) → SaysLeast ms id m (least.One a)
   least_one a f h = λ p t R g n.
+      let ids = declaring ms m in
+      let own = methods_own p t ms g m in
+      let up = ms.methods_listed.ascend m.0 in
       let c = its_sups ms id row at p t R g n in
-      let q = path_at p t ms g R row.sups.items c f.place a f.at in
-      (q.path, q.number, only_is p t ms g R row.sups.items c m a q.path q.number (first_is p t ms g R row.sups.items c m a f q.path q.number).holds h)
+      let q = path_of p t ms g R row.sups.items c a f.is.super in
+      (q.path, q.number, only_is p t ms g R row.sups.items c m ids own up a q.path q.number (first_is p t ms g R row.sups.items c m ids own up a f q.path q.number).holds h)
 
-  pub least_many : (a b : ClassId) → FirstLowRow ms.rows.items row.sups.items m None a → FirstLowRow ms.rows.items row.sups.items m (Some a) b
-      → SaysLeast ms id m (least.Many a b)
+  least_many : (a b : ClassId) → FirstLowRow ms.rows.items (declaring ms m) row.sups.items None a
+      → FirstLowRow ms.rows.items (declaring ms m) row.sups.items (Some a) b → SaysLeast ms id m (least.Many a b)
   least_many a b f s = λ p t R g n.
+      let ids = declaring ms m in
+      let own = methods_own p t ms g m in
+      let up = ms.methods_listed.ascend m.0 in
       let c = its_sups ms id row at p t R g n in
-      let q = path_at p t ms g R row.sups.items c f.place a f.at in
-      let r = path_at p t ms g R row.sups.items c s.place b s.at in
-      let one = first_is p t ms g R row.sups.items c m a f q.path q.number in
-      let two = second_is p t ms g R row.sups.items c m a b s q.path r.path q.number r.number in (
+      let q = path_of p t ms g R row.sups.items c a f.is.super in
+      let r = path_of p t ms g R row.sups.items c b s.is.super in
+      let one = first_is p t ms g R row.sups.items c m ids own up a f q.path q.number in
+      let two = second_is p t ms g R row.sups.items c m ids own up a b s q.path r.path q.number r.number in (
         record { one = q.path; one_is = q.number; one_first = one; two = r.path; two_is = r.number; two_first = two },
-        none_least p t ms g R row.sups.items c m q.path r.path one.holds two.holds.0 two.holds.1,
+        none_least p t ms g R row.sups.items c m ids own up q.path r.path one.holds two.holds.0 two.holds.1,
       )
 
-  pub field_none : FieldlessTo ms.rows.items row.sups.items m None (length row.sups.items) → SaysField ms id m least.None
-  field_none h = λ p t R g n. no_field_is p t ms g R row.sups.items (its_sups ms id row at p t R g n) m h
+  field_none : FieldlessTo (with_field ms m) row.sups.items None (length (with_field ms m)) → SaysField ms id m least.None
+  field_none h = λ p t R g n.
+      no_field_is p t ms g R row.sups.items (its_sups ms id row at p t R g n) m (with_field ms m) (fields_own p t ms g m) (ms.fields_listed.ascend m.0) h
 
-  pub field_one : (a : ClassId) → FirstFieldRow ms.rows.items row.sups.items m None a → FieldlessTo ms.rows.items row.sups.items m (Some a) (length row.sups.items)
-      → SaysField ms id m (least.One a)
+  field_one : (a : ClassId) → FirstFieldRow (with_field ms m) row.sups.items None a
+      → FieldlessTo (with_field ms m) row.sups.items (Some a) (length (with_field ms m)) → SaysField ms id m (least.One a)
   field_one a f h = λ p t R g n.
+      let ids = with_field ms m in
+      let own = fields_own p t ms g m in
+      let up = ms.fields_listed.ascend m.0 in
       let c = its_sups ms id row at p t R g n in
-      let q = path_at p t ms g R row.sups.items c f.place a f.at in
-      (q.path, q.number, only_field_is p t ms g R row.sups.items c m a q.path q.number (first_field_is p t ms g R row.sups.items c m a f q.path q.number).holds h)
+      let q = path_of p t ms g R row.sups.items c a f.is.super in
+      (q.path, q.number, only_field_is p t ms g R row.sups.items c m ids own up a q.path q.number (first_field_is p t ms g R row.sups.items c m ids own up a f q.path q.number).holds h)
 
-  pub field_many : (a b : ClassId) → FirstFieldRow ms.rows.items row.sups.items m None a → FirstFieldRow ms.rows.items row.sups.items m (Some a) b
-      → SaysField ms id m (least.Many a b)
+  field_many : (a b : ClassId) → FirstFieldRow (with_field ms m) row.sups.items None a
+      → FirstFieldRow (with_field ms m) row.sups.items (Some a) b → SaysField ms id m (least.Many a b)
   field_many a b f s = λ p t R g n.
+      let ids = with_field ms m in
+      let own = fields_own p t ms g m in
+      let up = ms.fields_listed.ascend m.0 in
       let c = its_sups ms id row at p t R g n in
-      let q = path_at p t ms g R row.sups.items c f.place a f.at in
-      let r = path_at p t ms g R row.sups.items c s.place b s.at in
+      let q = path_of p t ms g R row.sups.items c a f.is.super in
+      let r = path_of p t ms g R row.sups.items c b s.is.super in
       record {
         one = q.path;
         one_is = q.number;
-        one_first = first_field_is p t ms g R row.sups.items c m a f q.path q.number;
+        one_first = first_field_is p t ms g R row.sups.items c m ids own up a f q.path q.number;
         two = r.path;
         two_is = r.number;
-        two_first = second_field_is p t ms g R row.sups.items c m a b s q.path r.path q.number r.number;
+        two_first = second_field_is p t ms g R row.sups.items c m ids own up a b s q.path r.path q.number r.number;
       }
 
--- what a search in the rows tells
-pub says_least : (ms : Members) (id : ClassId) (m : Name) (row : MemberRow) (rows : List MemberRow) (sups : List ClassId) (told : Least)
-    → Some row ≡ slice_get ms.rows.items id.0 → rows ≡ ms.rows.items → sups ≡ row.sups.items → LeastRow rows sups m told → SaysLeast ms id m told
-says_least ms id m row rows sups told at e h k =
-    by_answer told (subst (λ (rs : List MemberRow). LeastRow rs row.sups.items m told) e (subst (λ (ss : List ClassId). LeastRow rows ss m told) h k)) where
-      by_answer : (told : Least) → LeastRow ms.rows.items row.sups.items m told → SaysLeast ms id m told
+-- what a search in the numbers that are kept tells
+pub says_least : (ms : Members) (id : ClassId) (m : Name) (row : MemberRow) (rows : List MemberRow) (ids : List ClassId) (told : Least)
+    → Some row ≡ slice_get ms.rows.items id.0 → rows ≡ ms.rows.items → ids ≡ declaring ms m → LeastRow rows ids row.sups.items told → SaysLeast ms id m told
+says_least ms id m row rows ids told at e h k =
+    by_answer told (subst (λ (rs : List MemberRow). LeastRow rs (declaring ms m) row.sups.items told) e (subst (λ (ss : List ClassId). LeastRow rows ss row.sups.items told) h k)) where
+      by_answer : (told : Least) → LeastRow ms.rows.items (declaring ms m) row.sups.items told → SaysLeast ms id m told
       by_answer least.None w = least_none ms id m row (sym at) w
       by_answer (least.One a) w = least_one ms id m row (sym at) a w.0 w.1
       by_answer (least.Many a b) w = least_many ms id m row (sym at) a b w.0 w.1
 
-pub says_field : (ms : Members) (id : ClassId) (f : Name) (row : MemberRow) (rows : List MemberRow) (sups : List ClassId) (told : Least)
-    → Some row ≡ slice_get ms.rows.items id.0 → rows ≡ ms.rows.items → sups ≡ row.sups.items → FieldRow rows sups f told → SaysField ms id f told
-says_field ms id f row rows sups told at e h k =
-    by_answer told (subst (λ (rs : List MemberRow). FieldRow rs row.sups.items f told) e (subst (λ (ss : List ClassId). FieldRow rows ss f told) h k)) where
-      by_answer : (told : Least) → FieldRow ms.rows.items row.sups.items f told → SaysField ms id f told
+pub says_field : (ms : Members) (id : ClassId) (f : Name) (row : MemberRow) (ids : List ClassId) (told : Least)
+    → Some row ≡ slice_get ms.rows.items id.0 → ids ≡ with_field ms f → FieldRow ids row.sups.items told → SaysField ms id f told
+says_field ms id f row ids told at h k =
+    by_answer told (subst (λ (ss : List ClassId). FieldRow ss row.sups.items told) h k) where
+      by_answer : (told : Least) → FieldRow (with_field ms f) row.sups.items told → SaysField ms id f told
       by_answer least.None w = field_none ms id f row (sym at) w
       by_answer (least.One a) w = field_one ms id f row (sym at) a w.0 w.1
       by_answer (least.Many a b) w = field_many ms id f row (sym at) a b w.0 w.1
 
+-- nothing is kept at the name
+pub says_none : (ms : Members) (id : ClassId) (m : Name) (row : MemberRow) → Some row ≡ slice_get ms.rows.items id.0 → None ≡ get nat_eq ms.by_method m.0
+    → SaysLeast ms id m least.None
+says_none ms id m row at e =
+    says_least ms id m row ms.rows.items [] least.None at refl (ap (λ (o : Option (Vec ClassId Global)). option_map_or numbers_in o []) e) (λ k s l a has. absurd (omega (arith, l)))
+
+pub says_no_field : (ms : Members) (id : ClassId) (f : Name) (row : MemberRow) → Some row ≡ slice_get ms.rows.items id.0 → None ≡ get nat_eq ms.by_field f.0
+    → SaysField ms id f least.None
+says_no_field ms id f row at e =
+    says_field ms id f row [] least.None at (ap (λ (o : Option (Vec ClassId Global)). option_map_or numbers_in o []) e) (λ k s l a has. absurd (omega (arith, l)))
+
 -- ---- building
+
+-- classes in class order have numbers in ascending order
+classes_ascend : (p : Program) (t : Table) → IsTableOf p t → (T : Path → Type 0) (ids : List ClassId) → AreClasses p t.known.items T ids → Ascend ids
+classes_ascend p t is T ids c = ascend_from ids by_place where
+  by_place : (i j : ℕ) (x y : ClassId) → i < j → slice_get ids i ≡ Some x → slice_get ids j ≡ Some y → x.0 ≤ y.0
+  by_place i j x y l a b =
+      let r = is.rows in
+      let e = Each-back (λ (S : Path) (id : ClassId). IsNumber t.known.items id S) c.numbered i x a in
+      let f = Each-back (λ (S : Path) (id : ClassId). IsNumber t.known.items id S) c.numbered j y b in
+      let o = (in_order (class_cmp p) c.paths c.are.in_order).by i j e.0 f.0 l e.1 f.1 in
+      let k : x.0 < y.0 = (numbers_before p r.paths t.known.items r.shown_are (in_order (class_cmp p) r.paths r.in_order) x y e.0 f.0 e.2 f.2).1 o in
+      omega (arith, k)
 
 get_front : {A : Type 0} (xs ys : List A) (i : ℕ) (x : A) → slice_get xs i ≡ Some x → slice_get (xs ++ ys) i ≡ Some x
 get_front [] ys i x e = absurd (cc e)
@@ -115,12 +169,12 @@ get_last [] y = refl
 get_last (x ∷ xs) y = get_last xs y
 
 pub is_member_row : (p : Program) (t : Table) (R : Path) (id : ClassId) (row : MemberRow) (filled : Row) → IsTableOf p t → IsNumber t.known.items id R
-    → SaysRow t id filled → row.sups.items ≡ filled.sups.items
+    → SaysRow t id filled → (Ascend filled.sups.items → row.sups.items ≡ filled.sups.items)
     → (ms fs : List Name) → SaysMethods t id ms → ((m : Name) → Contains row.methods.keys m.0 ↔ Contains ms m)
     → SaysFields t id fs → ((f : Name) → Contains row.fields.keys f.0 ↔ Contains fs f)
     → IsMemberRow p t.known.items R row
 is_member_row p t R id row filled is n says e ms fs methods in_ms fields in_fs = record {
-  sups = subst (AreClasses p t.known.items (Sup p R)) (sym e) (says p R is n).sups;
+  sups = let c = (says p R is n).sups in subst (AreClasses p t.known.items (Sup p R)) (sym (e (classes_ascend p t is (Sup p R) filled.sups.items c))) c;
   methods = λ m. (λ h. (methods p R is n m).0 ((in_ms m).0 h), λ h. (in_ms m).1 ((methods p R is n m).1 h));
   fields = λ f. (λ h. (fields p R is n f).0 ((in_fs f).0 h), λ h. (in_fs f).1 ((fields p R is n f).1 h));
 }

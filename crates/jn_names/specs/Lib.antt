@@ -10,3 +10,6 @@ pub mod MemberRows
 pub mod Members
 pub mod FieldTypes
 pub mod FieldSteps
+pub mod Ascending
+pub mod ByName
+pub mod Listed

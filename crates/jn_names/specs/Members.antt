@@ -13,7 +13,7 @@ use Rattle.jn_table.specs.declared.table.Table.{Table}
 use Rattle.jn_table.specs.Exact.{MethodNamed, FieldNamed}
 use Rattle.jn_table.specs.Rows.{IsNumber, AreClasses}
 use Rattle.jn_table.specs.Tables.{IsFilled}
-use Rattle.jn_names.specs.declared.members.MemberRow.{MemberRow}
+use Rattle.jn_names.specs.declared.member_row.MemberRow.{MemberRow}
 use Rattle.jn_names.specs.declared.members.Members.{Members}
 use Rattle.jn_names.specs.declared.members.Least.{Least}
 use Rattle.jn_names.specs.declared.members.Least.TheVariants as least

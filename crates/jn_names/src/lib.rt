@@ -6,15 +6,19 @@
 //! the declaration of each field.
 #![tactic(auto)]
 
+mod ascending;
 mod before;
 mod bound;
+mod by_name;
 mod fault;
 mod fields;
 mod masks;
+mod member_row;
 mod members;
 mod name_set;
 mod numbering;
 mod resolving;
+mod rows;
 mod scope;
 mod seek;
 mod term;

@@ -1,12 +1,17 @@
-ghost use Rattle.std.specs.Prelude.{◌≡◌, ◌↔◌, false, Contains, Some, IsTrue, IfOk, IfSome, MatchOption, length};
+ghost use Rattle.std.specs.Prelude.{◌≡◌, ◌↔◌, false, Contains, Some, IsTrue, IfOk, IfSome, MatchOption, length, nat_eq};
+ghost use Rattle.indexmap.specs.IndexMap.{get};
 ghost use Rattle.jn_base.specs.TableRules.{IsCycle, NoneIs};
 ghost use Rattle.jn_table.specs.Tables.{IsFilled};
 ghost use Rattle.jn_table.specs.declared.class.ClassId.{ClassId as AClassId};
 ghost use Rattle.jn_names.specs.declared.members.Least.TheVariants as least;
-ghost use Rattle.jn_names.specs.MemberRows.{MethodAtRow, FieldAtRow, SupAtRow, LowerRow, HasLowerRow, PassedRow, PassedTo, IsLowRow, FirstLowRow, FieldlessRow, FieldlessTo, IsFieldRow, FirstFieldRow, LeastRow, FieldRow, IsOneRow, AboveRow, AboveTo};
+ghost use Rattle.jn_names.specs.Listed.{AreListed, method_keys, field_keys};
+ghost use Rattle.jn_names.specs.MemberRows.{SupAtRow, HasLowerRow, PassedRow, PassedTo, IsLowRow, FirstLowRow, FieldlessRow, FieldlessTo, IsFieldRow, FirstFieldRow, LeastRow, FieldRow, IsOneRow, AboveRow, AboveTo};
 
-use crate::name_set::{is_in_set, name_set};
-use indexmap::IndexSet;
+use crate::ascending::is_class;
+use crate::by_name::keep_at_each;
+use crate::member_row::{MemberRow, is_super};
+use crate::rows::row_of;
+use indexmap::IndexMap;
 use jn_base::tree::{Name, Program};
 use jn_table::{ClassId, Table};
 use sqlite_items::at;
@@ -24,37 +29,17 @@ pub enum Least {
     Many(ClassId, ClassId),
 }
 
-/// The supers of a class, and the numbers of the names that its declarations have themselves.
-#[derive(Drop)]
-pub struct MemberRow {
-    pub sups: Vec<ClassId>,
-    pub methods: IndexSet<u32>,
-    pub fields: IndexSet<u32>,
-}
-
 /// Which declarations the methods and fields of each class have.
+///
+/// The least one of a method is sought among the classes that declare it, and asked of each of these is whether it is a
+/// super; so a class costs what there is of its methods, and not of its supers.
 #[derive(Drop)]
 pub struct Members {
     rows: Vec<MemberRow>,
-}
-
-/// Whether the two are one number.
-fn is_class(a: ClassId, b: ClassId) -> bool
-    ensures { IsTrue result ↔ (a ≡ b) }
-{
-    a.0 == b.0
-}
-
-/// Whether the number is in the list.
-fn has_class(ids: &[ClassId], id: ClassId) -> bool
-    ensures { IsTrue result ↔ Contains ids.now id }
-{
-    for other in ids {
-        if is_class(*other, id) {
-            return true;
-        }
-    }
-    false
+    by_method: IndexMap<u32, Vec<ClassId>>,
+    by_field: IndexMap<u32, Vec<ClassId>>,
+    ghost methods_listed: { AreListed method_keys rows.items (get nat_eq by_method) },
+    ghost fields_listed: { AreListed field_keys rows.items (get nat_eq by_field) },
 }
 
 /// Whether it is the number.
@@ -67,114 +52,96 @@ fn is_just(but: Option<ClassId>, id: ClassId) -> bool
     }
 }
 
-fn has_method(rows: &[MemberRow], m: Name, s: ClassId) -> bool
-    ensures { IsTrue result ↔ MethodAtRow rows.now m s }
-{
-    match at(rows, s.0 as usize) {
-        None => false,
-        Some(row) => is_in_set(&row.methods, m),
-    }
-}
-
-fn has_field(rows: &[MemberRow], f: Name, s: ClassId) -> bool
-    ensures { IsTrue result ↔ FieldAtRow rows.now f s }
-{
-    match at(rows, s.0 as usize) {
-        None => false,
-        Some(row) => is_in_set(&row.fields, f),
-    }
-}
-
 fn has_sup(rows: &[MemberRow], a: ClassId, b: ClassId) -> bool
     ensures { IsTrue result ↔ SupAtRow rows.now a b }
 {
     match at(rows, a.0 as usize) {
         None => false,
-        Some(row) => has_class(&row.sups, b),
+        Some(row) => is_super(row, b),
     }
 }
 
-/// Whether `t` is another one that has the method and stands below `s`.
-fn is_lower(rows: &[MemberRow], m: Name, s: ClassId, t: ClassId) -> bool
-    ensures { IsTrue result ↔ ((t ≡ s → ⊥) × MethodAtRow rows.now m t × SupAtRow rows.now t s) }
+/// Whether `t` is another one, is a super of the row's class, and stands below `s`.
+fn is_lower(rows: &[MemberRow], row: &MemberRow, s: ClassId, t: ClassId) -> bool
+    ensures { IsTrue result ↔ ((t ≡ s → ⊥) × Contains row.now.sups.items t × SupAtRow rows.now t s) }
 {
     if is_class(t, s) {
         return false;
     }
-    if !has_method(rows, m, t) {
+    if !is_super(row, t) {
         return false;
     }
     has_sup(rows, t, s)
 }
 
-/// Whether another of the numbers has the method and stands below `s`.
-fn has_lower(rows: &[MemberRow], sups: &[ClassId], m: Name, s: ClassId) -> bool
-    ensures { IsTrue result ↔ HasLowerRow rows.now sups.now m s }
+/// Whether another of the numbers is a super and stands below `s`.
+fn has_lower(rows: &[MemberRow], row: &MemberRow, ids: &[ClassId], s: ClassId) -> bool
+    ensures { IsTrue result ↔ HasLowerRow rows.now ids.now row.now.sups.items s }
 {
-    for t in sups {
-        if is_lower(rows, m, s, *t) {
+    for t in ids {
+        if is_lower(rows, row, s, *t) {
             return true;
         }
     }
     false
 }
 
-/// Whether the number hasn't the method, is the one that is left out, or has another below.
+/// Whether the number is no super, is the one that is left out, or has another below.
 fn is_passed(
     rows: &[MemberRow],
-    sups: &[ClassId],
-    m: Name,
+    row: &MemberRow,
+    ids: &[ClassId],
     but: Option<ClassId>,
     s: ClassId,
 ) -> bool
-    ensures passed { IsTrue result → PassedRow rows.now sups.now m but s }
-    ensures low { result ≡ false → IsLowRow rows.now sups.now m but s }
+    ensures passed { IsTrue result → PassedRow rows.now ids.now row.now.sups.items but s }
+    ensures low { result ≡ false → IsLowRow rows.now ids.now row.now.sups.items but s }
 {
-    if !has_method(rows, m, s) {
+    if !is_super(row, s) {
         return true;
     }
     if is_just(but, s) {
         return true;
     }
-    has_lower(rows, sups, m, s)
+    has_lower(rows, row, ids, s)
 }
 
-/// The first of the numbers, but for one, that has the method and none below.
-fn first_low(rows: &[MemberRow], sups: &[ClassId], m: Name, but: Option<ClassId>) -> Option<ClassId>
-    ensures { MatchOption result (PassedTo rows.now sups.now m but (length sups.now))
-        (FirstLowRow rows.now sups.now m but) }
+/// The first of the numbers, but for one, that is a super and has none below.
+fn first_low(
+    rows: &[MemberRow],
+    row: &MemberRow,
+    ids: &[ClassId],
+    but: Option<ClassId>,
+) -> Option<ClassId>
+    ensures { MatchOption result (PassedTo rows.now ids.now row.now.sups.items but (length ids.now))
+        (FirstLowRow rows.now ids.now row.now.sups.items but) }
 {
-    for s in sups {
-        if !is_passed(rows, sups, m, but, *s) {
+    for s in ids {
+        if !is_passed(rows, row, ids, but, *s) {
             return Some(*s);
         }
     }
     None
 }
 
-/// Whether the number hasn't the field, or is the one that is left out.
-fn is_fieldless(rows: &[MemberRow], f: Name, but: Option<ClassId>, s: ClassId) -> bool
-    ensures passed { IsTrue result → FieldlessRow rows.now f but s }
-    ensures other { result ≡ false → IsFieldRow rows.now f but s }
+/// Whether the number is no super, or is the one that is left out.
+fn is_fieldless(row: &MemberRow, but: Option<ClassId>, s: ClassId) -> bool
+    ensures passed { IsTrue result → FieldlessRow row.now.sups.items but s }
+    ensures other { result ≡ false → IsFieldRow row.now.sups.items but s }
 {
-    if !has_field(rows, f, s) {
+    if !is_super(row, s) {
         return true;
     }
     is_just(but, s)
 }
 
-/// The first of the numbers, but for one, that has the field.
-fn first_field(
-    rows: &[MemberRow],
-    sups: &[ClassId],
-    f: Name,
-    but: Option<ClassId>,
-) -> Option<ClassId>
-    ensures { MatchOption result (FieldlessTo rows.now sups.now f but (length sups.now))
-        (FirstFieldRow rows.now sups.now f but) }
+/// The first of the numbers, but for one, that is a super.
+fn first_field(row: &MemberRow, ids: &[ClassId], but: Option<ClassId>) -> Option<ClassId>
+    ensures { MatchOption result (FieldlessTo ids.now row.now.sups.items but (length ids.now))
+        (FirstFieldRow ids.now row.now.sups.items but) }
 {
-    for s in sups {
-        if !is_fieldless(rows, f, but, *s) {
+    for s in ids {
+        if !is_fieldless(row, but, *s) {
             return Some(*s);
         }
     }
@@ -191,106 +158,96 @@ fn is_lower_yet(rows: &[MemberRow], low: Option<ClassId>, s: ClassId) -> bool
     }
 }
 
-/// Whether the number has the method and stands below the one before it, where there is one.
-fn goes_down(rows: &[MemberRow], m: Name, low: Option<ClassId>, s: ClassId) -> bool
-    ensures { IsTrue result → MethodAtRow rows.now m s }
+/// Whether the number is a super and stands below the one before it, where there is one.
+fn goes_down(rows: &[MemberRow], row: &MemberRow, low: Option<ClassId>, s: ClassId) -> bool
+    ensures { IsTrue result → Contains row.now.sups.items s }
 {
-    has_method(rows, m, s) && is_lower_yet(rows, low, s)
+    is_super(row, s) && is_lower_yet(rows, low, s)
 }
 
-/// One of the numbers that have the method: where one stands below all others, that one.
-fn lowest(rows: &[MemberRow], sups: &[ClassId], m: Name) -> Option<ClassId>
-    ensures { IfSome result (IsOneRow rows.now sups.now m) }
+/// One of the numbers that are supers: where one stands below all others, that one.
+fn lowest(rows: &[MemberRow], row: &MemberRow, ids: &[ClassId]) -> Option<ClassId>
+    ensures { IfSome result (IsOneRow ids.now row.now.sups.items) }
 {
     let mut low = None;
-    for s in sups {
-        if goes_down(rows, m, low, *s) {
+    for s in ids {
+        if goes_down(rows, row, low, *s) {
             low = Some(*s);
         }
     }
     low
 }
 
-/// Whether the number hasn't the method, or is `a`, or `a` stands below it.
-fn is_above(rows: &[MemberRow], m: Name, a: ClassId, s: ClassId) -> bool
-    ensures { IsTrue result → AboveRow rows.now m a s }
+/// Whether the number is no super, or is `a`, or `a` stands below it.
+fn is_above(rows: &[MemberRow], row: &MemberRow, a: ClassId, s: ClassId) -> bool
+    ensures { IsTrue result → AboveRow rows.now row.now.sups.items a s }
 {
-    if !has_method(rows, m, s) {
+    if !is_super(row, s) {
         return true;
     }
     is_class(s, a) || has_sup(rows, a, s)
 }
 
-/// Whether `a` stands below all others of the numbers that have the method.
-fn are_above(rows: &[MemberRow], sups: &[ClassId], m: Name, a: ClassId) -> bool
-    ensures { IsTrue result → AboveTo rows.now sups.now m a (length sups.now) }
+/// Whether `a` stands below all others of the numbers that are supers.
+fn are_above(rows: &[MemberRow], row: &MemberRow, ids: &[ClassId], a: ClassId) -> bool
+    ensures { IsTrue result → AboveTo rows.now ids.now row.now.sups.items a (length ids.now) }
 {
-    for s in sups {
-        if !is_above(rows, m, a, *s) {
+    for s in ids {
+        if !is_above(rows, row, a, *s) {
             return false;
         }
     }
     true
 }
 
-/// Whether `a` has none below, and stands below all others of the numbers that have the method.
-fn is_least(rows: &[MemberRow], sups: &[ClassId], m: Name, a: ClassId) -> bool
-    ensures { IsTrue result → IsOneRow rows.now sups.now m a → LeastRow rows.now sups.now m (least.One a) }
+/// Whether `a` has none below, and stands below all others of the numbers that are supers.
+fn is_least(rows: &[MemberRow], row: &MemberRow, ids: &[ClassId], a: ClassId) -> bool
+    ensures { IsTrue result → IsOneRow ids.now row.now.sups.items a
+        → LeastRow rows.now ids.now row.now.sups.items (least.One a) }
 {
-    are_above(rows, sups, m, a) && !has_lower(rows, sups, m, a)
+    are_above(rows, row, ids, a) && !has_lower(rows, row, ids, a)
 }
 
-/// The least one of the numbers that have the method, or the first two that have none below. The least one is found
-/// by walks over the numbers; only where there is none, each is asked for another below.
-fn least_of(rows: &[MemberRow], sups: &[ClassId], m: Name) -> Least
-    ensures { LeastRow rows.now sups.now m result }
+/// The least one of the numbers that are supers, or the first two that have none below. The least one is found by walks
+/// over the numbers; only where there is none, each is asked for another below.
+fn least_of(rows: &[MemberRow], row: &MemberRow, ids: &[ClassId]) -> Least
+    ensures { LeastRow rows.now ids.now row.now.sups.items result }
 {
-    match lowest(rows, sups, m) {
-        None => low_ones(rows, sups, m),
+    match lowest(rows, row, ids) {
+        None => low_ones(rows, row, ids),
         Some(a) => {
-            if is_least(rows, sups, m, a) {
+            if is_least(rows, row, ids, a) {
                 return Least::One(a);
             }
-            low_ones(rows, sups, m)
+            low_ones(rows, row, ids)
         }
     }
 }
 
-/// The same, of which each number that has the method is asked for another below.
-fn low_ones(rows: &[MemberRow], sups: &[ClassId], m: Name) -> Least
-    ensures { LeastRow rows.now sups.now m result }
+/// The same, of which each number that is a super is asked for another below.
+fn low_ones(rows: &[MemberRow], row: &MemberRow, ids: &[ClassId]) -> Least
+    ensures { LeastRow rows.now ids.now row.now.sups.items result }
 {
-    match first_low(rows, sups, m, None) {
+    match first_low(rows, row, ids, None) {
         None => Least::None,
-        Some(a) => match first_low(rows, sups, m, Some(a)) {
+        Some(a) => match first_low(rows, row, ids, Some(a)) {
             None => Least::One(a),
             Some(b) => Least::Many(a, b),
         },
     }
 }
 
-/// The only one of the numbers that has the field, or the first two.
-fn field_of(rows: &[MemberRow], sups: &[ClassId], f: Name) -> Least
-    ensures { FieldRow rows.now sups.now f result }
+/// The only one of the numbers that is a super, or the first two.
+fn field_of(row: &MemberRow, ids: &[ClassId]) -> Least
+    ensures { FieldRow ids.now row.now.sups.items result }
 {
-    match first_field(rows, sups, f, None) {
+    match first_field(row, ids, None) {
         None => Least::None,
-        Some(a) => match first_field(rows, sups, f, Some(a)) {
+        Some(a) => match first_field(row, ids, Some(a)) {
             None => Least::One(a),
             Some(b) => Least::Many(a, b),
         },
     }
-}
-
-/// A copy of the numbers.
-fn copied(alloc: Global, ids: &[ClassId]) -> Result<Vec<ClassId>, AllocError>
-    ensures { IfOk result (λ all. all.items ≡ ids.now) }
-{
-    let mut all = Vec::new(alloc);
-    for id in ids {
-        all.push(*id)?;
-    }
-    Ok(all)
 }
 
 impl Members {
@@ -302,18 +259,20 @@ impl Members {
             → IsMembersOf p.now t.now members) }
     {
         let mut rows = Vec::new(alloc);
+        let mut by_method = IndexMap::new(alloc);
+        let mut by_field = IndexMap::new(alloc);
         for k in 0..t.known().len() {
             let id = ClassId(k as u16);
-            let sups = copied(alloc, &t.row(id).sups)?;
-            let methods = name_set(alloc, &t.own_methods(id)?)?;
-            let fields = name_set(alloc, &t.own_fields(id)?)?;
-            rows.push(MemberRow {
-                sups,
-                methods,
-                fields,
-            })?;
+            let row = row_of(alloc, t, id)?;
+            keep_at_each(alloc, &mut by_method, row.methods.as_slice(), id)?;
+            keep_at_each(alloc, &mut by_field, row.fields.as_slice(), id)?;
+            rows.push(row)?;
         }
-        Ok(Members { rows })
+        Ok(Members {
+            rows,
+            by_method,
+            by_field,
+        })
     }
 
     /// The least declaration of a method of a class, or the first two where there is none.
@@ -322,7 +281,10 @@ impl Members {
     {
         match at(&self.rows, id.0 as usize) {
             None => Least::None,
-            Some(row) => least_of(&self.rows, &row.sups, m),
+            Some(row) => match self.by_method.get(&m.0) {
+                None => Least::None,
+                Some(ids) => least_of(&self.rows, row, ids),
+            },
         }
     }
 
@@ -332,7 +294,10 @@ impl Members {
     {
         match at(&self.rows, id.0 as usize) {
             None => Least::None,
-            Some(row) => field_of(&self.rows, &row.sups, f),
+            Some(row) => match self.by_field.get(&f.0) {
+                None => Least::None,
+                Some(ids) => field_of(row, ids),
+            },
         }
     }
 }

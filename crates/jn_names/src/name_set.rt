@@ -1,6 +1,6 @@
-//! Sets of names, by their numbers, in which a name is found without a walk.
+//! Sets of names, by their numbers.
 
-ghost use Rattle.std.specs.Prelude.{◌↔◌, Contains, IsTrue, IfOk};
+ghost use Rattle.std.specs.Prelude.{◌↔◌, Contains, IfOk};
 ghost use Rattle.jn_base.specs.declared.tree.Name.{Name as AName};
 
 use indexmap::IndexSet;
@@ -16,11 +16,4 @@ pub fn name_set(alloc: Global, names: &[Name]) -> Result<IndexSet<u32>, AllocErr
         let (_, _) = set.insert_full(name.0)?;
     }
     Ok(set)
-}
-
-/// Whether the name is in the set.
-pub fn is_in_set(set: &IndexSet<u32>, name: Name) -> bool
-    ensures { IsTrue result ↔ Contains set.now.keys name.0 }
-{
-    set.contains(&name.0)
 }

@@ -1,4 +1,4 @@
 use Rattle.jn_names.proofs.members.goes_down.Goals as goal
 
-pub returns-then-has_method : goal.returns-then-has_method
-returns-then-has_method c = λ h. c.has_method.ensures.0 c.if-has_method.true
+pub returns-then-is_super : goal.returns-then-is_super
+returns-then-is_super c = λ h. c.is_super.ensures.0 c.if-is_super.true
