@@ -6,11 +6,13 @@
 #![tactic(auto)]
 
 mod compare;
+mod places;
 mod pool;
 mod scope;
 mod terms;
 
 pub use compare::is_type;
+pub use places::{bind_of, place_of};
 pub use pool::{Pool, TyId};
 pub use scope::{Bind, Scope};
 pub use terms::copied_type;

@@ -1,16 +1,24 @@
 -- The newest bind of a path, bind by bind.
-use Rattle.std.proofs.Common.{◌≡◌, ◌<◌, ◌≤◌, ◌+◌, ℕ, zero, suc, List, [], ◌∷◌, ◌++◌, map, reverse, take, slice_get, get_or, Some, None, Option, refl, sym, ap, ◌∙◌, subst, arith, add-one, cond, nat_eq, true, false, Bool, length}
-use Rattle.std.specs.Prelude.{IfSome}
+use Rattle.std.proofs.Common.{◌≡◌, ◌<◌, ◌≤◌, ◌+◌, ℕ, zero, suc, List, [], ◌∷◌, ◌++◌, map, reverse, take, drop, slice_get, get_or, Some, None, Option, refl, sym, ap, ◌∙◌, subst, arith, add-one, cond, nat_eq, true, false, Bool, length}
+use Rattle.std.specs.Prelude.{IfNone, IfSome}
+use Rattle.std.proofs.lemmas.List.{reverse-reverse}
+use Rattle.std.proofs.Math.Seq.{take-length}
 use Rattle.std.proofs.lemmas.Bool.Decides.{nat_tests}
 use Rattle.jn_reach.proofs.Searches.{same_some}
 use Rattle.jn_names.proofs.Turned.{turned_one}
 use Rattle.jn_base.specs.declared.types.Ty.{Ty}
-use Rattle.jn_base.specs.Atoms.{atoms_in, first_at}
+use Rattle.jn_base.specs.Atoms.{atoms_in, first_at, Among, first, later}
 use Rattle.jn_base.specs.Scopes.{Bind as TypeBind, Scope as TypeScope, bound_of}
+use Rattle.jn_base.specs.Fits.{BindsFit}
+use Rattle.jn_sem.proofs.Codes.{among_reversed}
+use Rattle.jn_sem.proofs.NormalTypes.{among_map, map_among}
 use Rattle.jn_intern.specs.declared.scope.Bind.{Bind}
+use Rattle.jn_intern.specs.Places.{IsAt, Lacks}
+use Rattle.jn_intern.proofs.Standing.{types_split}
+use Rattle.jn_normal.proofs.Turning.{NoneOf, none_before, lacks_types}
 use Rattle.jn_intern.specs.Pools.{bind_in, shown}
 use Rattle.jn_subtype.specs.Binds.{binds_in}
-use Rattle.jn_subtype.specs.Newest.{NewestTo}
+use Rattle.jn_subtype.specs.Newest.{BoundAt, NewestTo, IsNewest, EachOnce}
 
 take_at : {A : Type 0} (xs : List A) (i : ℕ) (x : A) → slice_get xs i ≡ Some x → take (suc i) xs ≡ take i xs ++ x ∷ []
 take_at [] i x e = absurd (cc e)
@@ -78,3 +86,42 @@ module _ (bs : List Bind) (q i : ℕ) (b : Bind) (o f : Option ℕ) (at : slice_
   found_before n k w h =
       subst (λ (x : Option ℕ). (IfSome x (λ k. k < i + 1)) × NewestTo bs q (i + 1) x) (sym k)
       (within_more i (i + 1) o refl w, newest_before bs q i b at o (other_path b.path q n) h)
+
+-- ---- where each path is bound once
+
+none_in : (from to : List Ty) (bs : List Bind) (q : ℕ) → NoneOf (binds_in from bs) q → NoneOf (binds_in to bs) q
+none_in from to bs q n c m e =
+    let turned : Among (map (bind_in to) bs) c =
+    subst (λ (l : List TypeBind). Among l c) (reverse-reverse (map (bind_in to) bs)) (among_reversed (binds_in to bs) c m) in
+    let b = map_among (bind_in to) bs c turned in
+    n (bind_in from b.0) (among_reversed (map (bind_in from) bs) (bind_in from b.0) (among_map (bind_in from) bs b.0 b.1)) (ap (λ (d : TypeBind). d.path) b.2 ∙ e)
+
+bound_passes : (front s : TypeScope) (q : ℕ) → NoneOf front q → bound_of (front ++ s) q ≡ bound_of s q
+bound_passes [] s q n = refl
+bound_passes (b ∷ front) s q n =
+    ap (λ (c : Bool). cond c (first_at (bound_of (front ++ s)) (atoms_in b.ty)) (bound_of (front ++ s) q)) (other_path b.path q (n b first))
+    ∙ bound_passes front s q (λ c m. n c (later m))
+
+unbound : (s : TypeScope) (q : ℕ) → NoneOf s q → bound_of s q ≡ []
+unbound [] q n = refl
+unbound (b ∷ s) q n =
+    ap (λ (c : Bool). cond c (first_at (bound_of s) (atoms_in b.ty)) (bound_of s q)) (other_path b.path q (n b first)) ∙ unbound s q (λ c m. n c (later m))
+
+pub whole_is : (pool : List Ty) (bs : List Bind) → binds_in pool (take (length bs) bs) ≡ binds_in pool bs
+whole_is pool bs = ap (binds_in pool) (take-length bs)
+
+-- the only bind of a path is its newest
+only_at : (bs : List Bind) (q i : ℕ) → EachOnce bs → IsAt bs q i → BoundAt bs q (length bs) i
+only_at bs q i once h = λ pool b at.
+    let same : h.bind ≡ b = same_some (slice_get bs i) h.bind b h.at at in
+    let path : b.path ≡ q = ap (λ (c : Bind). c.path) (sym same) ∙ h.path in
+    let behind : List Bind = drop (suc i) bs in
+    let fits : BindsFit (binds_in once.0 behind ++ bind_in once.0 b ∷ binds_in once.0 (take i bs)) = subst BindsFit (types_split once.0 bs i b at) once.1 in
+    let none : NoneOf (binds_in once.0 behind) q = λ c m e. none_before (binds_in once.0 behind) (binds_in once.0 (take i bs)) (bind_in once.0 b) fits c m (e ∙ sym path) in
+    ap (λ (s : TypeScope). bound_of s q) (whole_is pool bs ∙ types_split pool bs i b at)
+    ∙ bound_passes (binds_in pool behind) (bind_in pool b ∷ binds_in pool (take i bs)) q (none_in once.0 pool behind q none)
+    ∙ ap (λ (c : Bool). cond c (first_at (bound_of (binds_in pool (take i bs))) (atoms_in (shown pool b.ty))) (bound_of (binds_in pool (take i bs)) q)) (same_path b.path q path)
+
+pub only_newest : (bs : List Bind) (q : ℕ) (o : Option ℕ) → EachOnce bs → IfSome o (IsAt bs q) → IfNone o (Lacks bs q) → IsNewest bs q o
+only_newest bs q None once s n = λ pool. ap (λ (t : TypeScope). bound_of t q) (whole_is pool bs) ∙ unbound (binds_in pool bs) q (lacks_types pool bs q n)
+only_newest bs q (Some i) once s n = only_at bs q i once s

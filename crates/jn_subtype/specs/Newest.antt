@@ -4,6 +4,7 @@ use Rattle.std.specs.Option.{MatchOption}
 use Rattle.jn_base.specs.declared.types.Ty.{Ty}
 use Rattle.jn_base.specs.Atoms.{atoms_in, first_at}
 use Rattle.jn_base.specs.Scopes.{bound_of}
+use Rattle.jn_base.specs.Fits.{BindsFit}
 use Rattle.jn_intern.specs.declared.scope.Bind.{Bind}
 use Rattle.jn_intern.specs.Pools.{shown}
 use Rattle.jn_subtype.specs.Binds.{binds_in}
@@ -24,3 +25,7 @@ NewestTo binds q n o = MatchOption o (Unbound binds q n) (BoundAt binds q n)
 -- the newest bind of the path
 abbrev pub IsNewest : List Bind → ℕ → Option ℕ → Type 0
 IsNewest binds q o = NewestTo binds q (length binds) o
+
+-- the binds fit, with the types of some pool; so each path is bound once
+abbrev pub EachOnce : List Bind → Type 0
+EachOnce binds = (pool : List Ty) × BindsFit (binds_in pool binds)

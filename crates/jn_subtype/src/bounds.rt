@@ -1,12 +1,13 @@
-ghost use Rattle.std.specs.Prelude.{◌≡◌, ◌<◌, All, IfOk, IfSome, length};
+ghost use Rattle.std.specs.Prelude.{◌≡◌, ◌<◌, true, All, IfOk, IfSome, length};
 ghost use Rattle.jn_base.specs.Atoms.{atoms_in, anchor_at, atom_at, first_at, atom_of};
 ghost use Rattle.jn_base.specs.Scopes.{bound_of, bound};
+ghost use Rattle.jn_base.specs.Fits.{BindsFit};
 ghost use Rattle.jn_intern.specs.Pools.{InPool, ScopeInPool, scope_in};
 ghost use Rattle.jn_subtype.specs.Binds.{binds_in};
-ghost use Rattle.jn_subtype.specs.Newest.{IsNewest};
+ghost use Rattle.jn_subtype.specs.Newest.{IsNewest, EachOnce};
 
 use jn_base::types::{Anchor, Atom, Ty};
-use jn_intern::{Bind, Pool, Scope};
+use jn_intern::{Bind, Pool, Scope, place_of};
 use jn_names::Bound;
 use jn_normal::Conjunct;
 use std::alloc::{AllocError, Global};
@@ -25,33 +26,54 @@ fn newest(binds: &[Bind], path: u32) -> Option<usize>
     found
 }
 
-/// The bound of a path, in binds from the oldest on.
+/// The same, found at once where it is known that each path is bound once.
+fn place(binds: &[Bind], path: u32, once: bool) -> Option<usize>
+    requires { once ≡ true → EachOnce binds.now }
+    ensures within { IfSome result (λ i. i < length binds.now) }
+    ensures newest { IsNewest binds.now path result }
+{
+    if once {
+        return place_of(binds, path);
+    }
+    newest(binds, path)
+}
+
+/// The bound of a path, in binds from the oldest on; `once` says that they fit, so that each path is bound once.
 #[cycle(bounds)]
-pub fn path_bound(
+fn bound_of_path(
     alloc: Global,
     pool: &Pool,
     binds: &[Bind],
     path: u32,
+    once: bool,
 ) -> Result<Bound, AllocError>
     requires known { All (λ b. InPool pool.now b.ty) binds.now }
+    requires fits { once ≡ true → BindsFit (binds_in pool.now binds.now) }
     ensures { IfOk result (λ b. b ≡ bound_of (binds_in pool.now binds.now) path) }
 {
-    match newest(binds, path) {
+    match place(binds, path, once) {
         None => Ok(Bound::root(alloc)),
-        Some(i) => first_bound(alloc, pool, &binds[..i], pool.show(binds[i].ty)),
+        Some(i) => bound_of_first(alloc, pool, &binds[..i], pool.show(binds[i].ty), once),
     }
 }
 
 /// The bound of a type's first atom.
 #[cycle(bounds)]
-fn first_bound(alloc: Global, pool: &Pool, binds: &[Bind], ty: &Ty) -> Result<Bound, AllocError>
+fn bound_of_first(
+    alloc: Global,
+    pool: &Pool,
+    binds: &[Bind],
+    ty: &Ty,
+    once: bool,
+) -> Result<Bound, AllocError>
     requires known { All (λ b. InPool pool.now b.ty) binds.now }
+    requires fits { once ≡ true → BindsFit (binds_in pool.now binds.now) }
     ensures { IfOk result (λ b. b ≡ first_at (bound_of (binds_in pool.now binds.now)) (atoms_in ty.now)) }
 {
     match ty {
         Ty::Class(atoms, _) => match atoms.as_slice().first() {
             None => Ok(Bound::root(alloc)),
-            Some(x) => atom_bound(alloc, pool, binds, x),
+            Some(x) => bound_of_atom(alloc, pool, binds, x, once),
         },
         Ty::Int => Ok(Bound::root(alloc)),
         Ty::Bool => Ok(Bound::root(alloc)),
@@ -62,11 +84,18 @@ fn first_bound(alloc: Global, pool: &Pool, binds: &[Bind], ty: &Ty) -> Result<Bo
 
 /// The bound of an atom.
 #[cycle(bounds)]
-pub fn atom_bound(alloc: Global, pool: &Pool, binds: &[Bind], x: &Atom) -> Result<Bound, AllocError>
+fn bound_of_atom(
+    alloc: Global,
+    pool: &Pool,
+    binds: &[Bind],
+    x: &Atom,
+    once: bool,
+) -> Result<Bound, AllocError>
     requires known { All (λ b. InPool pool.now b.ty) binds.now }
+    requires fits { once ≡ true → BindsFit (binds_in pool.now binds.now) }
     ensures { IfOk result (λ b. b ≡ atom_at (bound_of (binds_in pool.now binds.now)) (atom_of x.now)) }
 {
-    let mut b = anchor_bound(alloc, pool, binds, x.anchor)?;
+    let mut b = bound_of_anchor(alloc, pool, binds, x.anchor, once)?;
     b.extend(x.exact.as_slice())?;
     b.extend(x.names.as_slice())?;
     Ok(b)
@@ -74,25 +103,57 @@ pub fn atom_bound(alloc: Global, pool: &Pool, binds: &[Bind], x: &Atom) -> Resul
 
 /// The bound of an anchor.
 #[cycle(bounds)]
-fn anchor_bound(
+fn bound_of_anchor(
     alloc: Global,
     pool: &Pool,
     binds: &[Bind],
     anchor: Anchor,
+    once: bool,
 ) -> Result<Bound, AllocError>
     requires known { All (λ b. InPool pool.now b.ty) binds.now }
+    requires fits { once ≡ true → BindsFit (binds_in pool.now binds.now) }
     ensures { IfOk result (λ b. b ≡ anchor_at (bound_of (binds_in pool.now binds.now)) anchor) }
 {
     match anchor {
         Anchor::Root => Ok(Bound::root(alloc)),
         Anchor::Up(path, k) => {
-            let b = path_bound(alloc, pool, binds, path)?;
+            let b = bound_of_path(alloc, pool, binds, path, once)?;
             b.without(alloc, k as usize)
         }
     }
 }
 
-/// The bound of an atom in a scope.
+/// The bound of a path, in binds from the oldest on.
+pub fn path_bound(
+    alloc: Global,
+    pool: &Pool,
+    binds: &[Bind],
+    path: u32,
+) -> Result<Bound, AllocError>
+    requires known { All (λ b. InPool pool.now b.ty) binds.now }
+    ensures { IfOk result (λ b. b ≡ bound_of (binds_in pool.now binds.now) path) }
+{
+    bound_of_path(alloc, pool, binds, path, false)
+}
+
+/// The bound of an atom, in binds from the oldest on.
+pub fn atom_bound(alloc: Global, pool: &Pool, binds: &[Bind], x: &Atom) -> Result<Bound, AllocError>
+    requires known { All (λ b. InPool pool.now b.ty) binds.now }
+    ensures { IfOk result (λ b. b ≡ atom_at (bound_of (binds_in pool.now binds.now)) (atom_of x.now)) }
+{
+    bound_of_atom(alloc, pool, binds, x, false)
+}
+
+/// The bound of an atom in a scope that fits.
+pub fn scope_bound(alloc: Global, pool: &Pool, scope: &Scope, x: &Atom) -> Result<Bound, AllocError>
+    requires known { ScopeInPool pool.now scope.now }
+    requires fits { BindsFit (scope_in pool.now scope.now) }
+    ensures { IfOk result (λ b. b ≡ bound (scope_in pool.now scope.now) (atom_of x.now)) }
+{
+    bound_of_atom(alloc, pool, scope.binds.as_slice(), x, true)
+}
+
+/// The same of an atom as contracts see it.
 pub fn bound_in(
     alloc: Global,
     pool: &Pool,
@@ -100,9 +161,10 @@ pub fn bound_in(
     x: &Conjunct,
 ) -> Result<Bound, AllocError>
     requires known { ScopeInPool pool.now scope.now }
+    requires fits { BindsFit (scope_in pool.now scope.now) }
     ensures { IfOk result (λ b. b ≡ bound (scope_in pool.now scope.now) x.now) }
 {
-    let mut b = anchor_bound(alloc, pool, scope.binds.as_slice(), x.anchor())?;
+    let mut b = bound_of_anchor(alloc, pool, scope.binds.as_slice(), x.anchor(), true)?;
     b.extend(x.exact())?;
     b.extend(x.names())?;
     Ok(b)

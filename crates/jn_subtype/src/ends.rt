@@ -1,5 +1,6 @@
 ghost use Rattle.std.specs.Prelude.{◌≡◌, ◌↔◌, ℕ, length, take, IfNone, IfOk, IfSome, IsTrue};
 ghost use Rattle.jn_base.specs.declared.tree.Program.{Program};
+ghost use Rattle.jn_base.specs.Fits.{BindsFit};
 ghost use Rattle.jn_table.specs.Tables.{IsFilled};
 ghost use Rattle.jn_intern.specs.Pools.{ScopeInPool, scope_in};
 ghost use Rattle.jn_sem.specs.Search.{EndsPlainly};
@@ -92,6 +93,7 @@ pub fn ends(
     y: &Conjunct,
 ) -> Result<bool, AllocError>
     requires known { ScopeInPool pool.now scope.now }
+    requires fits { BindsFit (scope_in pool.now scope.now) }
     ensures { IfOk result (λ r. (p : Program) → IsFilled p table.now → IsTrue r
         ↔ EndsPlainly p (scope_in pool.now scope.now) x.now y.now) }
 {

@@ -1,4 +1,4 @@
-ghost use Rattle.std.specs.Prelude.{◌≡◌, ◌↔◌, All, Contains, IfOk, IfSome, IfNone, OnOk, map};
+ghost use Rattle.std.specs.Prelude.{◌≡◌, ◌↔◌, All, Contains, IfOk, OnOk, map};
 ghost use Rattle.jn_base.specs.declared.tree.Program.{Program};
 ghost use Rattle.jn_base.specs.Universe.{InUniverse};
 ghost use Rattle.jn_base.specs.Atoms.{Atom as AnAtom, Among, atom_of, atoms_in};
@@ -13,23 +13,10 @@ ghost use Rattle.jn_subtype.specs.Turns.{Adds, Replaces};
 
 use crate::bounds::bound_in;
 use jn_base::types::{Anchor, Atom, Ty};
-use jn_intern::{Bind, Pool, Scope};
+use jn_intern::{Pool, Scope, bind_of};
 use jn_normal::Conjunct;
 use jn_table::Table;
 use std::alloc::{AllocError, Global};
-
-/// The bind of a path.
-fn bind_of(binds: &[Bind], path: u32) -> Option<Bind>
-    ensures some { IfSome result (λ b. Contains binds.now b × (b.path ≡ path)) }
-    ensures none { IfNone result (All (λ b. b.path ≡ path → ⊥) binds.now) }
-{
-    for bind in binds {
-        if bind.path == path {
-            return Some(*bind);
-        }
-    }
-    None
-}
 
 /// Adds what the atom `z` of the path's type makes of `w`, where the bound is then one of the universe.
 fn add_replaced(

@@ -17,5 +17,5 @@ mod judge;
 mod spreads;
 mod turns;
 
-pub use bounds::{atom_bound, path_bound};
+pub use bounds::{atom_bound, path_bound, scope_bound};
 pub use judge::{Judge, judges_stay};

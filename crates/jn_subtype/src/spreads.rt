@@ -1,6 +1,7 @@
 ghost use Rattle.std.specs.Prelude.{◌≡◌, ◌↔◌, All, Contains, IfOk, OnOk, drop, length};
 ghost use Rattle.jn_base.specs.declared.tree.Program.{Program};
 ghost use Rattle.jn_base.specs.Atoms.{Atom as AnAtom};
+ghost use Rattle.jn_base.specs.Fits.{BindsFit};
 ghost use Rattle.jn_table.specs.Tables.{IsFilled};
 ghost use Rattle.jn_intern.specs.Pools.{ScopeInPool, scope_in};
 ghost use Rattle.jn_sem.specs.Search.{Spreads, spread};
@@ -46,6 +47,7 @@ pub fn spreads(
     z: &Conjunct,
 ) -> Result<Vec<Conjunct>, AllocError>
     requires known { ScopeInPool pool.now scope.now }
+    requires fits { BindsFit (scope_in pool.now scope.now) }
     ensures exact { IfOk result (λ ws. (p : Program) → IsFilled p table.now → (w : AnAtom) → Contains ws.items w
         ↔ Spreads p (scope_in pool.now scope.now) z.now w) }
     ensures anchors { IfOk result (λ ws. All (λ w. w.anchor ≡ z.now.anchor) ws.items) }

@@ -4,4 +4,4 @@ use Rattle.jn_sem.specs.Normal.{by_first}
 use Rattle.jn_normal.proofs.rewriting.by_first.Given as goal
 
 abbrev pub invariant-loop-z : goal.invariant-loop-z
-invariant-loop-z l = by_first l.k l.fn.x (map atom_of (drop l.z-index l.atoms)) ≡ by_first l.k l.fn.x (map atom_of l.atoms)
+invariant-loop-z l = by_first l.k l.x (map atom_of (drop l.z-index l.atoms)) ≡ by_first l.k l.x (map atom_of l.atoms)
