@@ -1,9 +1,10 @@
 -- Lists of what stands twice, one step at a time.
-use Rattle.std.proofs.Common.{◌≡◌, ◌∙◌, ℕ, Bool, true, false, ◌||◌, List, [], ◌∷◌, ◌++◌, map, refl, ap, sym, subst, Option, Some, None, option_map, drop, take, length, length-take, ◌<◌, ◌≤◌, ◌+◌, suc, add-one, get_or, arith, append-nil, append_assoc, Result, Ok, IfOk}
+use Rattle.std.proofs.Common.{◌≡◌, ◌∙◌, ℕ, Bool, true, false, cond, ◌||◌, List, [], ◌∷◌, ◌++◌, map, nat_eq, refl, ap, sym, subst, Option, Some, None, option_map, drop, take, length, length-take, ◌<◌, ◌≤◌, ◌+◌, suc, add-one, get_or, arith, append-nil, append_assoc, Result, Ok, IfOk}
 use Rattle.std.proofs.Math.Seq.{drop-cons, take-length}
 use Rattle.std.proofs.lemmas.List.{take-append-le}
 use Rattle.std.proofs.Math.Bool.{or_comm}
 use Rattle.std.proofs.Math.ListN.{drop_of_length-le}
+use Rattle.std.proofs.lemmas.Cmp.{nat_eq_equiv}
 use Rattle.std.proofs.lemmas.List.Folds.{list_any-append}
 use Rattle.jn_base.specs.declared.tree.Name.{Name}
 use Rattle.jn_base.specs.declared.tree.Named.{Named}
@@ -16,7 +17,7 @@ use Rattle.jn_base.specs.Paths.{Path}
 use Rattle.jn_base.specs.Duplicates.{Given, InMember, InDecl, InStmt, same_given, only_if, has_name, seconds, param_scope, in_block, in_stmt, in_member, in_members, in_decl, in_decls, refusal, duplicate}
 use Rattle.std.specs.List.{list_any}
 use Rattle.jn_header.specs.declared.twice.Seen.{Seen}
-use Rattle.jn_header.specs.First.{first, IfPassed, SameNames, in_seen}
+use Rattle.jn_header.specs.First.{first, IfPassed, SameNames, has_number, in_seen}
 use Rattle.jn_header.proofs.TwiceEquations.{at_decl}
 
 -- ---- the first of two lists
@@ -34,6 +35,10 @@ first_map f [] = refl
 first_map f (x ∷ xs) = refl
 
 -- ---- names in whatever order
+
+pub or_cond : (a b : Bool) → cond a true b ≡ (a || b)
+or_cond true b = refl
+or_cond false b = refl
 
 pub same_self : (xs : List Name) → SameNames xs xs
 same_self xs n = refl
@@ -200,9 +205,9 @@ module _ (R : Path) (all : List Member) where
 
 -- ---- top-level declarations
 
-pub record LeftOfDecls (all : List Decl) (i : ℕ) (seen : List Name) : Type 0 where
+pub record LeftOfDecls (all : List Decl) (i : ℕ) (seen : List ℕ) : Type 0 where
   pub before : List Name
-  pub same : SameNames seen before
+  pub same : (n : Name) → has_number seen n ≡ has_name before n
   pub left : first (in_decls [] (map in_decl all)) ≡ first (in_decls before (map in_decl (drop i all)))
 
 decl_hit : (before : List Name) (d : InDecl) (ds : List InDecl) → has_name before d.name.name ≡ true → first (in_decls before (d ∷ ds)) ≡ Some (refusal None d.name)
@@ -213,34 +218,38 @@ decl_passed : (before : List Name) (d : InDecl) (ds : List InDecl) → has_name 
 decl_passed before d ds e = ap (λ (b : Bool). first (only_if b (refusal None d.name ∷ []) ++ (d.inside [] ++ in_decls (d.name.name ∷ before) ds))) e
 
 module _ (all : List Decl) where
-  pub decls_first : (seen : List Name) → seen ≡ [] → LeftOfDecls all 0 seen
-  decls_first seen e = record { before = []; same = λ n. ap (λ (xs : List Name). has_name xs n) e; left = refl }
+  pub decls_first : (seen : List ℕ) → seen ≡ [] → LeftOfDecls all 0 seen
+  decls_first seen e = record { before = []; same = λ n. ap (λ (xs : List ℕ). has_number xs n) e; left = refl }
 
-  decls_opened : (i : ℕ) (d : Decl) (seen : List Name) (l : LeftOfDecls all i seen) → i < length all → d ≡ get_or all i d
+  decls_opened : (i : ℕ) (d : Decl) (seen : List ℕ) (l : LeftOfDecls all i seen) → i < length all → d ≡ get_or all i d
       → first (in_decls [] (map in_decl all)) ≡ first (in_decls l.before (in_decl d ∷ map in_decl (drop (i + 1) all)))
   decls_opened i d seen l h e = l.left ∙ ap (λ (xs : List Decl). first (in_decls l.before (map in_decl xs))) (at_index all i d h e)
 
   named_as : (d : Decl) (xs : List Name) (b : Bool) → has_name xs d.name.name ≡ b → has_name xs (in_decl d).name.name ≡ b
   named_as d xs b e = ap (λ (x : InDecl). has_name xs x.name.name) (at_decl d) ∙ e
 
-  pub decls_hit : (i : ℕ) (d : Decl) (seen : List Name) → LeftOfDecls all i seen → i < length all → d ≡ get_or all i d
-      → has_name seen d.name.name ≡ true → Some (refusal None d.name) ≡ first (in_decls [] (map in_decl all))
+  pub decls_hit : (i : ℕ) (d : Decl) (seen : List ℕ) → LeftOfDecls all i seen → i < length all → d ≡ get_or all i d
+      → has_number seen d.name.name ≡ true → Some (refusal None d.name) ≡ first (in_decls [] (map in_decl all))
   decls_hit i d seen l h e is =
       sym (decls_opened i d seen l h e ∙ (decl_hit l.before (in_decl d) _ (named_as d l.before true (sym (l.same d.name.name) ∙ is)) ∙ ap (λ (x : InDecl). Some (refusal None x.name)) (at_decl d)))
 
-  pub decls_inside : (i : ℕ) (d : Decl) (seen : List Name) (r : Refusal) → LeftOfDecls all i seen → i < length all → d ≡ get_or all i d
-      → has_name seen d.name.name ≡ false → Some r ≡ first ((in_decl d).inside []) → Some r ≡ first (in_decls [] (map in_decl all))
+  pub decls_inside : (i : ℕ) (d : Decl) (seen : List ℕ) (r : Refusal) → LeftOfDecls all i seen → i < length all → d ≡ get_or all i d
+      → has_number seen d.name.name ≡ false → Some r ≡ first ((in_decl d).inside []) → Some r ≡ first (in_decls [] (map in_decl all))
   decls_inside i d seen r l h e is found =
       sym (decls_opened i d seen l h e ∙ (decl_passed l.before (in_decl d) _ (named_as d l.before false (sym (l.same d.name.name) ∙ is)) ∙ first_here _ _ r (sym found)))
 
-  pub decls_next : (i : ℕ) (d : Decl) (seen seen' : List Name) → LeftOfDecls all i seen → i < length all → d ≡ get_or all i d
-      → has_name seen d.name.name ≡ false → None ≡ first ((in_decl d).inside []) → seen' ≡ seen ++ d.name.name ∷ [] → LeftOfDecls all (i + 1) seen'
+  pub decls_next : (i : ℕ) (d : Decl) (seen seen' : List ℕ) → LeftOfDecls all i seen → i < length all → d ≡ get_or all i d
+      → has_number seen d.name.name ≡ false → None ≡ first ((in_decl d).inside [])
+      → ((n : Name) → has_number seen' n ≡ (nat_eq n.0 d.name.name.0 || has_number seen n)) → LeftOfDecls all (i + 1) seen'
   decls_next i d seen seen' l h e is none added = record {
     before = (in_decl d).name.name ∷ l.before;
-    same = subst (λ (xs : List Name). SameNames xs ((in_decl d).name.name ∷ l.before)) (sym added)
-        (subst (λ (x : InDecl). SameNames (seen ++ d.name.name ∷ []) (x.name.name ∷ l.before)) (sym (at_decl d)) (same_more seen l.before (d.name.name ∷ []) l.same));
+    same = λ n.
+        added n
+        ∙ (ap (λ (b : Bool). b || has_number seen n) (nat_eq_equiv.symm n.0 d.name.name.0)
+        ∙ (ap (λ (b : Bool). nat_eq d.name.name.0 n.0 || b) (l.same n)
+        ∙ ap (λ (x : InDecl). has_name (x.name.name ∷ l.before) n) (sym (at_decl d))));
     left = decls_opened i d seen l h e ∙ (decl_passed l.before (in_decl d) _ (named_as d l.before false (sym (l.same d.name.name) ∙ is)) ∙ first_behind _ _ (sym none));
   }
 
-  pub decls_none : (i : ℕ) (seen : List Name) → LeftOfDecls all i seen → length all ≤ i → None ≡ first (in_decls [] (map in_decl all))
+  pub decls_none : (i : ℕ) (seen : List ℕ) → LeftOfDecls all i seen → length all ≤ i → None ≡ first (in_decls [] (map in_decl all))
   decls_none i seen l h = sym (l.left ∙ ap (λ (xs : List Decl). first (in_decls l.before (map in_decl xs))) (drop_of_length-le all {i = i} h))

@@ -1,11 +1,12 @@
 //! The names that stand twice where they may stand once: a second declaration, field or method of one
 //! name in a body, a second name in one list, a second parameter, a local where its name is in scope.
 
-ghost use Rattle.std.specs.Prelude.{◌≡◌, ◌++◌, ◌||◌, List, [], ◌∷◌, map, reverse, option_map, IfOk, OnOk};
+ghost use Rattle.std.specs.Prelude.{◌≡◌, ◌++◌, ◌||◌, List, [], ◌∷◌, map, reverse, nat_eq, option_map, IfOk, OnOk};
 ghost use Rattle.jn_base.specs.declared.tree.Name.{Name};
 ghost use Rattle.jn_base.specs.Duplicates.{Given, same_given, only_if, has_name, seconds, param_name, param_scope, in_block, in_stmt, in_method, refusal, duplicate, in_members, in_member, in_decl, in_decls, in_lists, duplicates};
-ghost use Rattle.jn_header.specs.First.{first, IfPassed, SameNames, in_seen};
+ghost use Rattle.jn_header.specs.First.{first, IfPassed, SameNames, has_number, in_seen};
 
+use indexmap::IndexSet;
 use jn_base::path::Path;
 use jn_base::refusal::{Refusal, Rule};
 use jn_base::tree::{Decl, Member, Method, Name, Named, Param, Program, Stmt};
@@ -19,16 +20,16 @@ pub fn first_duplicate(alloc: Global, p: &Program) -> Result<Option<Refusal>, Al
     let program = Path {
         names: Items::new(alloc),
     };
-    let mut seen = Vec::new(alloc);
+    let mut seen = IndexSet::new(alloc);
     for d in p.decls.as_slice() {
-        if has_name(seen.as_slice(), d.name.name) {
+        if has_number(&seen, d.name.name) {
             return Ok(Some(refusal(None, d.name)));
         }
         match in_decl(alloc, &program, d)? {
             Some(found) => return Ok(Some(found)),
             None => {}
         }
-        seen.push(d.name.name)?;
+        add_number(&mut seen, d.name.name)?;
     }
     Ok(None)
 }
@@ -75,12 +76,27 @@ fn has_name(names: &[Name], name: Name) -> bool
     false
 }
 
-/// The names that the members of a body gave, each in the name space of its sort.
+/// Whether the number of the name is in the set, where it is found without a walk.
+fn has_number(names: &IndexSet<u32>, name: Name) -> bool
+    ensures { result ≡ has_number names.now.keys name }
+{
+    names.contains(&name.0)
+}
+
+fn add_number(names: &mut IndexSet<u32>, name: Name) -> Result<(), AllocError>
+    ensures { OnOk result ((n : Name)
+        → has_number names.new.keys n ≡ (nat_eq n.0 name.0 || has_number names.old.keys n)) }
+{
+    let (_, _) = names.insert_full(name.0)?;
+    Ok(())
+}
+
+/// The names that the members of a body gave, by their numbers, each in the name space of its sort.
 #[derive(Drop)]
 struct Seen {
-    decls: Vec<Name>,
-    fields: Vec<Name>,
-    methods: Vec<Name>,
+    decls: IndexSet<u32>,
+    fields: IndexSet<u32>,
+    methods: IndexSet<u32>,
 }
 
 fn name_of(m: &Member) -> Named
@@ -97,9 +113,9 @@ fn is_second(seen: &Seen, m: &Member) -> bool
     ensures { result ≡ in_seen seen.now (in_member m.now).given }
 {
     match m {
-        Member::Inner(d) => has_name(seen.decls.as_slice(), d.name.name),
-        Member::Slot(f) => has_name(seen.fields.as_slice(), f.name.name),
-        Member::Body(method) => has_name(seen.methods.as_slice(), method.name.name),
+        Member::Inner(d) => has_number(&seen.decls, d.name.name),
+        Member::Slot(f) => has_number(&seen.fields, f.name.name),
+        Member::Body(method) => has_number(&seen.methods, method.name.name),
     }
 }
 
@@ -107,9 +123,9 @@ fn see(seen: &mut Seen, m: &Member) -> Result<(), AllocError>
     ensures { OnOk result ((g : Given) → in_seen seen.new g ≡ (same_given g (in_member m.now).given || in_seen seen.old g)) }
 {
     match m {
-        Member::Inner(d) => seen.decls.push(d.name.name)?,
-        Member::Slot(f) => seen.fields.push(f.name.name)?,
-        Member::Body(method) => seen.methods.push(method.name.name)?,
+        Member::Inner(d) => add_number(&mut seen.decls, d.name.name)?,
+        Member::Slot(f) => add_number(&mut seen.fields, f.name.name)?,
+        Member::Body(method) => add_number(&mut seen.methods, method.name.name)?,
     }
     Ok(())
 }
@@ -120,9 +136,9 @@ fn in_members(alloc: Global, path: &Path, members: &[Member]) -> Result<Option<R
     ensures { IfOk result (λ found. found ≡ first (in_members (reverse path.now.names) [] (map in_member members.now))) }
 {
     let mut seen = Seen {
-        decls: Vec::new(alloc),
-        fields: Vec::new(alloc),
-        methods: Vec::new(alloc),
+        decls: IndexSet::new(alloc),
+        fields: IndexSet::new(alloc),
+        methods: IndexSet::new(alloc),
     };
     for m in members {
         if is_second(&seen, m) {

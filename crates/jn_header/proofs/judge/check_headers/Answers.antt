@@ -1,4 +1,7 @@
+use Rattle.std.proofs.Common.{subst, sym}
 use Rattle.std.specs.Prelude.{Err}
+use Rattle.jn_table.specs.declared.table.Table.{Table}
+use Rattle.jn_table.specs.Tables.{IsPathOf}
 use Rattle.jn_header.specs.Judged.{PartsPass}
 use Rattle.jn_header.proofs.Judging.{table_refused, verdict_told, verdict_only}
 use Rattle.jn_header.proofs.judge.check_headers.Goals as goal
@@ -15,3 +18,7 @@ returns-in-Err-clause-only c =
 pub returns-in-Ok-clause-only : goal.returns-in-Ok-clause-only
 returns-in-Ok-clause-only c =
     verdict_only c.args.p.now c.requires.once c.requires.table.named c.behind_table.result (verdict_told c.args.p.now c.check_table.new.t c.behind_table.result c.behind_table.ensures.told)
+
+pub returns-in-Ok-clause-numbers : goal.returns-in-Ok-clause-numbers
+returns-in-Ok-clause-numbers c = λ id q h.
+    subst (λ (t : Table). IsPathOf t id q) (sym c.behind_table.ensures.kept) (c.check_table.ensures.numbers id q h)
