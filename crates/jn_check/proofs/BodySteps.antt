@@ -1,5 +1,5 @@
 -- Whole bodies: the header, the statements, and whether the end can be reached.
-use Rattle.std.proofs.Common.{◌≡◌, ◌||◌, suc, List, All, length, map, Bool, true, false, Result, Ok, Err, sym, ap, ◌∙◌, subst, arith}
+use Rattle.std.proofs.Common.{◌≡◌, ◌≤◌, ◌||◌, suc, List, All, length, map, Bool, true, false, Result, Ok, Err, sym, ap, ◌∙◌, subst, arith}
 use Rattle.jn_base.specs.declared.tree.Name.{Name}
 use Rattle.jn_base.specs.declared.tree.Program.{Program}
 use Rattle.jn_base.specs.declared.tree.Stmt.{Stmt}
@@ -113,7 +113,7 @@ module _ (p : Program) (b : Body) (env : Env) (x : Begun) (g : Begins p b env x)
 -- ---- behind a header
 
 module _ (p : Program) (b : Body) (pool : List Ty) (at : Place) (x : Locals) (s : Stands p pool at) (i : IsIn b at) (declared : x.declared ≡ at.scope)
-    (scope : x.scope.binds.items ≡ at.scope.binds.items) (next : x.next ≡ suc (length at.vars.list)) where
+    (scope : x.scope.binds.items ≡ at.scope.binds.items) (next : x.next ≡ suc (length at.vars.list)) (small : x.next ≤ 256) where
   same_site : site_of at ≡ site_with b.class b.method.name.name at.vars.list
   same_site = ap (λ (C : Path). site_with C at.method at.vars.list) i.class ∙ ap (λ (m : Name). site_with b.class m at.vars.list) i.method
 
@@ -127,6 +127,7 @@ module _ (p : Program) (b : Body) (pool : List Ty) (at : Place) (x : Locals) (s 
   begun_before = record {
     fits = subst (SiteFits p) same_site s.fits;
     numbered = λ v a. let l = s.numbered v a in omega (arith, l, next);
+    low = λ v a. let l = s.numbered v a in omega (arith, l, next, small);
     above = omega (arith, next);
     known_declared = subst (ScopeInPool pool) (sym declared) s.known;
     declared = ap (scope_in pool) declared ∙ scope_there;

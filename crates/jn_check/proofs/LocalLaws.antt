@@ -102,7 +102,7 @@ module _ (p : Program) (C : Path) (m : Method) (t : Ty) (n : Named) (e : Expr) (
     pub with_after : Shallow p → TypeThere (site_with C m.name.name old.vars.list) (shown old.pool id) → IsAfter p C m.name.name old x new y
     with_after deep there =
         after_then p C m.name.name old x mid z new y vars kept
-        (added_after mid z new y n.name fixed id (keeps.has id has) a.pool a.vars a.scope a.next a.declared p C m.name.name
+        (added_after mid z new y n.name fixed id (keeps.has id has) a.pool a.vars a.scope a.next a.declared a.room p C m.name.name
         (before_again p C m.name.name old.pool old.vars.list x h mid.pool mid.vars.list z keeps vars kept.declared kept.scope (omega (arith, kept.next))) deep
         (there_kept C m.name.name old.vars.list mid.vars.list (shown old.pool id) (shown mid.pool id) vars same_shown there))
 

@@ -25,7 +25,7 @@ use Rattle.jn_rules.specs.Questions.{Finds, IsFoundField, Notes}
 use Rattle.jn_rules.specs.Exprs.{Here, Typed, expr_types, mismatch, of_class, first_bound, path_of, field_type}
 use Rattle.jn_rules.specs.Stmts.{Before, dropped, set_typed, typed_below}
 use Rattle.jn_expr.specs.declared.env.Env.{Env}
-use Rattle.jn_expr.specs.Envs.{here_at, IsScope}
+use Rattle.jn_expr.specs.Envs.{here_at, InOrder, IsScope}
 use Rattle.jn_expr.specs.Told.{Adds, Went, PlanTold, FaultIs}
 use Rattle.jn_expr.specs.Steps.{Leads, LeadsTold}
 use Rattle.jn_expr.proofs.Scopes.{scope_stays}
@@ -116,6 +116,7 @@ scope_again old new x z h k e =
     let s : IsScope new x = scope_stays h k in record {
       known = subst (All (λ (b : NumberBind). InPool new b.ty)) (sym e) s.known;
       fits = subst ScopeFits (ap (λ (bs : List NumberBind). binds_in new bs) (sym e)) s.fits;
+      order = subst InOrder (ap (λ (bs : List NumberBind). binds_in new bs) (sym e)) s.order;
     }
 
 -- what is left notes nothing

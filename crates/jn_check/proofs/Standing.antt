@@ -15,7 +15,7 @@ use Rattle.jn_base.specs.Fits.{ScopeFits}
 use Rattle.jn_base.specs.Resolve.{class_of, var_bind}
 use Rattle.jn_sem.specs.Terms.{spot_at}
 use Rattle.jn_sem.specs.Does.{var}
-use Rattle.jn_sem.proofs.NormalTypes.{map_among}
+use Rattle.jn_sem.proofs.NormalTypes.{among_map, map_among}
 use Rattle.jn_intern.specs.declared.pool.TyId.{TyId}
 use Rattle.jn_intern.specs.declared.scope.Bind.{Bind as NumberBind}
 use Rattle.jn_intern.specs.declared.scope.Scope.{Scope as NumberScope}
@@ -30,7 +30,7 @@ use Rattle.jn_rule_laws.specs.LawsOfForms.{none as none_grown}
 use Rattle.jn_expr.specs.declared.env.Env.{Env}
 use Rattle.jn_expr.specs.Envs.{Parts, parts, ArePartsOf, IsScope, IsThere, Stays}
 use Rattle.jn_expr.specs.Passing.{Grows}
-use Rattle.jn_expr.proofs.Scopes.{one_more as bind_more}
+use Rattle.jn_expr.proofs.Scopes.{low_scope, low_in_order, one_more as bind_more}
 use Rattle.jn_check.specs.declared.state.Locals.{Locals}
 use Rattle.jn_check.specs.Masks.{bare}
 use Rattle.jn_check.specs.States.{before_in, before_at, IsBefore, IsAfter, IsBack, IsKept, IsLeft, StaysButVars}
@@ -83,6 +83,14 @@ module _ (C : Path) (m : Name) (vars : List Var) where
 pub site_scope_fits : (p : Program) (C : Path) (m : Name) (vars : List Var) (s : Scope) → s ≡ scope_of (site_with C m vars) → SiteFits p (site_with C m vars) → ScopeFits s
 site_scope_fits p C m vars s e f = subst ScopeFits (sym e) (record { binds = f.binds; class_of_this = Q C m vars; this = this_there C m vars })
 
+-- no path is a fresh one where those of the other scope are none
+alike_low : (s t : Scope) → map bare s ≡ map bare t → ((b : Bind) → Among t b → b.path < 256) → (b : Bind) → Among s b → b.path < 256
+alike_low s t e low b m =
+    let r = map_among bare t (bare b) (subst (λ (l : Scope). Among l (bare b)) e (among_map bare s b m)) in
+    let i : r.0.path ≡ b.path = ap (λ (c : Bind). c.path) r.2 in
+    let l = low r.0 r.1 in
+    omega (arith, l, i)
+
 -- an expression's fresh paths are gone
 pub cut_back : (old new : NumberScope) (n : ℕ) (cut : List NumberBind) → n ≡ length old.binds.items → Grows old new → cut ≡ take n new.binds.items → cut ≡ old.binds.items
 cut_back old new n cut e g c =
@@ -93,6 +101,7 @@ module _ (p : Program) (C : Path) (m : Name) (pool : List Ty) (vars : List Var) 
   is_scope = record {
     known = h.known;
     fits = scope_fits_as (scope_in pool x.scope) (scope_of (site_with C m vars)) (Q C m vars) h.agree h.fits.binds (this_there C m vars);
+    order = low_in_order (scope_in pool x.scope) (alike_low (scope_in pool x.scope) (scope_of (site_with C m vars)) h.agree (low_scope C m vars h.low));
   }
 
   pub there_before : IsThere p (site_with C m vars) (scope_in pool x.scope)
@@ -118,6 +127,7 @@ module _ (p : Program) (C : Path) (m : Name) (pool : List Ty) (vars : List Var) 
   before_again next vs y k e d s n = subst (λ (ws : List Var). IsBefore p C m next ws y) (sym e) (record {
     fits = h.fits;
     numbered = λ v a. let l = h.numbered v a in omega (arith, l, n);
+    low = h.low;
     above = omega (arith, h.above, n);
     known_declared = subst (All (λ (b : NumberBind). InPool next b.ty)) (sym d) (scope_in_kept x.declared h.known_declared k);
     declared = ap (binds_in next) d ∙ (scope_kept x.declared h.known_declared k ∙ h.declared);
@@ -160,6 +170,7 @@ pub before_with : (p : Program) (C : Path) (m : Name) (pool next : List Ty) (var
 before_with p C m pool next vars vs x y h k e d known agree n = subst (λ (ws : List Var). IsBefore p C m next ws y) (sym e) (record {
   fits = h.fits;
   numbered = λ v a. let l = h.numbered v a in omega (arith, l, n);
+  low = h.low;
   above = omega (arith, h.above, n);
   known_declared = subst (All (λ (b : NumberBind). InPool next b.ty)) (sym d) (scope_in_kept x.declared h.known_declared k);
   declared = ap (binds_in next) d ∙ (scope_kept x.declared h.known_declared k ∙ h.declared);
@@ -194,7 +205,7 @@ module _ (old : Env) (x : Locals) (new : Env) (y : Locals) (name : Name) (fixed 
       (All-append (λ (c : NumberBind). InPool old.pool c.ty) s.binds.items (b ∷ []) k
       (All-cons (λ (c : NumberBind). InPool old.pool c.ty) b [] has (All-nil (λ (c : NumberBind). InPool old.pool c.ty)))))
 
-  module _ (declared : y.declared.binds.items ≡ x.declared.binds.items ++ b ∷ []) (p : Program) (C : Path) (m : Name) (h : IsBefore p C m old.pool old.vars.list x) (deep : Shallow p)
+  module _ (declared : y.declared.binds.items ≡ x.declared.binds.items ++ b ∷ []) (room : x.next < 256) (p : Program) (C : Path) (m : Name) (h : IsBefore p C m old.pool old.vars.list x) (deep : Shallow p)
       (there : TypeThere (site_with C m old.vars.list) (shown old.pool id)) where
     free : Binds (scope_of (site_with C m old.vars.list)) x.next → ⊥
     free c = in_all c.bind (reverse_among (this_bind (Q C m old.vars.list) ∷ map var_bind old.vars.list) c.bind c.among) c.is where
@@ -212,6 +223,12 @@ module _ (old : Env) (x : Locals) (new : Env) (y : Locals) (name : Name) (fixed 
       split (inl o) = let l = h.numbered w o in omega (arith, l, next)
       split (inr e) = let i : w.path ≡ x.next = ap (λ (u : Var). u.path) e in omega (arith, i, next)
 
+    low : (w : Var) → Among (old.vars.list ++ v ∷ []) w → w.path < 256
+    low w n = split (among_more p deep old.vars.list v w n) where
+      split : Among old.vars.list w ⊎ (w ≡ v) → w.path < 256
+      split (inl o) = h.low w o
+      split (inr e) = let i : w.path ≡ x.next = ap (λ (u : Var). u.path) e in omega (arith, i, room)
+
     scope_there : scope_of (site_with C m (old.vars.list ++ v ∷ [])) ≡ var_bind v ∷ scope_of (site_with C m old.vars.list)
     scope_there = scope_more p deep (site_with C m old.vars.list) v
 
@@ -220,6 +237,7 @@ module _ (old : Env) (x : Locals) (new : Env) (y : Locals) (name : Name) (fixed 
       before = subst (λ (ws : List Var). IsBefore p C m new.pool ws y) (sym vars) (record {
         fits = one_more p deep (site_with C m old.vars.list) v h.fits there free;
         numbered = numbered;
+        low = low;
         above = omega (arith, next);
         known_declared = pushed_known x.declared y.declared declared h.known_declared;
         declared = pushed x.declared y.declared declared ∙ (ap (λ (s : Scope). var_bind v ∷ s) h.declared ∙ sym scope_there);
@@ -316,6 +334,7 @@ module _ (p : Program) (C : Path) (m : Name) (old : Env) (x : Locals) (mid : Env
     before = subst (λ (ws : List Var). IsBefore p C m new.pool ws y) (sym vars_back) (record {
       fits = h.fits;
       numbered = λ v n. let l = h.numbered v n in omega (arith, l, a.next, left.next);
+      low = h.low;
       above = omega (arith, h.above, a.next, left.next);
       known_declared = subst (λ (q : List Ty). ScopeInPool q y.declared) (sym left.pool)
           (subst (All (λ (b : NumberBind). InPool mid.pool b.ty)) (sym declared_back) (scope_in_kept x.declared h.known_declared keeps));

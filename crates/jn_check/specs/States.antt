@@ -28,11 +28,12 @@ before_in vars s n = record { vars = vars; scope = s; next = n }
 abbrev pub before_at : Env → Locals → Before
 before_at env x = before_in env.vars.list (scope_in env.pool x.scope) x.next
 
--- The declared types fit. The next number is above those of the variables. One scope has the declared types, and the other is
+-- The declared types fit. The next number is above those of the variables, and these are below 256. One scope has the declared types, and the other is
 -- the same but for masks.
 pub record IsBefore (p : Program) (C : Path) (m : Name) (pool : List Ty) (vars : List Var) (x : Locals) : Type 0 where
   pub fits : SiteFits p (site_with C m vars)
   pub numbered : (v : Var) → Among vars v → v.path < x.next
+  pub low : (v : Var) → Among vars v → v.path < 256
   pub above : 0 < x.next
   pub known_declared : ScopeInPool pool x.declared
   pub declared : scope_in pool x.declared ≡ scope_of (site_with C m vars)

@@ -1,5 +1,5 @@
 -- What declarations of locals and assignments do to what stands before them.
-use Rattle.std.specs.Prelude.{◌≡◌, ◌+◌, ◌++◌, [], ◌∷◌, Bool, List, Option, Some, None}
+use Rattle.std.specs.Prelude.{◌≡◌, ◌<◌, ◌+◌, ◌++◌, [], ◌∷◌, Bool, List, Option, Some, None}
 use Rattle.jn_base.specs.declared.tree.Name.{Name}
 use Rattle.jn_base.specs.declared.tree.Named.{Named}
 use Rattle.jn_base.specs.declared.tree.Place.{Place}
@@ -25,7 +25,7 @@ use Rattle.jn_expr.specs.Values.{typed_in}
 use Rattle.jn_check.specs.declared.assign.Assigned.{Assigned}
 use Rattle.jn_check.specs.declared.state.Locals.{Locals}
 
--- One more local, of the next number and with this type, stands behind the variables and at the end of both scopes.
+-- One more local, of the next number, which is below 256, and with this type, stands behind the variables and at the end of both scopes.
 pub record AddsLocal (old : Env) (x : Locals) (name : Name) (fixed : Bool) (id : TyId) (new : Env) (y : Locals)
     : Type 0 where
   pub pool : new.pool ≡ old.pool
@@ -34,6 +34,7 @@ pub record AddsLocal (old : Env) (x : Locals) (name : Name) (fixed : Bool) (id :
   pub declared : y.declared.binds.items ≡ x.declared.binds.items ++ record { path = x.next; ty = id } ∷ []
   pub scope : y.scope.binds.items ≡ x.scope.binds.items ++ record { path = x.next; ty = id } ∷ []
   pub next : y.next ≡ x.next + 1
+  pub room : x.next < 256
 
 -- what an assignment asks of its variable
 pub record IsAssigned (pool : List Ty) (v : Var) (k : Assigned) : Type 0 where

@@ -1,6 +1,6 @@
 //! Whole bodies.
 
-ghost use Rattle.std.specs.Prelude.{◌≡◌, ◌||◌, suc, reverse, IfOk, IfSome};
+ghost use Rattle.std.specs.Prelude.{◌≡◌, ◌≤◌, ◌||◌, suc, reverse, IfOk, IfSome};
 ghost use Rattle.jn_intern.specs.Pools.{InPool, shown};
 ghost use Rattle.jn_rules.specs.Stmts.{is_void, all_stop};
 ghost use Rattle.jn_expr.specs.Envs.{ArePartsOf, Stays, parts};
@@ -42,7 +42,8 @@ fn no_marks(alloc: Global, class: &Bound, method: Name) -> Result<Resolved, Allo
 
 /// The number of the first local behind so many parameters; no method that a source spells has more than 15.
 fn first_local(count: usize) -> Option<u32>
-    ensures { IfSome result (λ n. n ≡ suc count) }
+    ensures is { IfSome result (λ n. n ≡ suc count) }
+    ensures small { IfSome result (λ n. n ≤ 256) }
 {
     if count > 255 {
         return None;

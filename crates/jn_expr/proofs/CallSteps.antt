@@ -83,6 +83,12 @@ module _ (p : Program) (h : Here) (n : Named) (at : Place) (x : Typed) (before :
       → OwnerLeads p n.name (suffix_typed h n (Some es) at x) (receiver_left h n es x) before before (Ok Q)
   owner_told Q found none = λ y at. leads_ask (leads_ask asked (Some (body_of Q y)) (is_method p x.scope x.ty n.name Q y found at)) None none
 
+-- a receiver that is refused
+pub owner_fault_leads : {B : Type 0} (p : Program) (n : Name) (whole : Plan Typed) (rest : Body → Plan Typed) (left : B → Plan Typed) (before mid after : Resolved) (f : CheckFault)
+    → OwnerLeads p n whole rest before mid (Err f) → LeadsTold p whole left before after (Err f)
+owner_fault_leads p n whole rest left before mid after (Refused r) g = g
+owner_fault_leads p n whole rest left before mid after Memory g = tt
+
 -- ---- headers note nothing
 
 ok_is : {A : Type 0} {a b : A} → (let e : Result A Refusal = Ok a in e ≡ Ok b) → a ≡ b

@@ -65,14 +65,6 @@ void_fits s t e = subst (TypeFits s) (sym e) (not_class s ty.Void (λ c. c))
 
 -- ---- types with their paths replaced
 
-pub moved_class : (s : Scope) (f : ℕ → ℕ) (t : Ty) (xs zs ys : List ShownAtom) (m : Masks) → t ≡ ty.Class xs m → zs ≡ xs
-    → map atom_of ys ≡ map (moved f) (map atom_of zs) → AtomsFit s (map atom_of ys) → MovedFits s f t
-moved_class s f t xs zs ys m e g h k =
-    subst (MovedFits s f) (sym e) (λ c. subst (AtomsFit s) (h ∙ ap (λ (l : List ShownAtom). map (moved f) (map atom_of l)) g) k)
-
-pub moved_other : (s : Scope) (f : ℕ → ℕ) (t u : Ty) → t ≡ u → (IsClassType u → ⊥) → MovedFits s f t
-moved_other s f t u e n = subst (MovedFits s f) (sym e) (λ c. absurd (n c))
-
 -- the paths `from` beyond those of `to` stay
 swapped_front : (from to : List ℕ) (q : ℕ) → swapped (take (length to) from) to q ≡ swapped from to q
 swapped_front [] [] q = refl
@@ -85,9 +77,6 @@ moved_as s f g t e m = subst (λ (h : ℕ → ℕ). MovedFits s h t) e m
 
 pub moved_front : (s : Scope) (from to : List ℕ) (t : Ty) → MovedFits s (swapped from to) t → MovedFits s (swapped (take (length to) from) to) t
 moved_front s from to t m = moved_as s (swapped from to) (swapped (take (length to) from) to) t (sym (fun_ext (swapped_front from to))) m
-
-pub front_moved : (s : Scope) (from to : List ℕ) (t : Ty) → MovedFits s (swapped (take (length to) from) to) t → MovedFits s (swapped from to) t
-front_moved s from to t m = moved_as s (swapped (take (length to) from) to) (swapped from to) t (fun_ext (swapped_front from to)) m
 
 pub put_front : (s : Scope) (from to : List ℕ) (t : Ty) → subst_type s (swapped (take (length to) from) to) t ≡ put_in s from to t
 put_front s from to t = ap (λ (f : ℕ → ℕ). subst_type s f t) (fun_ext (swapped_front from to))

@@ -12,6 +12,7 @@ pub mod Granting
 pub mod Viewing
 pub mod FieldSteps
 pub mod CallSteps
+pub mod CallDepths
 pub mod Making
 pub mod NewSteps
 pub mod SuperSteps

@@ -17,6 +17,7 @@ use Rattle.jn_base.specs.Members.{MethodAt}
 use Rattle.jn_base.specs.Atoms.{atom_of}
 use Rattle.jn_base.specs.Scopes.{Scope as TypeScope, bound}
 use Rattle.jn_base.specs.Fits.{TypeFits}
+use Rattle.jn_base.specs.Resolve.{is_class}
 use Rattle.jn_sem.specs.NormalFunction.{normal_type}
 use Rattle.jn_sem.specs.Does.{Body, IsConstructorBody}
 use Rattle.jn_intern.specs.declared.pool.TyId.{TyId}
@@ -39,7 +40,8 @@ use Rattle.jn_expr.specs.Told.{FaultIs}
 use Rattle.jn_expr.specs.Values.{typed_in, TypedFits}
 use Rattle.jn_expr.specs.Found.{ConstructorFrom}
 use Rattle.jn_expr.specs.Steps.{Leads, LeadsTold, entered, IsCall}
-use Rattle.jn_expr.specs.Calling.{body_of, IsBegun}
+use Rattle.jn_expr.specs.Calling.{body_of, IsBegun, CallFits}
+use Rattle.jn_expr.specs.Typing.{AwaitsArgs}
 use Rattle.jn_expr.specs.Making.{IsLast, HasConstructor, made_call, made_left}
 use Rattle.jn_expr.proofs.Typeds.{fits_kept, made_fits}
 use Rattle.jn_expr.proofs.Leading.{leads_here, leads_ask, leads_want, leads_is, leads_leads, leads_of_fault}
@@ -125,32 +127,37 @@ module _ (p : Program) (h : Here) (b : Body) (at : Place) (es : List (Expr × Ty
       leads_is (left_is call v d g i j)
       (subst (λ (k : ℕ). Leads p (entered h b at k new_go) (new_go (header_in pool call.header)) before after) (sym e) (told new_go))
 
-pub some_call : (pool : List Ty) (x y : Call) → IsCall pool x → (let o : Option Call = Some x in o ≡ Some y) → IsCall pool y
-some_call pool x y i e = subst (IsCall pool) (same e) i where
-  same : (let o : Option Call = Some x in o ≡ Some y) → x ≡ y
-  same g = cc g
+-- what the call of a constructor awaits, where there is one
+module _ (p : Program) (pool : List Ty) (s : TypeScope) (n : ℕ) where
+  same_call : (x y : Call) → (let o : Option Call = Some x in o ≡ Some y) → x ≡ y
+  same_call x y e = cc
 
-pub some_begun : (x y : Call) → length x.paths.items ≡ 1 → (let o : Option Call = Some x in o ≡ Some y) → length y.paths.items ≡ 1
-some_begun x y i e = subst (λ (c : Call). length c.paths.items ≡ 1) (same e) i where
-  same : (let o : Option Call = Some x in o ≡ Some y) → x ≡ y
-  same g = cc g
+  neither : (y : Call) → (let o : Option Call = None in o ≡ Some y) → ⊥
+  neither y e = cc
 
-pub none_call : (pool : List Ty) (y : Call) → (let o : Option Call = None in o ≡ Some y) → IsCall pool y
-none_call pool y e = absurd (none e) where
-  none : (let o : Option Call = None in o ≡ Some y) → ⊥
-  none g = cc g
+  pub awaits_some : (x : Call) → CallFits p pool s x → length x.paths.items ≡ 1 → length x.header.at.vars.list ≡ n → AwaitsArgs p pool s n (Some x)
+  awaits_some x f b l = record {
+    call = λ y e. subst (IsCall pool) (same_call x y e) f.is_call;
+    begun = λ y e. subst (λ (c : Call). length c.paths.items ≡ 1) (same_call x y e) b;
+    fits = λ y e. subst (CallFits p pool s) (same_call x y e) f;
+    count = λ y e. subst (λ (c : Call). length c.header.at.vars.list ≡ n) (same_call x y e) l;
+  }
 
-pub none_begun : (y : Call) → (let o : Option Call = None in o ≡ Some y) → length y.paths.items ≡ 1
-none_begun y e = absurd (none e) where
-  none : (let o : Option Call = None in o ≡ Some y) → ⊥
-  none g = cc g
+  pub awaits_none : (o : Option Call) → o ≡ None → AwaitsArgs p pool s n o
+  awaits_none o e = record {
+    call = λ y g. absurd (neither y (sym e ∙ g));
+    begun = λ y g. absurd (neither y (sym e ∙ g));
+    fits = λ y g. absurd (neither y (sym e ∙ g));
+    count = λ y g. absurd (neither y (sym e ∙ g));
+  }
 
 -- the path of the receiver is that of the new object
 pub begun_fits : (old new : List Ty) (before after : Scope) (ty : TyId) (call : Call) (q d : ℕ) → IsScope old before → InPool old ty → Keeps old new
-    → TypeFits (scope_in old before) (shown old ty) → IsBegun new (scope_in old before) before after (shown old ty) None call → q ≡ get_or call.paths.items 0 d
+    → is_class (shown old ty) ≡ true → TypeFits (scope_in old before) (shown old ty) → IsBegun new (scope_in old before) before after (shown old ty) None call
+    → q ≡ get_or call.paths.items 0 d
     → TypedFits (typed_in new after (record { ty = ty; path = Some q }))
-begun_fits old new before after ty call q d s has k f b e =
-    made_fits new before after ty q b.scope (fits_kept s k has f)
+begun_fits old new before after ty call q d s has k c f b e =
+    made_fits new before after ty q b.scope (subst (λ (t : Ty). is_class t ≡ true) (sym (k.shows ty has)) c) (fits_kept s k has f)
     (subst (λ (n : ℕ). passing_in new after n ≡ path_or_fresh (shown new ty) None (scope_in new before)) (sym (e ∙ ap (λ (l : List ℕ). get_or l 0 d) b.paths))
     (b.passing
     ∙ (ap (λ (c : TypeScope). path_or_fresh (shown old ty) None c) (sym (scope_kept before s.known k))

@@ -85,19 +85,21 @@ some_path : (q r : ℕ) → (let o : Option ℕ = Some q in o ≡ Some r) → q 
 some_path q r e = cc
 
 pub plain_fits : (s : TypeScope) (t : Ty) → TypeFits s t → TypedFits (plain t s)
-plain_fits s t f = record { type = f; path = λ q e. absurd (no_path q e) }
+plain_fits s t f = record { type = f; path = λ q e. absurd (no_path q e); class = λ q e. absurd (no_path q e) }
 
 pub path_fits : (s : TypeScope) (q : ℕ) → BindsFit s → PathThere s q → TypedFits (of_path q s)
 path_fits s q f h = record {
   type = (path_known s q f h.bound_in h.long).fits;
   path = λ r e. subst (λ (n : ℕ). PathKnown s n (path_type s q)) (some_path q r e) (of_path_known s q h.bound_in);
+  class = λ r e. refl;
 }
 
--- a fresh path of the type
-pub fresh_fits : (s : TypeScope) (q : ℕ) (t : Ty) → TypeFits s t → BindsFit (bind q t ∷ s) → TypedFits (record { ty = t; path = Some q; scope = bind q t ∷ s })
-fresh_fits s q t f g = record {
+-- a fresh path of a class type
+pub fresh_fits : (s : TypeScope) (q : ℕ) (t : Ty) → is_class t ≡ true → TypeFits s t → BindsFit (bind q t ∷ s) → TypedFits (record { ty = t; path = Some q; scope = bind q t ∷ s })
+fresh_fits s q t c f g = record {
   type = type_later g f;
   path = λ r e. subst (λ (n : ℕ). PathKnown (bind q t ∷ s) n t) (some_path q r e) (fresh_known s q t g);
+  class = λ r e. c;
 }
 
 -- ---- later scopes
@@ -168,6 +170,7 @@ typed_later {old} {new} {before} {after} {v} s k g a has f =
     let w : Grown (scope_in new before) (scope_in new after) = scope_grown new before after g in record {
       type = fits_grown w a.fits.binds h.type;
       path = λ q e. path_grown q w a.fits.binds h.type (h.path q e);
+      class = h.class;
     }
 
 -- a type that has a number, which shows what is no path
@@ -288,9 +291,9 @@ field_put p p0 p1 old new t path q f c u deep w i h found k e =
 
 -- ---- the path of a new object
 
-pub made_fits : (pool : List Ty) (old new : Scope) (id : TyId) (q : ℕ) → IsScope pool new → TypeFits (scope_in pool old) (shown pool id)
+pub made_fits : (pool : List Ty) (old new : Scope) (id : TyId) (q : ℕ) → IsScope pool new → is_class (shown pool id) ≡ true → TypeFits (scope_in pool old) (shown pool id)
     → passing_in pool new q ≡ path_or_fresh (shown pool id) None (scope_in pool old) → TypedFits (typed_in pool new (record { ty = id; path = Some q }))
-made_fits pool old new id q i f e = subst TypedFits same (fresh_fits (scope_in pool old) (next_path (scope_in pool old)) (shown pool id) f
+made_fits pool old new id q i c f e = subst TypedFits same (fresh_fits (scope_in pool old) (next_path (scope_in pool old)) (shown pool id) c f
     (subst BindsFit (ap (λ (x : Passing). x.scope) e) i.fits.binds)) where
       same : (let x : Typed = record { ty = shown pool id; path = Some (next_path (scope_in pool old)); scope = bind (next_path (scope_in pool old)) (shown pool id) ∷ scope_in pool old } in
           x ≡ typed_in pool new (record { ty = id; path = Some q }))

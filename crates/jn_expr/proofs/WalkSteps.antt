@@ -217,10 +217,6 @@ module _ (p : Program) (h : Here) (from : List ℕ) (vars : List Var) (args : Li
     args_fault left show m2 m3 (Refused r) g = next_args.gives r g
     args_fault left show m2 m3 Memory g = tt
 
-  pub args_out : length vars ≤ i → Went p whole (record { paths = to; scope = s }) m0 m1
-  args_out le =
-      leads_done (subst (λ (xs : List Var). Leads p whole (args_typed h from xs (typed_args h (drop i args)) to s) m0 m1) (drop_of_length-le vars {i = i} le) so)
-
   ended : (xs : List Var) → Leads p whole (args_typed h from xs [] to s) m0 m1 → Went p whole (record { paths = to; scope = s }) m0 m1
   ended [] l = leads_done l
   ended (x ∷ xs) l = leads_done l

@@ -1,5 +1,5 @@
 -- What an Env has of its program, and what stays of it.
-use Rattle.std.specs.Prelude.{◌≡◌, [], List}
+use Rattle.std.specs.Prelude.{◌≡◌, ◌≤◌, [], ◌∷◌, List}
 use Rattle.jn_base.specs.declared.tree.Name.{Name}
 use Rattle.jn_base.specs.declared.tree.Method.{Method}
 use Rattle.jn_base.specs.declared.tree.Program.{Program}
@@ -24,7 +24,7 @@ use Rattle.jn_share.specs.Slots.{AreSlots}
 use Rattle.jn_sem.specs.Terms.{Site}
 use Rattle.jn_laws.specs.LawsOfWritten.{Shallow, SiteFits}
 use Rattle.jn_laws.specs.LawsOfSources.{WellFormed}
-use Rattle.jn_rules.specs.Exprs.{Here}
+use Rattle.jn_rules.specs.Exprs.{Here, next_path}
 use Rattle.jn_rule_laws.specs.LawsOfForms.{ScopeFor}
 use Rattle.jn_expr.specs.declared.env.Env.{Env}
 
@@ -63,10 +63,16 @@ pub record ArePartsOf (p : Program) (x : Parts) : Type 0 where
   pub slots : AreSlots p x.table.known.items x.slots
   pub masks : x.masks ≡ mask_names p
 
--- the scope binds its paths to numbers of the pool, and fits
+-- each fresh path has the number that was the next one when it was bound
+abbrev pub InOrder : TypeScope → Type 0
+InOrder [] = Unit {0}
+InOrder (b ∷ s) = InOrder s × (256 ≤ b.path → b.path ≡ next_path s)
+
+-- the scope binds its paths to numbers of the pool, and fits; its fresh paths are numbered in their order
 pub record IsScope (pool : List Ty) (scope : Scope) : Type 0 where
   pub known : ScopeInPool pool scope
   pub fits : ScopeFits (scope_in pool scope)
+  pub order : InOrder (scope_in pool scope)
 
 -- the variables of the place fit, and the scope is theirs, with any masks and with fresh paths
 pub record IsThere (p : Program) (at : Site) (s : TypeScope) : Type 0 where

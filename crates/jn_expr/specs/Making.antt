@@ -1,5 +1,5 @@
 -- The parts of `new`.
-use Rattle.std.specs.Prelude.{◌≡◌, List, [], ◌∷◌, length, Option, Some, None}
+use Rattle.std.specs.Prelude.{◌≡◌, List, [], ◌∷◌, Option, Some, None}
 use Rattle.jn_base.specs.declared.tree.Name.{Name}
 use Rattle.jn_base.specs.declared.tree.Expr.{Expr}
 use Rattle.jn_base.specs.declared.tree.Method.{Method}
@@ -17,7 +17,6 @@ use Rattle.jn_expr.specs.declared.news.Making.{Making}
 use Rattle.jn_expr.specs.Envs.{IsScope}
 use Rattle.jn_expr.specs.Passing.{Grows}
 use Rattle.jn_expr.specs.Values.{typed_in, TypedFits}
-use Rattle.jn_expr.specs.Steps.{IsCall}
 
 -- the declaration at Q has the body of the constructor of B
 abbrev pub HasConstructor : Program → Path → Path → Method → Type 0
@@ -39,11 +38,9 @@ made_call h pool scope es v (Some call) =
 abbrev pub made_left : Here → List Ty → NumberScope → List (Expr × Typing) → Making → Plan Typed
 made_left h pool scope es m = made_call h pool scope es m.value m.call
 
--- the new object has its number and fits, and the call of its constructor its header
+-- the new object has its number and fits
 pub record IsMade (pool : List Ty) (before after : NumberScope) (m : Making) : Type 0 where
   pub number : InPool pool m.value.ty
   pub scope : IsScope pool after
   pub grows : Grows before after
   pub fits : TypedFits (typed_in pool after m.value)
-  pub call : (c : Call) → m.call ≡ Some c → IsCall pool c
-  pub begun : (c : Call) → m.call ≡ Some c → length c.paths.items ≡ 1

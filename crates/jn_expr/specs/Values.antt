@@ -1,8 +1,9 @@
 -- What an expression has, by numbers of a pool.
-use Rattle.std.specs.Prelude.{◌≡◌, ℕ, List, [], ◌∷◌, Option, Some, None}
+use Rattle.std.specs.Prelude.{◌≡◌, ℕ, List, [], ◌∷◌, true, Option, Some, None}
 use Rattle.jn_base.specs.declared.types.Ty.{Ty}
 use Rattle.jn_base.specs.declared.types.ValKind.{ValKind}
 use Rattle.jn_base.specs.Fits.{TypeFits}
+use Rattle.jn_base.specs.Resolve.{is_class}
 use Rattle.jn_intern.specs.declared.pool.TyId.{TyId}
 use Rattle.jn_intern.specs.declared.scope.Scope.{Scope}
 use Rattle.jn_intern.specs.Pools.{InPool, shown, scope_in}
@@ -19,10 +20,11 @@ use Rattle.jn_expr.specs.Told.{Adds}
 abbrev pub typed_in : List Ty → Scope → Value → Typed
 typed_in pool scope v = record { ty = shown pool v.ty; path = v.path; scope = scope_in pool scope }
 
--- the type fits, and the path, where there is one, is in the scope, with a bound as deep as the type's
+-- The type fits. Where there is a path, it is in the scope, with a bound as deep as the type's, and that is a class type.
 pub record TypedFits (x : Typed) : Type 0 where
   pub type : TypeFits x.scope x.ty
   pub path : (q : ℕ) → x.path ≡ Some q → PathKnown x.scope q x.ty
+  pub class : (q : ℕ) → x.path ≡ Some q → is_class x.ty ≡ true
 
 -- the number of the value is in the pool, and its type fits; the scope has grown, and still fits
 pub record IsValue (pool : List Ty) (old new : Scope) (v : Value) : Type 0 where

@@ -1,23 +1,24 @@
 //! Calls, but for going over their arguments.
 
 ghost use Rattle.std.specs.Prelude.{◌≡◌, ◌≤◌, ◌+◌, ◌-◌, ◌++◌, [], ◌∷◌, ℕ, List, length, slice_get, IfOk, OnOk};
-ghost use Rattle.jn_base.specs.declared.tree.Program.{Program as AProgram};
 ghost use Rattle.jn_base.specs.declared.tree.Expr.{Expr as AnExpr};
 ghost use Rattle.jn_base.specs.declared.names.Var.{Var as AVar};
+ghost use Rattle.jn_base.specs.Members.{MethodAt};
 ghost use Rattle.jn_base.specs.Scopes.{Scope as AScope};
-ghost use Rattle.jn_table.specs.Tables.{IsFilled};
 ghost use Rattle.jn_intern.specs.Pools.{InPool, shown, scope_in, Keeps};
 ghost use Rattle.jn_rules.specs.Plans.{Plan};
 ghost use Rattle.jn_rules.specs.Headers.{Header as TypedHeader};
 ghost use Rattle.jn_rules.specs.Exprs.{Typing, Typed, Passed, suffix_typed, replaced_paths, put_in, result_gives, type_passed};
 ghost use Rattle.jn_heads.specs.Params.{header_in};
+ghost use Rattle.jn_sem.specs.Normal.{swapped, MovedFits};
+ghost use Rattle.jn_rule_laws.specs.LawsOfOneHeader.{HeaderFits};
 ghost use Rattle.jn_expr.specs.Envs.{ArePartsOf, IsScope, Stays, parts, here_at};
 ghost use Rattle.jn_expr.specs.Passing.{Shows};
 ghost use Rattle.jn_expr.specs.Told.{PlanTold};
 ghost use Rattle.jn_base.specs.Fits.{TypeFits};
 ghost use Rattle.jn_expr.specs.Values.{IsValue, TypedFits, typed_in};
-ghost use Rattle.jn_expr.specs.Steps.{LeadsTold, entered, IsCall, passed_in};
-ghost use Rattle.jn_expr.specs.Calling.{body_of, OwnerLeads, receiver_left, called, Begins, IsBegun, arg_left, IsPassed};
+ghost use Rattle.jn_expr.specs.Steps.{LeadsTold, entered, passed_in};
+ghost use Rattle.jn_expr.specs.Calling.{body_of, OwnerLeads, receiver_left, called, Begins, IsBegun, DeepAs, CallFits, arg_left, IsPassed};
 
 use crate::env::{Call, Env, Value};
 use crate::fault::refused;
@@ -27,7 +28,7 @@ use crate::marks::note_member;
 use crate::masks::{first_mask, masks_of};
 use crate::members::method_of;
 use crate::operators::is_null;
-use crate::types::{below, path_of, put_tested};
+use crate::types::{below, path_of, put_in};
 use crate::values::is_class;
 use crate::views::plain_of;
 use jn_base::names::Var;
@@ -77,11 +78,14 @@ pub fn enter(
     at: Place,
     count: usize,
 ) -> Result<Header, CheckFault>
-    requires { ArePartsOf p.now (parts env.old) }
+    requires parts { ArePartsOf p.now (parts env.old) }
+    requires at { MethodAt p.now owner.now method.now.name.name method.now }
     ensures told { (go : TypedHeader → Plan Typed) → LeadsTold p.now
         (entered (here_at class.now m.now env.old.vars.list) (body_of owner.now method.now) at count go)
         (λ h. go (header_in env.new.pool h)) env.old.marks env.new.marks result }
     ensures number { IfOk result (λ h. InPool env.new.pool h.result) }
+    ensures fits { IfOk result (λ h. HeaderFits p.now (body_of owner.now method.now) (header_in env.new.pool h)) }
+    ensures count { IfOk result (λ h. length h.at.vars.list ≡ count) }
     ensures stays { Stays env.old env.new }
 {
     match header_of(
@@ -122,11 +126,15 @@ pub fn enter_with(
     requires scope { IsScope env.old.pool scope.old }
     requires number { InPool env.old.pool x.ty }
     requires fits { TypedFits (typed_in env.old.pool scope.old x) }
+    requires at { MethodAt p.now owner.now method.now.name.name method.now }
+    requires deep { DeepAs (scope_in env.old.pool scope.old) (shown env.old.pool x.ty) owner.now }
     ensures told { (go : TypedHeader → Plan Typed) → LeadsTold p.now
         (entered (here_at class.now m.now env.old.vars.list) (body_of owner.now method.now) at count go)
         (λ call. go (header_in env.new.pool call.header)) env.old.marks env.new.marks result }
     ensures call { IfOk result (λ call. IsBegun env.new.pool (scope_in env.old.pool scope.old) scope.old scope.new
         (shown env.old.pool x.ty) x.path call) }
+    ensures fits { IfOk result (λ call. CallFits p.now env.new.pool (scope_in env.new.pool scope.new) call) }
+    ensures count { IfOk result (λ call. length call.header.at.vars.list ≡ count) }
     ensures stays { Stays env.old env.new }
 {
     match enter(alloc, p, class, m, env, owner, method, at, count) {
@@ -155,11 +163,12 @@ fn receiver(
     requires parts { ArePartsOf p.now (parts env.now) }
     requires scope { IsScope env.now.pool scope.now }
     requires number { InPool env.now.pool x.ty }
-    ensures { (es : List (AnExpr × Typing)) → OwnerLeads p.now name.now.name
+    ensures told { (es : List (AnExpr × Typing)) → OwnerLeads p.now name.now.name
         (suffix_typed (here_at class.now m.now env.now.vars.list) name.now (Some es) at
         (typed_in env.now.pool scope.now x))
         (receiver_left (here_at class.now m.now env.now.vars.list) name.now es (typed_in env.now.pool scope.now x))
         env.now.marks env.now.marks result }
+    ensures deep { IfOk result (λ Q. DeepAs (scope_in env.now.pool scope.now) (shown env.now.pool x.ty) Q) }
 {
     let ty = env.pool.show(x.ty);
     if !is_class(ty) {
@@ -208,6 +217,8 @@ pub fn begin_method(
         env.old.marks env.new.marks result }
     ensures call { IfOk result (λ call. IsBegun env.new.pool (scope_in env.old.pool scope.old) scope.old scope.new
         (shown env.old.pool x.ty) x.path call) }
+    ensures fits { IfOk result (λ call. CallFits p.now env.new.pool (scope_in env.new.pool scope.new) call) }
+    ensures count { IfOk result (λ call. length call.header.at.vars.list ≡ count) }
     ensures stays { Stays env.old env.new }
 {
     match receiver(alloc, p, class, m, env, scope, at, x, name) {
@@ -230,6 +241,8 @@ pub fn begin_method(
 fn wanted(alloc: Global, pool: &mut Pool, scope: &Scope, call: &Call) -> Result<TyId, AllocError>
     requires scope { IsScope pool.old scope.now }
     requires short { length call.now.paths.items ≤ length call.now.from.items }
+    requires moved { (x : AVar) → slice_get call.now.header.at.vars.list (length call.now.paths.items - 1) ≡ Some x
+        → MovedFits (scope_in pool.old scope.now) (swapped call.now.from.items call.now.paths.items) x.ty }
     ensures is { IfOk result (λ u. (x : AVar) → slice_get call.now.header.at.vars.list
         (length call.now.paths.items - 1) ≡ Some x
         → Shows pool.new u (put_in (scope_in pool.old scope.now) call.now.from.items call.now.paths.items x.ty)) }
@@ -242,7 +255,7 @@ fn wanted(alloc: Global, pool: &mut Pool, scope: &Scope, call: &Call) -> Result<
         None => Err(AllocError),
         Some(x) => {
             let ty = pool.intern(&x.ty)?;
-            put_tested(alloc, pool, scope, ty, &call.from, &call.paths)
+            put_in(alloc, pool, scope, ty, &call.from, &call.paths)
         }
     }
 }
@@ -263,6 +276,7 @@ fn type_passed(pool: &Pool, ty: TyId, want: TyId) -> TyId
 /// Passes an argument that stands at the place: E18 where it is not below the type of its parameter.
 pub fn pass_arg(
     alloc: Global,
+    p: &Program,
     class: &Bound,
     m: &Method,
     env: &mut Env,
@@ -271,21 +285,22 @@ pub fn pass_arg(
     place: Place,
     v: Value,
 ) -> Result<(), CheckFault>
+    requires parts { ArePartsOf p.now (parts env.old) }
     requires scope { IsScope env.old.pool scope.old }
     requires number { InPool env.old.pool v.ty }
     requires fits { TypedFits (typed_in env.old.pool scope.old v) }
-    ensures told { (p : AProgram) (x : AVar) (go : List ℕ → AScope → Plan Passed) → IsFilled p env.old.table
-        → slice_get call.old.header.at.vars.list (length call.old.paths.items - 1) ≡ Some x → LeadsTold p
+    requires call { CallFits p.now env.old.pool (scope_in env.old.pool scope.old) call.old }
+    requires next { length call.old.paths.items ≤ length call.old.header.at.vars.list }
+    ensures told { (x : AVar) (go : List ℕ → AScope → Plan Passed)
+        → slice_get call.old.header.at.vars.list (length call.old.paths.items - 1) ≡ Some x → LeadsTold p.now
         (arg_left (here_at class.now m.now env.old.vars.list) call.old.from.items x place
         (typed_in env.old.pool scope.old v) call.old.paths.items go)
         (λ u. go call.new.paths.items (scope_in env.new.pool scope.new)) env.old.marks env.new.marks result }
     ensures passed { OnOk result (IsPassed env.new.pool scope.old scope.new call.old call.new) }
     ensures longer { OnOk result (length call.new.paths.items ≡ length call.old.paths.items + 1) }
+    ensures fits { OnOk result (CallFits p.now env.new.pool (scope_in env.new.pool scope.new) call.new) }
     ensures stays { Stays env.old env.new }
 {
-    if call.paths.len() > call.from.len() {
-        return Err(CheckFault::Memory);
-    }
     let want = wanted(alloc, &mut env.pool, scope, call)?;
     if !below(&mut env.judge, &mut env.pool, &env.table, scope, v.ty, want)? {
         return Err(refused(alloc, Rule::E18, place, class, m.name.name));
@@ -299,22 +314,21 @@ pub fn pass_arg(
 /// The result of a call, with the paths of its receiver and its arguments put for `this` and the parameters.
 pub fn result_of(
     alloc: Global,
+    p: &Program,
     env: &mut Env,
     scope: &Scope,
     call: &Call,
 ) -> Result<Value, CheckFault>
     requires scope { IsScope env.old.pool scope.now }
-    requires call { IsCall env.old.pool call.now }
-    ensures told { (p : AProgram) → PlanTold p (result_gives (header_in env.old.pool call.now.header)
+    requires call { CallFits p.now env.old.pool (scope_in env.old.pool scope.now) call.now }
+    requires full { length call.now.paths.items ≡ length call.now.header.at.vars.list + 1 }
+    ensures told { PlanTold p.now (result_gives (header_in env.old.pool call.now.header)
         (passed_in env.old.pool scope.now call.now))
         (typed_in env.new.pool scope.now) env.old.marks env.new.marks result }
     ensures value { IfOk result (λ v. IsValue env.new.pool scope.now scope.now v) }
     ensures stays { Stays env.old env.new }
 {
-    if call.paths.len() > call.from.len() {
-        return Err(CheckFault::Memory);
-    }
-    let put = put_tested(
+    let put = put_in(
         alloc,
         &mut env.pool,
         scope,

@@ -1,6 +1,6 @@
 //! The root closure of a type: each path is replaced by the atoms of its own type, until none is left.
 
-ghost use Rattle.std.specs.Prelude.{◌≡◌, ◌↔◌, ◌<◌, ◌^◌, [], ◌∷◌, All, Contains, IfOk, IfSome, IfNone, map};
+ghost use Rattle.std.specs.Prelude.{◌≡◌, ◌↔◌, ◌<◌, ◌^◌, [], ◌∷◌, All, Contains, IfOk, map};
 ghost use Rattle.jn_base.specs.declared.tree.Program.{Program};
 ghost use Rattle.jn_base.specs.Atoms.{Atom as AnAtom, Among, atom_of, atoms_in, levels};
 ghost use Rattle.jn_base.specs.Fits.{Anchored, BindsFit, TypeFits};
@@ -13,25 +13,12 @@ ghost use Rattle.jn_rules.specs.Questions.{IsClosure};
 ghost use Rattle.jn_expr.specs.Closed.{OpensBy};
 
 use jn_base::types::{Anchor, Atom, Ty};
-use jn_intern::{Bind, Pool, Scope};
+use jn_intern::{Pool, Scope, bind_of};
 use jn_normal::Conjunct;
-use jn_subtype::atom_bound;
+use jn_subtype::scope_bound;
 use jn_table::Table;
 use sqlite_items::Items;
 use std::alloc::{AllocError, Global};
-
-/// The bind of a path.
-fn bind_of(binds: &[Bind], path: u32) -> Option<Bind>
-    ensures some { IfSome result (λ b. Contains binds.now b × (b.path ≡ path)) }
-    ensures none { IfNone result (All (λ b. b.path ≡ path → ⊥) binds.now) }
-{
-    for bind in binds {
-        if bind.path == path {
-            return Some(*bind);
-        }
-    }
-    None
-}
 
 /// The atom alone.
 fn only(alloc: Global, x: &Atom) -> Result<Items<Atom>, AllocError>
@@ -122,7 +109,7 @@ fn open(
     ensures { IfOk result (λ ts. (p : Program) → IsFilled p table.now → (t : AnAtom) → Contains (map atom_of ts) t
         ↔ Opens p (scope_in pool.now scope.now) (atom_of x.now) t) }
 {
-    let bound = atom_bound(alloc, pool, scope.binds.as_slice(), x)?;
+    let bound = scope_bound(alloc, pool, scope, x)?;
     if !bound.is_known(table) {
         return Ok(Items::new(alloc));
     }

@@ -8,14 +8,11 @@ ghost use Rattle.jn_base.specs.Atoms.{atom_of};
 ghost use Rattle.jn_base.specs.Scopes.{bound};
 ghost use Rattle.jn_base.specs.Fits.{Anchored, AtomsFit, TypeFits};
 ghost use Rattle.jn_intern.specs.Pools.{ScopeInPool, scope_in};
-ghost use Rattle.jn_sem.specs.Normal.{swapped, moved, MovedFits};
 ghost use Rattle.jn_expr.specs.Fitting.{FitsAt};
 
 use jn_base::types::{Anchor, Atom, Ty};
 use jn_intern::{Pool, Scope};
-use jn_normal::{Conjunct, moved};
 use jn_subtype::{atom_bound, path_bound};
-use sqlite_items::Items;
 use std::alloc::{AllocError, Global};
 
 /// How many names the bound of an atom has.
@@ -103,50 +100,6 @@ pub fn type_fits(alloc: Global, pool: &Pool, scope: &Scope, ty: &Ty) -> Result<b
 {
     match ty {
         Ty::Class(xs, _) => atoms_fit(alloc, pool, scope, xs.as_slice()),
-        Ty::Int => Ok(true),
-        Ty::Bool => Ok(true),
-        Ty::Null => Ok(true),
-        Ty::Void => Ok(true),
-    }
-}
-
-/// The atoms with their paths replaced.
-fn moved_atoms(
-    alloc: Global,
-    xs: &[Atom],
-    from: &[u32],
-    to: &[u32],
-) -> Result<Items<Atom>, AllocError>
-    requires { length from.now ≡ length to.now }
-    ensures { IfOk result (λ ys. map atom_of ys ≡ map (moved (swapped from.now to.now)) (map atom_of xs.now)) }
-{
-    let mut all = Items::new(alloc);
-    for x in xs {
-        let y = Conjunct::at(alloc, moved(from, to, x.anchor), x)?;
-        all.push(y.shown())?;
-    }
-    Ok(all)
-}
-
-/// Whether the type with its paths replaced fits the scope.
-pub fn moved_fits(
-    alloc: Global,
-    pool: &Pool,
-    scope: &Scope,
-    ty: &Ty,
-    from: &[u32],
-    to: &[u32],
-) -> Result<bool, AllocError>
-    requires long { length from.now ≡ length to.now }
-    requires known { ScopeInPool pool.now scope.now }
-    ensures { IfOk result (λ r. IsTrue r
-        → MovedFits (scope_in pool.now scope.now) (swapped from.now to.now) ty.now) }
-{
-    match ty {
-        Ty::Class(xs, _) => {
-            let ys = moved_atoms(alloc, xs.as_slice(), from, to)?;
-            atoms_fit(alloc, pool, scope, ys.as_slice())
-        }
         Ty::Int => Ok(true),
         Ty::Bool => Ok(true),
         Ty::Null => Ok(true),

@@ -33,5 +33,5 @@ pub use masks::{is_masked, masks_of};
 pub use members::{Declared, constructor_from, field_of, least_at};
 pub use operators::{is_bool, is_int, is_null, is_object};
 pub use types::{below, normal_of, path_of, put_in};
-pub use values::{is_class, masks_at, newest, path_type};
+pub use values::{is_class, masks_at, newest};
 pub use walk::{type_of, value_of};

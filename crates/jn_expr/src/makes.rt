@@ -3,6 +3,7 @@
 ghost use Rattle.std.specs.Prelude.{◌≡◌, IfOk};
 ghost use Rattle.jn_base.specs.declared.types.Atom.{Atom as AnAtom};
 ghost use Rattle.jn_base.specs.Atoms.{atom_of};
+ghost use Rattle.jn_base.specs.Scopes.{bound};
 ghost use Rattle.jn_heads.specs.Told.{Told, itself};
 ghost use Rattle.jn_base.specs.Fits.{TypeFits};
 ghost use Rattle.jn_intern.specs.Pools.{shown, scope_in, Keeps};
@@ -12,6 +13,7 @@ ghost use Rattle.jn_rules.specs.Exprs.{Typed, site_here, made_exact, of_atom};
 ghost use Rattle.jn_sem.specs.NormalFunction.{normal_type};
 ghost use Rattle.jn_expr.specs.Envs.{ArePartsOf, IsScope, Stays, parts, here_at};
 ghost use Rattle.jn_expr.specs.Passing.{Shows};
+ghost use Rattle.jn_expr.specs.Calling.{DeepAs};
 ghost use Rattle.jn_expr.specs.Steps.{LeadsTold};
 
 use crate::env::Env;
@@ -117,6 +119,8 @@ pub fn made_type(
     ensures is { IfOk result (λ u. Shows pool.new u
         (normal_type (scope_in pool.old scope.now) (made_exact (atom_of x.now)))) }
     ensures fits { IfOk result (λ u. TypeFits (scope_in pool.new scope.now) (shown pool.new u)) }
+    ensures deep { IfOk result (λ u. DeepAs (scope_in pool.new scope.now) (shown pool.new u)
+        (bound (scope_in pool.old scope.now) (atom_of x.now))) }
     ensures keeps { Keeps pool.old pool.new }
 {
     let ty = exact_type(alloc, x)?;
@@ -134,6 +138,8 @@ pub fn normal_atom(
     requires { IsScope pool.old scope.now }
     ensures is { IfOk result (λ u. Shows pool.new u (normal_type (scope_in pool.old scope.now) (of_atom x.now))) }
     ensures fits { IfOk result (λ u. TypeFits (scope_in pool.new scope.now) (shown pool.new u)) }
+    ensures deep { IfOk result (λ u. DeepAs (scope_in pool.new scope.now) (shown pool.new u)
+        (bound (scope_in pool.old scope.now) (atom_of x.now))) }
     ensures keeps { Keeps pool.old pool.new }
 {
     let ty = atom_type(alloc, x)?;

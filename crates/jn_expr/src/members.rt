@@ -5,6 +5,7 @@ ghost use Rattle.jn_base.specs.declared.tree.Program.{Program as AProgram};
 ghost use Rattle.jn_base.specs.Paths.{Path as APath};
 ghost use Rattle.jn_base.specs.Duplicates.{duplicates};
 ghost use Rattle.jn_base.specs.Atoms.{atom_of, atoms_in};
+ghost use Rattle.jn_base.specs.Fits.{BindsFit};
 ghost use Rattle.jn_intern.specs.Pools.{ScopeInPool, scope_in};
 ghost use Rattle.jn_table.specs.Rows.{IsNumber};
 ghost use Rattle.jn_names.specs.Members.{IsMembersOf};
@@ -19,7 +20,7 @@ use jn_base::types::{Atom, Ty};
 use jn_heads::spot;
 use jn_intern::{Pool, Scope};
 use jn_names::{Bound, Least, Members, resolve_type};
-use jn_subtype::atom_bound;
+use jn_subtype::scope_bound;
 use jn_table::{ClassId, Table};
 use sqlite_items::{Items, at};
 use std::alloc::{AllocError, Global};
@@ -116,12 +117,13 @@ fn method_of_atoms(
     xs: &[Atom],
     name: Name,
 ) -> Result<Option<Bound>, AllocError>
-    requires { ScopeInPool pool.now scope.now }
+    requires known { ScopeInPool pool.now scope.now }
+    requires fits { BindsFit (scope_in pool.now scope.now) }
     ensures { IfOk result (λ o. (p : AProgram) → IsMembersOf p table.now members.now
         → MethodFirst p (scope_in pool.now scope.now) (map atom_of xs.now) name o) }
 {
     for x in xs {
-        let b = atom_bound(alloc, pool, scope.binds.as_slice(), x)?;
+        let b = scope_bound(alloc, pool, scope, x)?;
         match least_at(alloc, table, members, &b, name)? {
             None => {}
             Some(found) => return Ok(Some(found)),
@@ -140,12 +142,13 @@ fn field_of_atoms(
     xs: &[Atom],
     name: Name,
 ) -> Result<Option<Bound>, AllocError>
-    requires { ScopeInPool pool.now scope.now }
+    requires known { ScopeInPool pool.now scope.now }
+    requires fits { BindsFit (scope_in pool.now scope.now) }
     ensures { IfOk result (λ o. (p : AProgram) → IsMembersOf p table.now members.now
         → FieldFirst p (scope_in pool.now scope.now) (map atom_of xs.now) name o) }
 {
     for x in xs {
-        let b = atom_bound(alloc, pool, scope.binds.as_slice(), x)?;
+        let b = scope_bound(alloc, pool, scope, x)?;
         match field_from(alloc, table, members, &b, name)? {
             None => {}
             Some(found) => return Ok(Some(found)),
@@ -164,7 +167,8 @@ pub fn method_of(
     ty: &Ty,
     name: Name,
 ) -> Result<Option<Bound>, AllocError>
-    requires { ScopeInPool pool.now scope.now }
+    requires known { ScopeInPool pool.now scope.now }
+    requires fits { BindsFit (scope_in pool.now scope.now) }
     ensures { IfOk result (λ o. (p : AProgram) → IsMembersOf p table.now members.now
         → MethodFirst p (scope_in pool.now scope.now) (atoms_in ty.now) name o) }
 {
@@ -189,7 +193,8 @@ fn field_class(
     ty: &Ty,
     name: Name,
 ) -> Result<Option<Bound>, AllocError>
-    requires { ScopeInPool pool.now scope.now }
+    requires known { ScopeInPool pool.now scope.now }
+    requires fits { BindsFit (scope_in pool.now scope.now) }
     ensures { IfOk result (λ o. (p : AProgram) → IsMembersOf p table.now members.now
         → FieldFirst p (scope_in pool.now scope.now) (atoms_in ty.now) name o) }
 {
@@ -252,6 +257,7 @@ pub fn field_of(
     requires ready { IsReady p.now table.old masks.now }
     requires members { IsMembersOf p.now table.old members.now }
     requires known { ScopeInPool pool.now scope.now }
+    requires fits { BindsFit (scope_in pool.now scope.now) }
     ensures is { IfOk result (λ o. Finds (IsFoundField p.now (scope_in pool.now scope.now) ty.now name) (found_in o)) }
     ensures kept { table.new ≡ table.old }
 {

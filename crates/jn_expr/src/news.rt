@@ -1,11 +1,13 @@
 //! `new`, but for going over its arguments.
 
-ghost use Rattle.std.specs.Prelude.{◌≡◌, List, length, IfOk};
+ghost use Rattle.std.specs.Prelude.{◌≡◌, List, length, true, None, IfOk};
 ghost use Rattle.jn_base.specs.declared.tree.Program.{Program as AProgram};
 ghost use Rattle.jn_base.specs.declared.tree.Expr.{Expr as AnExpr};
 ghost use Rattle.jn_intern.specs.Pools.{InPool, shown, scope_in};
 ghost use Rattle.jn_base.specs.declared.names.Role.TheVariants as role;
 ghost use Rattle.jn_base.specs.Atoms.{atom_of};
+ghost use Rattle.jn_base.specs.Members.{MethodAt};
+ghost use Rattle.jn_base.specs.Resolve.{is_class};
 ghost use Rattle.jn_base.specs.Scopes.{bound};
 ghost use Rattle.jn_sem.specs.NormalFunction.{normal_type};
 ghost use Rattle.jn_rules.specs.Plans.{OfConstructor, OfTerm, ask, taken};
@@ -15,7 +17,8 @@ ghost use Rattle.jn_expr.specs.Told.{PlanTold};
 ghost use Rattle.jn_base.specs.Fits.{TypeFits};
 ghost use Rattle.jn_expr.specs.Values.{IsValue, TypedFits, typed_in};
 ghost use Rattle.jn_expr.specs.Steps.{LeadsTold};
-ghost use Rattle.jn_expr.specs.Calling.{body_of};
+ghost use Rattle.jn_expr.specs.Calling.{body_of, DeepAs};
+ghost use Rattle.jn_expr.specs.Typing.{AwaitsArgs};
 ghost use Rattle.jn_expr.specs.Making.{IsLast, IsMade, made_left};
 
 use crate::calls::enter_with;
@@ -33,7 +36,7 @@ use jn_base::types::Atom;
 use jn_heads::CheckFault;
 use jn_intern::{Scope, TyId};
 use jn_names::Bound;
-use jn_subtype::atom_bound;
+use jn_subtype::scope_bound;
 use std::alloc::Global;
 
 /// A `new` whose arguments are still to come: the new object with its path, and the call of its constructor, where it
@@ -58,11 +61,13 @@ pub fn make_without(
     requires scope { IsScope env.now.pool scope.old }
     requires number { InPool env.now.pool ty }
     requires fits { TypeFits (scope_in env.now.pool scope.old) (shown env.now.pool ty) }
+    requires class { is_class (shown env.now.pool ty) ≡ true }
     ensures told { (p : AProgram) (es : List (AnExpr × Typing)) → length es ≡ count → LeadsTold p
         (made_without (here_at class.now m.now env.now.vars.list) at es (scope_in env.now.pool scope.old)
         (shown env.now.pool ty))
         (made_left (here_at class.now m.now env.now.vars.list) env.now.pool scope.new es) env.now.marks env.now.marks result }
     ensures made { IfOk result (IsMade env.now.pool scope.old scope.new) }
+    ensures none { IfOk result (λ x. x.call ≡ None) }
 {
     if count != 0 {
         return Err(refused(alloc, Rule::E17, at, class, m.name.name));
@@ -96,11 +101,14 @@ pub fn make_by(
     requires scope { IsScope env.old.pool scope.old }
     requires number { InPool env.old.pool ty }
     requires fits { TypeFits (scope_in env.old.pool scope.old) (shown env.old.pool ty) }
+    requires at { MethodAt p.now owner.now method.now.name.name method.now }
+    requires deep { DeepAs (scope_in env.old.pool scope.old) (shown env.old.pool ty) owner.now }
     ensures told { (es : List (AnExpr × Typing)) → length es ≡ count → LeadsTold p.now
         (made_with (here_at class.now m.now env.old.vars.list) at es (scope_in env.old.pool scope.old)
         (shown env.old.pool ty) (Some (body_of owner.now method.now)))
         (made_left (here_at class.now m.now env.old.vars.list) env.new.pool scope.new es) env.old.marks env.new.marks result }
     ensures made { IfOk result (IsMade env.new.pool scope.old scope.new) }
+    ensures awaits { IfOk result (λ x. AwaitsArgs p.now env.new.pool (scope_in env.new.pool scope.new) count x.call) }
     ensures stays { Stays env.old env.new }
 {
     let x = Value { ty, path: None };
@@ -167,9 +175,10 @@ pub fn make_of(
         (normal_type (scope_in env.old.pool scope.old) (made_exact (atom_of x.now)))))
         (made_left (here_at class.now m.now env.old.vars.list) env.new.pool scope.new es) env.old.marks env.new.marks result }
     ensures made { IfOk result (IsMade env.new.pool scope.old scope.new) }
+    ensures awaits { IfOk result (λ x. AwaitsArgs p.now env.new.pool (scope_in env.new.pool scope.new) count x.call) }
     ensures stays { Stays env.old env.new }
 {
-    let b = atom_bound(alloc, &env.pool, scope.binds.as_slice(), x)?;
+    let b = scope_bound(alloc, &env.pool, scope, x)?;
     let ty = made_type(alloc, &mut env.pool, scope, x)?;
     match constructor_from(alloc, &env.table, &env.members, &b)? {
         None => make_without(alloc, class, m, env, scope, at, ty, count),
@@ -210,6 +219,7 @@ pub fn begin_new(
         (taken (new_typed (here_at class.now m.now env.old.vars.list) at es (scope_in env.old.pool scope.old))))
         (made_left (here_at class.now m.now env.old.vars.list) env.new.pool scope.new es) env.old.marks env.new.marks result }
     ensures made { IfOk result (IsMade env.new.pool scope.old scope.new) }
+    ensures awaits { IfOk result (λ x. AwaitsArgs p.now env.new.pool (scope_in env.new.pool scope.new) count x.call) }
     ensures stays { Stays env.old env.new }
 {
     match begin_term(alloc, p, class, m, env, Role::New, t) {

@@ -1,16 +1,17 @@
 //! Calls of `super`, before their arguments and behind them.
 
-ghost use Rattle.std.specs.Prelude.{List, IfOk};
+ghost use Rattle.std.specs.Prelude.{◌≡◌, ◌+◌, List, length, IfOk};
 ghost use Rattle.jn_base.specs.declared.tree.Expr.{Expr as AnExpr};
 ghost use Rattle.jn_base.specs.declared.names.Role.TheVariants as role;
+ghost use Rattle.jn_base.specs.Scopes.{bound_of};
 ghost use Rattle.jn_intern.specs.Pools.{scope_in};
 ghost use Rattle.jn_heads.specs.Params.{header_in};
 ghost use Rattle.jn_rules.specs.Plans.{OfTerm, ask, taken};
 ghost use Rattle.jn_rules.specs.Exprs.{Typing, site_here, super_typed, super_gives, constraints_granted, result_gives};
 ghost use Rattle.jn_expr.specs.Envs.{ArePartsOf, IsScope, Stays, parts, here_at};
 ghost use Rattle.jn_expr.specs.Told.{PlanTold};
-ghost use Rattle.jn_expr.specs.Steps.{IsCall, passed_in};
-ghost use Rattle.jn_expr.specs.Calling.{body_of, OwnerLeads};
+ghost use Rattle.jn_expr.specs.Steps.{passed_in};
+ghost use Rattle.jn_expr.specs.Calling.{body_of, OwnerLeads, CallFits};
 ghost use Rattle.jn_expr.specs.Variables.{PathThere};
 ghost use Rattle.jn_expr.specs.Values.{IsValue, typed_in};
 
@@ -45,6 +46,7 @@ pub fn begin_super(
         (scope_in env.old.pool scope.now))))
         (super_gives (here_at class.now m.now env.old.vars.list) name.now es (scope_in env.old.pool scope.now))
         env.old.marks env.new.marks result }
+    ensures deep { IfOk result (λ Q. length (bound_of (scope_in env.old.pool scope.now) 0) ≡ length Q) }
     ensures stays { Stays env.old env.new }
 {
     match begin_term(alloc, p, class, m, env, Role::Super, t) {
@@ -68,7 +70,8 @@ pub fn end_super(
 ) -> Result<Value, CheckFault>
     requires parts { ArePartsOf p.now (parts env.old) }
     requires scope { IsScope env.old.pool scope.now }
-    requires call { IsCall env.old.pool call.now }
+    requires call { CallFits p.now env.old.pool (scope_in env.old.pool scope.now) call.now }
+    requires full { length call.now.paths.items ≡ length call.now.header.at.vars.list + 1 }
     ensures told { PlanTold p.now
         (constraints_granted (here_at class.now m.now env.old.vars.list) (body_of owner.now method.now) name.now
         (scope_in env.old.pool scope.now) method.now.sharing
@@ -79,6 +82,6 @@ pub fn end_super(
 {
     match constraints_granted(alloc, p, class, m, env, scope, owner, method, name) {
         Err(fault) => Err(fault),
-        Ok(()) => result_of(alloc, env, scope, call),
+        Ok(()) => result_of(alloc, p, env, scope, call),
     }
 }

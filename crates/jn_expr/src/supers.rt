@@ -1,9 +1,11 @@
 //! `super`, but for going over its arguments and what its body's header asks.
 
-ghost use Rattle.std.specs.Prelude.{◌≡◌, List, length, IfOk};
+ghost use Rattle.std.specs.Prelude.{◌≡◌, List, length, IfOk, IsTrue};
 ghost use Rattle.jn_base.specs.declared.tree.Program.{Program as AProgram};
 ghost use Rattle.jn_base.specs.declared.tree.Expr.{Expr as AnExpr};
-ghost use Rattle.jn_base.specs.Scopes.{Scope as AScope};
+ghost use Rattle.jn_base.specs.Atoms.{atom_of};
+ghost use Rattle.jn_base.specs.Members.{MethodAt};
+ghost use Rattle.jn_base.specs.Scopes.{Scope as AScope, Binds, bound_of, bound};
 ghost use Rattle.jn_table.specs.Tables.{IsFilled};
 ghost use Rattle.jn_intern.specs.Pools.{scope_in, Keeps};
 ghost use Rattle.jn_sem.specs.Below.{Below};
@@ -14,7 +16,7 @@ ghost use Rattle.jn_rules.specs.Plans.{Plan};
 ghost use Rattle.jn_rules.specs.Exprs.{Typing, Typed, path_type, of_atom, super_gives, constraints_granted};
 ghost use Rattle.jn_expr.specs.Envs.{ArePartsOf, IsScope, Stays, parts, here_at};
 ghost use Rattle.jn_expr.specs.Steps.{LeadsTold, IsCall};
-ghost use Rattle.jn_expr.specs.Calling.{body_of, OwnerLeads};
+ghost use Rattle.jn_expr.specs.Calling.{body_of, OwnerLeads, CallFits};
 ghost use Rattle.jn_expr.specs.Variables.{PathThere};
 ghost use Rattle.jn_expr.specs.Supering.{super_asked, super_left, constraint_asked};
 
@@ -32,7 +34,7 @@ use jn_base::types::Atom;
 use jn_heads::{CheckFault, pledge_of};
 use jn_intern::{Pool, Scope};
 use jn_names::Bound;
-use jn_subtype::{Judge, atom_bound};
+use jn_subtype::{Judge, scope_bound};
 use jn_table::Table;
 use std::alloc::{AllocError, Global};
 
@@ -50,6 +52,8 @@ fn this_below(
     ensures below { IfOk result (λ r. (p : AProgram) → IsFilled p table.now
         → Answers (Below p (scope_in pool.old scope.now) (path_type (scope_in pool.old scope.now) 0)
         (normal_type (scope_in pool.old scope.now) (of_atom x.now))) r) }
+    ensures deep { IfOk result (λ r. (p : AProgram) → IsFilled p table.now → IsTrue r
+        → length (bound_of (scope_in pool.old scope.now) 0) ≡ length (bound (scope_in pool.old scope.now) (atom_of x.now))) }
     ensures keeps { Keeps pool.old pool.new }
 {
     let this = path_type(alloc, pool, scope, 0)?;
@@ -78,9 +82,11 @@ pub fn super_owner(
         (scope_in env.old.pool scope.now) x.now)
         (super_gives (here_at class.now m.now env.old.vars.list) name.now es (scope_in env.old.pool scope.now))
         env.old.marks env.new.marks result }
+    ensures deep { (p : AProgram) → ArePartsOf p (parts env.old)
+        → IfOk result (λ Q. length (bound_of (scope_in env.old.pool scope.now) 0) ≡ length Q) }
     ensures stays { Stays env.old env.new }
 {
-    let b = atom_bound(alloc, &env.pool, scope.binds.as_slice(), x)?;
+    let b = scope_bound(alloc, &env.pool, scope, x)?;
     if !this_below(alloc, &mut env.judge, &mut env.pool, &env.table, scope, x)? {
         return Err(refused(alloc, Rule::E18, t.at, class, m.name.name));
     }
@@ -104,6 +110,7 @@ pub fn enter_super(
     count: usize,
 ) -> Result<Call, CheckFault>
     requires parts { ArePartsOf p.now (parts env.old) }
+    requires at { MethodAt p.now owner.now method.now.name.name method.now }
     ensures told { (es : List (AnExpr × Typing)) (s : AScope) → length es ≡ count → LeadsTold p.now
         (super_gives (here_at class.now m.now env.old.vars.list) name.now es s (body_of owner.now method.now))
         (λ call. super_left (here_at class.now m.now env.old.vars.list) name.now es s
@@ -111,6 +118,9 @@ pub fn enter_super(
         env.old.marks env.new.marks result }
     ensures call { IfOk result (λ call. IsCall env.new.pool call) }
     ensures begun { IfOk result (λ call. length call.paths.items ≡ 1) }
+    ensures fits { (s : AScope) → Binds s 0 → length (bound_of s 0) ≡ length owner.now
+        → IfOk result (λ call. CallFits p.now env.new.pool s call) }
+    ensures count { IfOk result (λ call. length call.header.at.vars.list ≡ count) }
     ensures stays { Stays env.old env.new }
 {
     match enter(alloc, p, class, m, env, owner, method, name.at, count) {

@@ -1,8 +1,10 @@
 //! Types in a scope: which are below which, substitution, normal forms, and fresh paths.
 
-ghost use Rattle.std.specs.Prelude.{◌≡◌, ◌≤◌, ◌<◌, ◌^◌, suc, cond, nat_lt, IfOk, IsTrue, List, length};
+ghost use Rattle.std.specs.Prelude.{◌≡◌, ◌≤◌, suc, IfOk, List, length};
 ghost use Rattle.jn_base.specs.declared.tree.Program.{Program};
 ghost use Rattle.jn_base.specs.declared.types.Ty.{Ty as AType};
+ghost use Rattle.jn_base.specs.Atoms.{Atom, atoms_in, Among};
+ghost use Rattle.jn_base.specs.Scopes.{bound};
 ghost use Rattle.jn_base.specs.Fits.{TypeFits};
 ghost use Rattle.jn_table.specs.Tables.{IsFilled};
 ghost use Rattle.jn_intern.specs.Pools.{InPool, shown, scope_in, Keeps};
@@ -11,12 +13,12 @@ ghost use Rattle.jn_sem.specs.Normal.{swapped, MovedFits};
 ghost use Rattle.jn_sem.specs.NormalFunction.{normal_type};
 ghost use Rattle.jn_subtype.specs.Binds.{binds_in};
 ghost use Rattle.jn_rules.specs.Questions.{Answers};
-ghost use Rattle.jn_rules.specs.Exprs.{fresh_paths, next_path, put_in};
-ghost use Rattle.jn_expr.specs.Envs.{IsScope};
+ghost use Rattle.jn_rules.specs.Exprs.{next_path, put_in};
+ghost use Rattle.jn_expr.specs.Envs.{InOrder, IsScope};
 ghost use Rattle.jn_expr.specs.Passing.{Shows, IsPassing};
-ghost use Rattle.jn_expr.specs.Fitting.{IsFree};
+ghost use Rattle.jn_expr.specs.Calling.{DeepAs};
 
-use crate::fits::{moved_fits, type_fits};
+use crate::fits::type_fits;
 use jn_intern::{Bind, Pool, Scope, TyId};
 use jn_normal::{normal, subst};
 use jn_subtype::Judge;
@@ -65,35 +67,14 @@ pub fn put_in(
     subst(alloc, pool, scope, t, &from[..to.len()], to)
 }
 
-/// The same of a type of which it isn't known that it fits with its paths replaced.
-pub fn put_tested(
-    alloc: Global,
-    pool: &mut Pool,
-    scope: &Scope,
-    t: TyId,
-    from: &[u32],
-    to: &[u32],
-) -> Result<TyId, AllocError>
-    requires number { InPool pool.old t }
-    requires scope { IsScope pool.old scope.now }
-    requires short { length to.now ≤ length from.now }
-    ensures is { IfOk result (λ u. Shows pool.new u
-        (put_in (scope_in pool.old scope.now) from.now to.now (shown pool.old t))) }
-    ensures fits { IfOk result (λ u. TypeFits (scope_in pool.new scope.now) (shown pool.new u)) }
-    ensures keeps { Keeps pool.old pool.new }
-{
-    if !moved_fits(alloc, pool, scope, pool.show(t), &from[..to.len()], to)? {
-        return Err(AllocError);
-    }
-    put_in(alloc, pool, scope, t, from, to)
-}
-
 /// The type in normal form.
 pub fn normal_of(alloc: Global, pool: &mut Pool, scope: &Scope, t: TyId) -> Result<TyId, AllocError>
     requires number { InPool pool.old t }
     requires scope { IsScope pool.old scope.now }
     ensures is { IfOk result (λ u. Shows pool.new u (normal_type (scope_in pool.old scope.now) (shown pool.old t))) }
     ensures fits { IfOk result (λ u. TypeFits (scope_in pool.new scope.now) (shown pool.new u)) }
+    ensures deep { IfOk result (λ u. (x : Atom) → Among (atoms_in (shown pool.old t)) x
+        → DeepAs (scope_in pool.new scope.now) (shown pool.new u) (bound (scope_in pool.old scope.now) x)) }
     ensures keeps { Keeps pool.old pool.new }
 {
     if !type_fits(alloc, pool, scope, pool.show(t))? {
@@ -102,46 +83,29 @@ pub fn normal_of(alloc: Global, pool: &mut Pool, scope: &Scope, t: TyId) -> Resu
     normal(alloc, pool, scope, t)
 }
 
-/// One more where the path is a fresh one.
-fn counted(n: usize, path: u32) -> usize
-    requires { n < 2 ^ 63 }
-    ensures { result ≡ cond (nat_lt path 256) n (suc n) }
+/// The number behind that of a fresh path.
+fn behind(path: u32) -> Result<u32, AllocError>
+    ensures { IfOk result (λ q. q ≡ suc path) }
 {
-    if path < 256 { n } else { n + 1 }
-}
-
-/// How many of the paths are fresh ones.
-fn count_fresh(binds: &[Bind]) -> usize
-    ensures { (pool : List AType) → result ≡ fresh_paths (binds_in pool binds.now) }
-{
-    let mut n: usize = 0;
-    for bind in binds {
-        n = counted(n, bind.path);
-    }
-    n
-}
-
-/// Whether no path is this one.
-fn is_free(binds: &[Bind], path: u32) -> bool
-    ensures { IsTrue result → IsFree binds.now path }
-{
-    for bind in binds {
-        if bind.path == path {
-            return false;
-        }
-    }
-    true
-}
-
-/// The number of the next fresh path.
-fn next_path(binds: &[Bind]) -> Result<u32, AllocError>
-    ensures { IfOk result (λ q. (pool : List AType) → q ≡ next_path (binds_in pool binds.now)) }
-{
-    let n = count_fresh(binds);
-    if n > 4_000_000 {
+    if path > 4_000_255 {
         return Err(AllocError);
     }
-    Ok(256 + n as u32)
+    Ok(path + 1)
+}
+
+/// The number of the next fresh path: the one behind that of the newest one.
+fn next_path(binds: &[Bind]) -> Result<u32, AllocError>
+    ensures { IfOk result (λ q. (pool : List AType) → InOrder (binds_in pool binds.now)
+        → q ≡ next_path (binds_in pool binds.now)) }
+{
+    let n = binds.len();
+    for i in 0..n {
+        let path = binds[n - 1 - i].path;
+        if path >= 256 {
+            return behind(path);
+        }
+    }
+    Ok(256)
 }
 
 /// A fresh path with the type.
@@ -152,9 +116,6 @@ pub fn fresh_path(pool: &Pool, scope: &mut Scope, ty: TyId) -> Result<u32, Alloc
     ensures { IfOk result (λ q. IsPassing pool.now scope.old scope.new (shown pool.now ty) None q) }
 {
     let path = next_path(&scope.binds)?;
-    if !is_free(&scope.binds, path) {
-        return Err(AllocError);
-    }
     scope.binds.push(Bind { path, ty })?;
     Ok(path)
 }

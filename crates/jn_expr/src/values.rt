@@ -5,7 +5,7 @@ ghost use Rattle.jn_base.specs.declared.tree.Program.{Program};
 ghost use Rattle.jn_base.specs.declared.tree.Method.{Method as AMethod};
 ghost use Rattle.jn_base.specs.declared.names.Var.{Var as AVar};
 ghost use Rattle.jn_base.specs.Atoms.{Among};
-ghost use Rattle.jn_base.specs.Fits.{TypeFits};
+ghost use Rattle.jn_base.specs.Fits.{BindsFit, TypeFits};
 ghost use Rattle.jn_base.specs.Resolve.{newest, is_class, var_named};
 ghost use Rattle.jn_intern.specs.Pools.{InPool, ScopeInPool, scope_in};
 ghost use Rattle.jn_subtype.specs.Binds.{binds_in};
@@ -24,7 +24,7 @@ use jn_base::refusal::Rule;
 use jn_base::tree::{Name, Place};
 use jn_base::types::{Anchor, Atom, Masks, Ty};
 use jn_heads::CheckFault;
-use jn_intern::{Bind, Pool, Scope, TyId, copied_type};
+use jn_intern::{Bind, Pool, Scope, TyId, bind_of, copied_type};
 use jn_names::Bound;
 use sqlite_items::Items;
 use std::alloc::{AllocError, Global};
@@ -79,12 +79,25 @@ pub fn masks_at(pool: &Pool, binds: &[Bind], path: u32) -> Masks
     masks
 }
 
+/// The same in a scope that fits, where a path has one bind.
+fn present_masks(pool: &Pool, scope: &Scope, path: u32) -> Masks
+    requires known { ScopeInPool pool.now scope.now }
+    requires fits { BindsFit (scope_in pool.now scope.now) }
+    ensures { result ≡ masks_at (scope_in pool.now scope.now) path }
+{
+    match bind_of(scope.binds.as_slice(), path) {
+        None => Masks([0, 0, 0, 0]),
+        Some(bind) => masks_of(pool.show(bind.ty)),
+    }
+}
+
 /// The type of a path expression: the path itself, with its present masks.
 pub fn path_type(alloc: Global, pool: &Pool, scope: &Scope, path: u32) -> Result<Ty, AllocError>
-    requires { ScopeInPool pool.now scope.now }
+    requires known { ScopeInPool pool.now scope.now }
+    requires fits { BindsFit (scope_in pool.now scope.now) }
     ensures { IfOk result (λ t. t ≡ path_type (scope_in pool.now scope.now) path) }
 {
-    let masks = masks_at(pool, scope.binds.as_slice(), path);
+    let masks = present_masks(pool, scope, path);
     let mut atoms = Items::new(alloc);
     atoms.push(Atom {
         anchor: Anchor::Up(path, 0),

@@ -1,12 +1,12 @@
 //! The types of whole expressions: over the tree, form by form.
 
-ghost use Rattle.std.specs.Prelude.{◌≡◌, ◌-◌, ◌+◌, ℕ, List, length, slice_get, IfOk, OnOk};
+ghost use Rattle.std.specs.Prelude.{◌≡◌, ◌≤◌, ◌-◌, ◌+◌, ℕ, List, length, slice_get, IfOk, OnOk};
 ghost use Rattle.jn_base.specs.declared.tree.Method.{Method as AMethod};
 ghost use Rattle.jn_base.specs.declared.names.Role.TheVariants as role;
 ghost use Rattle.jn_base.specs.declared.names.Var.{Var as AVar};
 ghost use Rattle.jn_base.specs.Members.{MethodAt};
 ghost use Rattle.jn_base.specs.Paths.{Path as APath, shown as shown_path};
-ghost use Rattle.jn_base.specs.Scopes.{Scope as AScope};
+ghost use Rattle.jn_base.specs.Scopes.{Scope as AScope, bound_of};
 ghost use Rattle.jn_intern.specs.Pools.{InPool, scope_in};
 ghost use Rattle.jn_heads.specs.Params.{header_in};
 ghost use Rattle.jn_rules.specs.Plans.{Plan, OfTerm, OfView, ask, then_do, taken};
@@ -15,8 +15,8 @@ ghost use Rattle.jn_rules.specs.Forms.{typed_expr, typed_args, typed_links, type
 ghost use Rattle.jn_expr.specs.Envs.{ArePartsOf, IsScope, IsThere, Stays, parts, here_at};
 ghost use Rattle.jn_expr.specs.Passing.{Grows};
 ghost use Rattle.jn_expr.specs.Told.{PlanTold};
-ghost use Rattle.jn_expr.specs.Steps.{LeadsTold, inverted, negated, link_typed, IsCall, passed_in};
-ghost use Rattle.jn_expr.specs.Calling.{body_of, called, arg_left, IsPassed};
+ghost use Rattle.jn_expr.specs.Steps.{LeadsTold, inverted, negated, link_typed, passed_in};
+ghost use Rattle.jn_expr.specs.Calling.{body_of, called, CallFits, arg_left, IsPassed};
 ghost use Rattle.jn_expr.specs.Making.{made_call};
 ghost use Rattle.jn_expr.specs.Typing.{TypeTold, AwaitsArgs};
 ghost use Rattle.jn_expr.specs.Values.{IsValue, TypedFits, typed_in};
@@ -378,6 +378,8 @@ fn type_arg(
     requires scope { IsScope env.old.pool scope.old }
     requires there { IsThere p.now (site_here (here_at class.now m.now env.old.vars.list))
         (scope_in env.old.pool scope.old) }
+    requires call { CallFits p.now env.old.pool (scope_in env.old.pool scope.old) call.old }
+    requires next { length call.old.paths.items ≤ length call.old.header.at.vars.list }
     ensures told { (x : AVar) (go : List ℕ → AScope → Plan Passed)
         → slice_get call.old.header.at.vars.list (length call.old.paths.items - 1) ≡ Some x → LeadsTold p.now
         (then_do (expr_types (here_at class.now m.now env.old.vars.list) e.now (scope_in env.old.pool scope.old))
@@ -386,11 +388,12 @@ fn type_arg(
         (λ u. go call.new.paths.items (scope_in env.new.pool scope.new)) env.old.marks env.new.marks result }
     ensures passed { OnOk result (IsPassed env.new.pool scope.old scope.new call.old call.new) }
     ensures longer { OnOk result (length call.new.paths.items ≡ length call.old.paths.items + 1) }
+    ensures fits { OnOk result (CallFits p.now env.new.pool (scope_in env.new.pool scope.new) call.new) }
     ensures stays { Stays env.old env.new }
 {
     match value_of(alloc, p, class, m, env, scope, e) {
         Err(fault) => Err(fault),
-        Ok(v) => pass_arg(alloc, class, m, env, scope, call, e.at, v),
+        Ok(v) => pass_arg(alloc, p, class, m, env, scope, call, e.at, v),
     }
 }
 
@@ -410,19 +413,20 @@ fn type_args(
     requires scope { IsScope env.old.pool scope.old }
     requires there { IsThere p.now (site_here (here_at class.now m.now env.old.vars.list))
         (scope_in env.old.pool scope.old) }
+    requires call { CallFits p.now env.old.pool (scope_in env.old.pool scope.old) call.old }
     requires first { length call.old.paths.items ≡ 1 }
+    requires count { length call.old.header.at.vars.list ≡ length args.now }
     ensures told { PlanTold p.now
         (args_typed (here_at class.now m.now env.old.vars.list) call.old.from.items call.old.header.at.vars.list
         (typed_args (here_at class.now m.now env.old.vars.list) args.now) call.old.paths.items
         (scope_in env.old.pool scope.old))
         (λ u. passed_in env.new.pool scope.new call.new) env.old.marks env.new.marks result }
     ensures passed { OnOk result (IsPassed env.new.pool scope.old scope.new call.old call.new) }
+    ensures fits { OnOk result (CallFits p.now env.new.pool (scope_in env.new.pool scope.new) call.new) }
+    ensures full { OnOk result (length call.new.paths.items ≡ length call.new.header.at.vars.list + 1) }
     ensures stays { Stays env.old env.new }
 {
     for e in args {
-        if call.paths.len() > call.header.at.vars.list.len() {
-            return Ok(());
-        }
         match type_arg(alloc, p, class, m, env, scope, call, e) {
             Err(fault) => return Err(fault),
             Ok(()) => {}
@@ -447,8 +451,9 @@ fn type_called(
     requires scope { IsScope env.old.pool scope.old }
     requires there { IsThere p.now (site_here (here_at class.now m.now env.old.vars.list))
         (scope_in env.old.pool scope.old) }
-    requires call { IsCall env.old.pool call.old }
+    requires call { CallFits p.now env.old.pool (scope_in env.old.pool scope.old) call.old }
     requires first { length call.old.paths.items ≡ 1 }
+    requires count { length call.old.header.at.vars.list ≡ length args.now }
     ensures told { PlanTold p.now
         (called (here_at class.now m.now env.old.vars.list) (header_in env.old.pool call.old.header)
         (typed_args (here_at class.now m.now env.old.vars.list) args.now) call.old.paths.items
@@ -459,7 +464,7 @@ fn type_called(
 {
     match type_args(alloc, p, class, m, env, scope, call, args) {
         Err(fault) => Err(fault),
-        Ok(()) => result_of(alloc, env, scope, call),
+        Ok(()) => result_of(alloc, p, env, scope, call),
     }
 }
 
@@ -519,7 +524,7 @@ fn type_made(
         (scope_in env.old.pool scope.old) }
     requires number { InPool env.old.pool value.ty }
     requires fits { TypedFits (typed_in env.old.pool scope.old value) }
-    requires call { AwaitsArgs env.old.pool constructor }
+    requires call { AwaitsArgs p.now env.old.pool (scope_in env.old.pool scope.old) (length args.now) constructor }
     ensures told { PlanTold p.now
         (made_call (here_at class.now m.now env.old.vars.list) env.old.pool scope.old
         (typed_args (here_at class.now m.now env.old.vars.list) args.now) value constructor)
@@ -598,6 +603,8 @@ fn type_super_body(
     requires scope { IsScope env.old.pool scope.old }
     requires there { IsThere p.now (site_here (here_at class.now m.now env.old.vars.list))
         (scope_in env.old.pool scope.old) }
+    requires at { MethodAt p.now owner.now method.now.name.name method.now }
+    requires deep { length (bound_of (scope_in env.old.pool scope.old) 0) ≡ length owner.now }
     ensures told { PlanTold p.now
         (super_gives (here_at class.now m.now env.old.vars.list) name.now
         (typed_args (here_at class.now m.now env.old.vars.list) args.now) (scope_in env.old.pool scope.old)

@@ -1,5 +1,5 @@
 -- The parameters of a body, one after the other, and its header.
-use Rattle.std.proofs.Common.{◌≡◌, ◌<◌, ◌≤◌, ◌+◌, ℕ, suc, List, [], ◌∷◌, ◌++◌, length, length-append, reverse, map, refl, sym, ap, ◌∙◌, subst, All, drop, get_or, arith, Option, Some, Result, Ok, Err, ◌⊎◌, inl, inr}
+use Rattle.std.proofs.Common.{◌≡◌, ◌<◌, ◌≤◌, ◌+◌, ℕ, suc, List, [], ◌∷◌, ◌++◌, length, length-append, reverse, map, refl, sym, ap, ◌∙◌, subst, All, drop, get_or, arith, Option, Some, Result, Ok, Err, IfOk, ◌⊎◌, inl, inr}
 use Rattle.std.proofs.Math.ListN.{drop_of_length-le}
 use Rattle.std.proofs.lemmas.List.{reverse-append, reverse-reverse, map-append}
 use Rattle.std.proofs.lemmas.List.Elements.{All-append, All-cons, All-nil}
@@ -15,6 +15,8 @@ use Rattle.jn_base.specs.declared.refusal.Refusal.{Refusal}
 use Rattle.jn_base.specs.Paths.{Path}
 use Rattle.jn_base.specs.Universe.{InUniverse}
 use Rattle.jn_base.specs.Atoms.{Among, first, later}
+use Rattle.jn_base.specs.declared.types.Ty.TheVariants as ty
+use Rattle.jn_base.specs.Fits.{TypeFits}
 use Rattle.jn_base.specs.Scopes.{Bind, Scope, Binds, this_bind, this_type}
 use Rattle.jn_base.specs.Resolve.{class_of, var_bind}
 use Rattle.jn_base.specs.declared.names.Role.TheVariants as role
@@ -191,6 +193,14 @@ result_told p b at o written pool (Ok id) e w h =
 result_told p b at o written pool (Err (Refused r)) e w m =
     subst (λ (x : Option TypeTerm). Gives p (result_typed b at.vars.list x) (Err r)) (sym e) (Err r, subst (λ (s : Site). Means p (OfType s written) (Err r)) (site_is b at w) m, refl)
 result_told p b at o written pool (Err Memory) e w m = tt
+
+pub told_fits : (p : Program) (at : Site) (written : TypeTerm) (pool : List Ty) (r : Result TyId CheckFault) → TypeTold p at written pool r
+    → IfOk r (λ (id : TyId). TypeFits (scope_of at) (shown pool id))
+told_fits p at written pool (Ok id) h = h.there.fits
+told_fits p at written pool (Err f) h = tt
+
+pub void_fits : (s : Scope) (t : Ty) → t ≡ ty.Void → TypeFits s t
+void_fits s t e = subst (TypeFits s) (sym e) (record { atoms = λ c. absurd c })
 
 -- ---- the header
 

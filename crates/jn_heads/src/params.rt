@@ -1,14 +1,15 @@
 ghost use Rattle.std.specs.Prelude.{◌≡◌, suc, IfOk, IfSome};
 ghost use Rattle.jn_base.specs.declared.tree.Program.{Program as AProgram};
+ghost use Rattle.jn_base.specs.Fits.{TypeFits};
 ghost use Rattle.jn_base.specs.Scopes.{this_type};
 ghost use Rattle.jn_base.specs.Universe.{InUniverse};
 ghost use Rattle.jn_intern.specs.Pools.{InPool, shown, Keeps};
-ghost use Rattle.jn_laws.specs.LawsOfWritten.{Shallow};
+ghost use Rattle.jn_laws.specs.LawsOfWritten.{Shallow, scope_of};
 ghost use Rattle.jn_sem.specs.Does.{Body};
 ghost use Rattle.jn_rules.specs.Questions.{Gives};
 ghost use Rattle.jn_rules.specs.Headers.{result_typed, header_typed};
 ghost use Rattle.jn_heads.specs.Told.{Told};
-ghost use Rattle.jn_heads.specs.Places.{IsReady, Stands, IsIn, StartsAt};
+ghost use Rattle.jn_heads.specs.Places.{IsReady, Stands, IsIn, StartsAt, site_of};
 ghost use Rattle.jn_heads.specs.Params.{ParamTold, ParamsTold, header_in};
 
 use crate::fault::CheckFault;
@@ -148,6 +149,7 @@ fn result_at(
     requires stands { Stands p.now pool.old at.now }
     ensures told { (b : Body) → IsIn b at.now → Told (Gives p.now (result_typed b at.now.vars.list ty.now)) (shown pool.new) result }
     ensures number { IfOk result (λ id. InPool pool.new id) }
+    ensures fits { IfOk result (λ id. TypeFits (scope_of (site_of at.now)) (shown pool.new id)) }
     ensures keeps { Keeps pool.old pool.new }
     ensures kept { t.new ≡ t.old }
 {
@@ -179,6 +181,7 @@ pub fn header_of(
     ensures stands { IfOk result (λ h. Stands p.now pool.new h.at) }
     ensures within { IfOk result (λ h. IsIn (record { class = class.now; method = m.now }) h.at) }
     ensures number { IfOk result (λ h. InPool pool.new h.result) }
+    ensures fits { IfOk result (λ h. TypeFits (scope_of (site_of h.at)) (shown pool.new h.result)) }
     ensures keeps { Keeps pool.old pool.new }
     ensures kept { t.new ≡ t.old }
 {

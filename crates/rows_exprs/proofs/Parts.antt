@@ -1,5 +1,5 @@
 -- The parts of a program, in an Env.
-use Rattle.std.proofs.Common.{◌≡◌, [], List, ℕ, refl, sym, ap, ◌∙◌, subst}
+use Rattle.std.proofs.Common.{◌≡◌, ◌≤◌, length, arith, [], List, ℕ, refl, sym, ap, ◌∙◌, subst}
 use Rattle.jn_base.specs.declared.tree.Program.{Program}
 use Rattle.jn_base.specs.declared.tree.Name.{Name}
 use Rattle.jn_base.specs.declared.tree.Method.{Method}
@@ -12,7 +12,7 @@ use Rattle.jn_base.specs.WithinLimits.{IsWithinLimits}
 use Rattle.jn_base.specs.ProgramNames.{IsNamed}
 use Rattle.jn_intern.specs.Pools.{Keeps, scope_in}
 use Rattle.jn_intern.proofs.Pools.{keeps_same}
-use Rattle.jn_laws.specs.LawsOfWritten.{Shallow, site_with}
+use Rattle.jn_laws.specs.LawsOfWritten.{Shallow, site_with, scope_of}
 use Rattle.jn_laws.proofs.PlacesAside.{programs_within_limits}
 use Rattle.jn_table.specs.declared.table.Table.{Table}
 use Rattle.jn_table.specs.Tables.{IsFilled}
@@ -28,7 +28,8 @@ use Rattle.jn_heads.proofs.Writing.{scope_fits}
 use Rattle.jn_header.specs.declared.judge.Headers.{Headers}
 use Rattle.jn_header.specs.Judged.{AreParts}
 use Rattle.jn_rules.specs.Exprs.{site_here}
-use Rattle.jn_expr.specs.Envs.{Parts, ArePartsOf, IsScope, IsThere, here_at}
+use Rattle.jn_expr.specs.Envs.{Parts, ArePartsOf, InOrder, IsScope, IsThere, here_at}
+use Rattle.jn_expr.proofs.Scopes.{low_scope, low_in_order}
 use Rattle.jn_expr.proofs.Typeds.{first_there}
 use Rattle.rows_exprs.specs.Parting.{HasParts}
 
@@ -77,8 +78,13 @@ pub ready : (p : Program) (x : Parts) (names : List Name) → names ≡ x.masks 
 ready p x names e h = record { filled = h.filled; shallow = h.shallow; masks = e ∙ h.masks }
 
 -- the scope of the parameters fits
-pub first_scope : (p : Program) (pool : List Ty) (at : Place) → Stands p pool at → IsScope pool at.scope
-first_scope p pool at s = record { known = s.known; fits = scope_fits p pool pool at s (keeps_same pool) }
+pub first_scope : (p : Program) (pool : List Ty) (at : Place) → Stands p pool at → length at.vars.list ≤ 255 → IsScope pool at.scope
+first_scope p pool at s l = record {
+  known = s.known;
+  fits = scope_fits p pool pool at s (keeps_same pool);
+  order = subst InOrder (sym s.scope)
+      (low_in_order (scope_of (site_of at)) (low_scope at.class at.method at.vars.list (λ v m. let k = s.numbered v m in omega (arith, k, l))));
+}
 
 pub named : (p : Program) → IsWithinLimits p → IsNamed p
 named p w = (programs_within_limits p w).named

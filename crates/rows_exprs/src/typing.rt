@@ -184,6 +184,9 @@ fn typed_behind(
     requires stands { Stands p.now env.old.pool at }
     requires within { IsIn (record { class = class.now; method = m.now }) at }
 {
+    if at.vars.list.len() > 255 {
+        return Err(CheckFault::Memory);
+    }
     let mut scope = at.scope;
     env.vars = at.vars;
     match value_of(alloc, p, class, m, env, &mut scope, e) {

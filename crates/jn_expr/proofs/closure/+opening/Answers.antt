@@ -24,7 +24,7 @@ open-returns-then-not-is_known t c = λ p f.
     let pool : List Ty = c.args.pool.now in
     let s = scope_in pool c.args.scope.now in
     let b : c.in_ok-bound.bound ≡ bound s (atom_of c.args.x.now) =
-    c.in_ok-bound.ensures ∙ ap (λ (bs : List Bind). atom_at (bound_of (binds_in pool bs)) (atom_of c.args.x.now)) c.as_slice.ensures.value in
+    c.in_ok-bound.ensures in
     unknown_opens p s (atom_of c.args.x.now) c.new.result c.new.ensures
     (λ u. not_when c.if-not-is_known.true (c.is_known.ensures p f) (subst (InUniverse p) (sym b) u))
 
@@ -33,7 +33,7 @@ open-returns-in-Root t c =
     let pool : List Ty = c.args.pool.now in
     let s = scope_in pool c.args.scope.now in
     let b : c.in_ok-bound.bound ≡ bound s (atom_of c.args.x.now) =
-    c.in_ok-bound.ensures ∙ ap (λ (bs : List Bind). atom_at (bound_of (binds_in pool bs)) (atom_of c.args.x.now)) c.as_slice.ensures.value in
+    c.in_ok-bound.ensures in
     IfOk-weaker c.only.result _ _
     (λ ts h p f. root_opens p s (atom_of c.args.x.now) ts h c.in-Root.is (subst (InUniverse p) b ((c.is_known.ensures p f).0 c.if-not-is_known.false)))
     c.only.ensures
@@ -43,7 +43,7 @@ open-returns-in-None t c = λ p f.
     let pool : List Ty = c.args.pool.now in
     let binds : List Bind = c.args.scope.now.binds.items in
     let none : All (λ (b : Bind). b.path ≡ c.in-Up.path → ⊥) binds =
-    subst (All (λ (b : Bind). b.path ≡ c.in-Up.path → ⊥)) c.as_slice-in-Up.ensures.value c.in-None.ensures.none in
+    subst (All (λ (b : Bind). b.path ≡ c.in-Up.path → ⊥)) c.as_slice.ensures.value c.in-None.ensures.none in
     unbound_opens p (scope_in pool c.args.scope.now) (atom_of c.args.x.now) c.new-in-None.result c.in-Up.path c.in-Up.k c.new-in-None.ensures c.in-Up.is
     (λ d m e. no_bind pool binds c.in-Up.path none d m e)
 
@@ -53,7 +53,7 @@ open-open_type-requires t c =
     let scope = c.args.scope.now in
     let s = scope_in pool scope in
     let b : Bind = c.in-Some.b in
-    let known : Contains scope.binds.items b = subst (λ (l : List Bind). Contains l b) c.as_slice-in-Up.ensures.value c.in-Some.ensures.some.0 in
+    let known : Contains scope.binds.items b = subst (λ (l : List Bind). Contains l b) c.as_slice.ensures.value c.in-Some.ensures.some.0 in
     let m = among_scope pool scope.binds.items b known in
     let e : c.args.x.now.anchor ≡ Up b.path c.in-Up.k = c.in-Up.is ∙ ap (λ (q : ℕ). Up q c.in-Up.k) (sym c.in-Some.ensures.some.1) in
     let g : Anchored s (Up b.path c.in-Up.k) = subst (Anchored s) e c.requires.anchored in (
@@ -74,11 +74,11 @@ open-returns t c =
     let scope = c.args.scope.now in
     let s = scope_in pool scope in
     let b : Bind = c.in-Some.b in
-    let known : Contains scope.binds.items b = subst (λ (l : List Bind). Contains l b) c.as_slice-in-Up.ensures.value c.in-Some.ensures.some.0 in
+    let known : Contains scope.binds.items b = subst (λ (l : List Bind). Contains l b) c.as_slice.ensures.value c.in-Some.ensures.some.0 in
     let m = among_scope pool scope.binds.items b known in
     let e : c.args.x.now.anchor ≡ Up b.path c.in-Up.k = c.in-Up.is ∙ ap (λ (q : ℕ). Up q c.in-Up.k) (sym c.in-Some.ensures.some.1) in
     let h : c.in_ok-bound.bound ≡ bound s (atom_of c.args.x.now) =
-    c.in_ok-bound.ensures ∙ ap (λ (bs : List Bind). atom_at (bound_of (binds_in pool bs)) (atom_of c.args.x.now)) c.as_slice.ensures.value in
+    c.in_ok-bound.ensures in
     IfOk-weaker c.open_type.result _ _
     (λ ts k p f. bound_opens p s (atom_of c.args.x.now) _ c.in-Up.k c.requires.fits m e (subst (InUniverse p) h ((c.is_known.ensures p f).0 c.if-not-is_known.false)) (map atom_of ts)
     (λ z. subst (λ (y : Ty). Contains (map atom_of ts) z ↔ OpensBy p s (atoms_in y) c.in-Up.k (atom_of c.args.x.now) z) c.show.ensures (k p f z)))

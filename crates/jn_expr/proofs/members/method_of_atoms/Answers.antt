@@ -13,14 +13,14 @@ pub returns-in-Some : goal.returns-in-Some
 returns-in-Some c = λ p g.
     method_hit p (scope_in c.args.pool.now c.args.scope.now) c.args.xs.now c.loop-x.x-index c.x-item.result c.args.name c.loop-x-test.true c.x-item.is (c.loop-x.invariant p g)
     c.in_ok-b.b c.in-Some.found
-    (c.in_ok-b.ensures ∙ ap (λ (bs : List Bind). atom_at (bound_of (binds_in c.args.pool.now bs)) (atom_of c.x-item.result)) c.as_slice.ensures.value)
+    c.in_ok-b.ensures
     (subst (LeastAt p c.in_ok-b.b c.args.name) c.in-Some.is (c.in_ok-least_at.ensures p g))
 
 pub loop-x-preserved : goal.loop-x-preserved
 loop-x-preserved c = λ p g.
     method_next p (scope_in c.args.pool.now c.args.scope.now) c.args.xs.now c.loop-x.x-index c.x-item.result c.args.name c.loop-x-test.true c.x-item.is (c.loop-x.invariant p g)
     c.in_ok-b.b
-    (c.in_ok-b.ensures ∙ ap (λ (bs : List Bind). atom_at (bound_of (binds_in c.args.pool.now bs)) (atom_of c.x-item.result)) c.as_slice.ensures.value)
+    c.in_ok-b.ensures
     (subst (LeastAt p c.in_ok-b.b c.args.name) c.in-None.is (c.in_ok-least_at.ensures p g))
 
 pub returns : goal.returns

@@ -3,7 +3,8 @@ use Rattle.jn_intern.specs.Pools.{scope_in, shown}
 use Rattle.jn_expr.specs.Envs.{here_at}
 use Rattle.jn_expr.specs.Calling.{body_of}
 use Rattle.jn_expr.specs.Making.{made_left}
-use Rattle.jn_expr.proofs.NewSteps.{make_fault, make_told, some_call, some_begun, begun_fits}
+use Rattle.jn_expr.proofs.CallDepths.{deep_class}
+use Rattle.jn_expr.proofs.NewSteps.{make_fault, make_told, awaits_some, begun_fits}
 use Rattle.jn_expr.proofs.Typeds.{plain_fits}
 use Rattle.jn_expr.proofs.news.make_by.Goals as goal
 
@@ -28,11 +29,15 @@ returns-in-Some-clause-made c = record {
   scope = c.in-Ok.ensures.call.scope;
   grows = c.in-Ok.ensures.call.grows;
   fits = begun_fits c.args.env.now.pool c.enter_with.new.env.pool c.args.scope.now c.enter_with.new.scope c.args.ty c.in-Ok.call c.in-Some.q.now c.in-Some.q.now
-      c.requires.scope c.requires.number c.in-Ok.ensures.stays.pool c.requires.fits c.in-Ok.ensures.call
+      c.requires.scope c.requires.number c.in-Ok.ensures.stays.pool
+      (deep_class (scope_in c.args.env.now.pool c.args.scope.now) (shown c.args.env.now.pool c.args.ty) c.args.owner.now c.requires.deep) c.requires.fits c.in-Ok.ensures.call
       (c.in-Some.ensures.lookup.1 ∙ ap (λ (l : List ℕ). get_or l 0 c.in-Some.q.now) c.deref.ensures.value);
-  call = λ d i. some_call c.enter_with.new.env.pool c.in-Ok.call d c.in-Ok.ensures.call.is_call i;
-  begun = λ d i. some_begun c.in-Ok.call d (ap length c.in-Ok.ensures.call.paths) i;
 }
+
+pub returns-in-Some-clause-awaits : goal.returns-in-Some-clause-awaits
+returns-in-Some-clause-awaits c =
+    awaits_some c.args.p.now c.enter_with.new.env.pool (scope_in c.enter_with.new.env.pool c.enter_with.new.scope) c.args.count c.in-Ok.call c.in-Ok.ensures.fits
+    (ap length c.in-Ok.ensures.call.paths) c.in-Ok.ensures.count
 
 pub enter_with-requires-clause-fits : goal.enter_with-requires-clause-fits
 enter_with-requires-clause-fits c = plain_fits (scope_in c.args.env.now.pool c.args.scope.now) (shown c.args.env.now.pool c.args.ty) c.requires.fits

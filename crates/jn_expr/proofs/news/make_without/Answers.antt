@@ -1,6 +1,5 @@
 use Rattle.jn_expr.specs.Envs.{here_at}
 use Rattle.jn_expr.proofs.NewSteps.{without_made}
-use Rattle.jn_expr.proofs.NewSteps.{none_call, none_begun}
 use Rattle.jn_expr.proofs.Typeds.{made_fits}
 use Rattle.jn_expr.proofs.news.make_without.Goals as goal
 
@@ -14,7 +13,5 @@ returns-clause-made c = record {
   number = c.requires.number;
   scope = c.in_ok-path.ensures.scope;
   grows = c.in_ok-path.ensures.grows;
-  fits = made_fits c.args.env.now.pool c.args.scope.now c.fresh_path.new.scope c.args.ty c.in_ok-path.path c.in_ok-path.ensures.scope c.requires.fits c.in_ok-path.ensures.is;
-  call = λ d i. none_call c.args.env.now.pool d i;
-  begun = λ d i. none_begun d i;
+  fits = made_fits c.args.env.now.pool c.args.scope.now c.fresh_path.new.scope c.args.ty c.in_ok-path.path c.in_ok-path.ensures.scope c.requires.class c.requires.fits c.in_ok-path.ensures.is;
 }

@@ -1,3 +1,6 @@
+use Rattle.std.proofs.Common.{◌≡◌, IfOk, length, subst}
+use Rattle.jn_base.specs.Paths.{Path}
+use Rattle.jn_base.specs.Scopes.{Scope as TypeScope, bound_of}
 use Rattle.jn_intern.specs.Pools.{scope_in}
 use Rattle.jn_intern.proofs.Pools.{scope_kept}
 use Rattle.jn_expr.proofs.Scopes.{scope_stays, stays_more, parts_stay, vars_stay}
@@ -25,3 +28,9 @@ returns-in-Ok-clause-told c = λ es.
 
 pub returns-in-Ok-clause-stays : goal.returns-in-Ok-clause-stays
 returns-in-Ok-clause-stays c = stays_more c.in-Ok.ensures.stays c.super_owner.ensures.stays
+
+pub returns-in-Ok-clause-deep : goal.returns-in-Ok-clause-deep
+returns-in-Ok-clause-deep c =
+    subst (λ (q : TypeScope). IfOk c.super_owner.result (λ (Q : Path). length (bound_of q 0) ≡ length Q))
+    (scope_kept c.args.scope.now c.requires.scope.known c.in-Ok.ensures.stays.pool)
+    (c.super_owner.ensures.deep c.args.p.now (parts_stay c.requires.parts c.in-Ok.ensures.stays))

@@ -10,7 +10,8 @@ use Rattle.jn_expr.specs.Steps.{passed_in}
 use Rattle.jn_expr.specs.Values.{typed_in}
 use Rattle.jn_expr.proofs.Leading.{leads_told}
 use Rattle.jn_expr.proofs.Scopes.{scope_stays, stays_more}
-use Rattle.jn_expr.proofs.WalkCalls.{call_stays, header_stays, result_at, begun_fault}
+use Rattle.jn_expr.proofs.CallDepths.{call_same}
+use Rattle.jn_expr.proofs.WalkCalls.{header_stays, result_at, begun_fault}
 use Rattle.jn_expr.proofs.super_calls.end_super.Goals as goal
 
 pub result_of-requires-clause-scope : goal.result_of-requires-clause-scope
@@ -18,7 +19,7 @@ result_of-requires-clause-scope c = scope_stays c.requires.scope c.in-Ok.ensures
 
 pub result_of-requires-clause-call : goal.result_of-requires-clause-call
 result_of-requires-clause-call c =
-    call_stays c.args.env.now.pool c.constraints_granted.new.env.pool c.args.call.now c.args.call.now c.requires.call c.in-Ok.ensures.stays.pool refl refl
+    call_same c.requires.scope c.in-Ok.ensures.stays.pool c.requires.call
 
 pub returns-in-Err-clause-told : goal.returns-in-Err-clause-told
 returns-in-Err-clause-told c =
@@ -37,9 +38,9 @@ returns-in-Ok-clause-told c =
     (result_at c.args.p.now (header_in c.constraints_granted.new.env.pool c.args.call.now.header) (header_in c.args.env.now.pool c.args.call.now.header)
     (passed_in c.constraints_granted.new.env.pool c.args.scope.now c.args.call.now) (passed_in c.args.env.now.pool c.args.scope.now c.args.call.now)
     (typed_in c.result_of.new.env.pool c.args.scope.now) c.constraints_granted.new.env.marks c.result_of.new.env.marks c.result_of.result
-    (header_stays c.args.env.now.pool c.constraints_granted.new.env.pool c.args.call.now c.args.call.now c.requires.call c.in-Ok.ensures.stays.pool refl refl)
+    (header_stays c.args.env.now.pool c.constraints_granted.new.env.pool c.args.call.now c.args.call.now c.requires.call.is_call c.in-Ok.ensures.stays.pool refl refl)
     (ap (λ (s : TypeScope). let x : Passed = record { paths = c.args.call.now.paths.items; scope = s } in x) (scope_kept c.args.scope.now c.requires.scope.known c.in-Ok.ensures.stays.pool))
-    (c.result_of.ensures.told c.args.p.now))
+    c.result_of.ensures.told)
 
 pub returns-in-Ok-clause-stays : goal.returns-in-Ok-clause-stays
 returns-in-Ok-clause-stays c = stays_more c.in-Ok.ensures.stays c.result_of.ensures.stays

@@ -10,7 +10,7 @@ use Rattle.jn_base.specs.declared.types.Ty.TheVariants as ty
 use Rattle.jn_base.specs.Members.{MethodAt}
 use Rattle.jn_base.specs.Paths.{Path}
 use Rattle.jn_base.specs.Resolve.{var_named}
-use Rattle.jn_base.specs.Scopes.{Scope as TypeScope}
+use Rattle.jn_base.specs.Scopes.{Scope as TypeScope, Binds, bound_of}
 use Rattle.jn_heads.specs.declared.params.Header.{Header as CodeHeader}
 use Rattle.jn_heads.specs.Params.{header_in}
 use Rattle.jn_intern.specs.Pools.{scope_in, shown}
@@ -32,9 +32,10 @@ use Rattle.jn_expr.proofs.Leading.{leads_here, leads_told}
 use Rattle.jn_expr.proofs.Scopes.{scope_stays, stays_same, stays_more, parts_stay, vars_stay, grows_none, grows_more}
 use Rattle.jn_expr.proofs.Walking.{then_told, then_fault, same_plan, values_behind}
 use Rattle.jn_expr.proofs.WalkForms.{number_form, truth_form, null_form, this_form, var_form, new_form, super_form, post_form, not_form, negative_form, view_form, chain_form}
-use Rattle.jn_expr.proofs.WalkSteps.{view_fault, view_value_fault, view_told, link_refused, link_fault, link_told, links_more, links_fault, links_end, parts_more, parts_fault, parts_end, arg_fault, arg_leads, IsAt, is_at, args_more, args_fault, args_out, args_end}
+use Rattle.jn_expr.proofs.WalkSteps.{view_fault, view_value_fault, view_told, link_refused, link_fault, link_told, links_more, links_fault, links_end, parts_more, parts_fault, parts_end, arg_fault, arg_leads, IsAt, is_at, args_more, args_fault, args_end}
 use Rattle.jn_expr.proofs.WalkCalls.{args_count, passed_none, passed_more, passed_behind, call_stays, header_stays, args_refused, args_went, result_at, begun_fault, begun_told, made_none, made_some, made_at, one_arg_at, got_at}
 use Rattle.jn_expr.proofs.WalkSupers.{owner_fault, owner_told}
+use Rattle.jn_expr.proofs.CallDepths.{own_name, call_later, all_passed}
 use Rattle.jn_expr.proofs.Typeds.{truth_fits, number_fits, no_object_fits, typed_later, this_there, vars_there, stays_there}
 use Rattle.jn_expr.proofs.Sizes.{post_below, chain_below}
 use Rattle.jn_expr.proofs.walk.+typing.Goals as goal
@@ -269,6 +270,14 @@ pub type_arg-pass_arg-requires-clause-fits : goal.type_arg-pass_arg-requires-cla
 type_arg-pass_arg-requires-clause-fits t c =
     c.in-Ok.ensures.value.fits
 
+pub type_arg-pass_arg-requires-clause-parts : goal.type_arg-pass_arg-requires-clause-parts
+type_arg-pass_arg-requires-clause-parts t c =
+    parts_stay c.requires.parts c.in-Ok.ensures.stays
+
+pub type_arg-pass_arg-requires-clause-call : goal.type_arg-pass_arg-requires-clause-call
+type_arg-pass_arg-requires-clause-call t c =
+    call_later c.requires.scope c.in-Ok.ensures.stays.pool c.in-Ok.ensures.value.grows c.in-Ok.ensures.value.scope c.requires.call
+
 pub type_arg-returns-in-Err-clause-told : goal.type_arg-returns-in-Err-clause-told
 type_arg-returns-in-Err-clause-told t c =
     λ x go i. arg_fault c.args.p.now c.args.class.now c.args.m.now c.args.e.now c.args.call.now.from.items x c.args.call.now.paths.items go c.args.env.now.vars.list (scope_in c.args.env.now.pool c.args.scope.now) c.args.env.now.marks c.value_of.new.env.marks c.value_of.new.env.marks (typed_in c.value_of.new.env.pool c.value_of.new.scope) (λ (u : Unit {0}). go c.args.call.now.paths.items (scope_in c.value_of.new.env.pool c.value_of.new.scope)) c.in-Err.fault c.in-Err.ensures.told
@@ -277,7 +286,7 @@ pub type_arg-returns-in-Ok-clause-told : goal.type_arg-returns-in-Ok-clause-told
 type_arg-returns-in-Ok-clause-told t c =
     λ x go i. arg_leads c.args.p.now c.args.class.now c.args.m.now c.args.e.now c.args.call.now.from.items x c.args.call.now.paths.items go c.args.env.now.vars.list (scope_in c.args.env.now.pool c.args.scope.now) c.args.env.now.marks c.value_of.new.env.marks c.pass_arg.new.env.marks (λ (u : Unit {0}). go c.pass_arg.new.call.paths.items (scope_in c.pass_arg.new.env.pool c.pass_arg.new.scope)) c.pass_arg.result c.value_of.new.env.vars.list
     (typed_in c.value_of.new.env.pool c.value_of.new.scope c.in-Ok.v) (vars_stay c.in-Ok.ensures.stays) c.in-Ok.ensures.told
-    (c.pass_arg.ensures.told c.args.p.now x go (parts_stay c.requires.parts c.in-Ok.ensures.stays).filled i)
+    (c.pass_arg.ensures.told x go i)
 
 pub type_arg-returns-in-Ok-clause-passed : goal.type_arg-returns-in-Ok-clause-passed
 type_arg-returns-in-Ok-clause-passed t c =
@@ -289,20 +298,7 @@ type_arg-returns-in-Ok-clause-stays t c =
 
 pub type_args-loop-e-init : goal.type_args-loop-e-init
 type_args-loop-e-init t c =
-    record { stays = stays_same c.args.env.now; parts = c.requires.parts; there = c.requires.there; passed = passed_none c.args.env.now.pool c.args.scope.now c.args.call.now c.requires.scope (grows_none c.args.scope.now); count = c.requires.first; leads = leads_here _ c.args.env.now.marks }
-
-pub type_args-returns-then-len-clause-told : goal.type_args-returns-then-len-clause-told
-type_args-returns-then-len-clause-told t c =
-    let le : length c.loop-e.call.header.at.vars.list ≤ c.loop-e.e-index = omega (arith, c.len.ensures, c.len-in-loop-e.ensures, c.if-len.true, c.loop-e.invariant.count) in
-    args_out c.args.p.now (here_at c.args.class.now c.args.m.now c.args.env.now.vars.list) c.args.call.now.from.items c.args.call.now.header.at.vars.list c.args.args.now c.loop-e.e-index _ c.loop-e.call.paths.items (scope_in c.loop-e.env.pool c.loop-e.scope) c.args.env.now.marks c.loop-e.env.marks c.loop-e.invariant.leads (subst (λ (h : CodeHeader). length h.at.vars.list ≤ c.loop-e.e-index) c.loop-e.invariant.passed.header le)
-
-pub type_args-returns-then-len-clause-passed : goal.type_args-returns-then-len-clause-passed
-type_args-returns-then-len-clause-passed t c =
-    c.loop-e.invariant.passed
-
-pub type_args-returns-then-len-clause-stays : goal.type_args-returns-then-len-clause-stays
-type_args-returns-then-len-clause-stays t c =
-    c.loop-e.invariant.stays
+    record { stays = stays_same c.args.env.now; parts = c.requires.parts; there = c.requires.there; passed = passed_none c.args.env.now.pool c.args.scope.now c.args.call.now c.requires.scope (grows_none c.args.scope.now); count = c.requires.first; fits = c.requires.call; room = c.requires.count; leads = leads_here _ c.args.env.now.marks }
 
 pub type_args-returns-clause-passed : goal.type_args-returns-clause-passed
 type_args-returns-clause-passed t c =
@@ -318,8 +314,7 @@ type_args-returns-clause-told t c =
 
 pub type_args-returns-in-Err-clause-told : goal.type_args-returns-in-Err-clause-told
 type_args-returns-in-Err-clause-told t c =
-    let LT : c.loop-e.e-index < length c.loop-e.call.header.at.vars.list = omega (arith, c.len.ensures, c.len-in-loop-e.ensures, c.if-len.false, c.loop-e.invariant.count) in
-    let AT : IsAt c.args.call.now.header.at.vars.list c.loop-e.e-index = is_at c.args.call.now.header.at.vars.list c.loop-e.e-index (subst (λ (h : CodeHeader). c.loop-e.e-index < length h.at.vars.list) c.loop-e.invariant.passed.header LT) in
+    let AT : IsAt c.args.call.now.header.at.vars.list c.loop-e.e-index = is_at c.args.call.now.header.at.vars.list c.loop-e.e-index (subst (λ (n : ℕ). c.loop-e.e-index < n) (sym c.requires.count) c.loop-e-test.true) in
     let GO = λ (to : List ℕ) (s : TypeScope). args_typed (here_at c.args.class.now c.args.m.now c.args.env.now.vars.list) c.args.call.now.from.items (drop (c.loop-e.e-index + 1) c.args.call.now.header.at.vars.list) (typed_args (here_at c.args.class.now c.args.m.now c.args.env.now.vars.list) (drop (c.loop-e.e-index + 1) c.args.args.now)) to s in
     args_fault c.args.p.now (here_at c.args.class.now c.args.m.now c.args.env.now.vars.list) c.args.call.now.from.items c.args.call.now.header.at.vars.list c.args.args.now c.loop-e.e-index _ c.loop-e.call.paths.items (scope_in c.loop-e.env.pool c.loop-e.scope) c.args.env.now.marks c.loop-e.env.marks c.loop-e.invariant.leads c.e-item.result c.loop-e-test.true c.e-item.is AT (λ (u : Unit {0}). GO c.type_arg.new.call.paths.items (scope_in c.type_arg.new.env.pool c.type_arg.new.scope)) (λ (u : Unit {0}). passed_in c.type_arg.new.env.pool c.type_arg.new.scope c.type_arg.new.call) c.type_arg.new.env.marks c.type_arg.new.env.marks c.in-Err.fault
     (one_arg_at c.args.p.now c.args.class.now c.args.m.now c.e-item.result AT.x c.loop-e.call.paths.items (scope_in c.loop-e.env.pool c.loop-e.scope) c.loop-e.env.marks c.type_arg.new.env.marks GO (λ (u : Unit {0}). GO c.type_arg.new.call.paths.items (scope_in c.type_arg.new.env.pool c.type_arg.new.scope)) (Err c.in-Err.fault) c.loop-e.env.vars.list c.args.env.now.vars.list c.loop-e.call.from.items c.args.call.now.from.items (vars_stay c.loop-e.invariant.stays) c.loop-e.invariant.passed.from (c.in-Err.ensures.told AT.x GO (got_at c.loop-e.call.header c.args.call.now.header (length c.loop-e.call.paths.items) c.loop-e.e-index AT.x c.loop-e.invariant.passed.header c.loop-e.invariant.count AT.get)))
@@ -330,8 +325,7 @@ type_args-returns-in-Err-clause-stays t c =
 
 pub type_args-loop-e-preserved : goal.type_args-loop-e-preserved
 type_args-loop-e-preserved t c =
-    let LT : c.loop-e.e-index < length c.loop-e.call.header.at.vars.list = omega (arith, c.len.ensures, c.len-in-loop-e.ensures, c.if-len.false, c.loop-e.invariant.count) in
-    let AT : IsAt c.args.call.now.header.at.vars.list c.loop-e.e-index = is_at c.args.call.now.header.at.vars.list c.loop-e.e-index (subst (λ (h : CodeHeader). c.loop-e.e-index < length h.at.vars.list) c.loop-e.invariant.passed.header LT) in
+    let AT : IsAt c.args.call.now.header.at.vars.list c.loop-e.e-index = is_at c.args.call.now.header.at.vars.list c.loop-e.e-index (subst (λ (n : ℕ). c.loop-e.e-index < n) (sym c.requires.count) c.loop-e-test.true) in
     let GO = λ (to : List ℕ) (s : TypeScope). args_typed (here_at c.args.class.now c.args.m.now c.args.env.now.vars.list) c.args.call.now.from.items (drop (c.loop-e.e-index + 1) c.args.call.now.header.at.vars.list) (typed_args (here_at c.args.class.now c.args.m.now c.args.env.now.vars.list) (drop (c.loop-e.e-index + 1) c.args.args.now)) to s in
     record {
       stays = stays_more c.loop-e.invariant.stays c.in-Ok.ensures.stays;
@@ -339,9 +333,20 @@ type_args-loop-e-preserved t c =
       there = stays_there c.args.p.now c.args.class.now c.args.m.now c.loop-e.invariant.there c.in-Ok.ensures.stays c.loop-e.invariant.passed.scope c.in-Ok.ensures.passed.grows c.in-Ok.ensures.passed.scope;
       passed = passed_more c.loop-e.invariant.passed c.in-Ok.ensures.passed;
       count = c.in-Ok.ensures.longer ∙ ap (λ (n : ℕ). n + 1) c.loop-e.invariant.count;
+      fits = c.in-Ok.ensures.fits;
+      room = ap (λ (h : CodeHeader). length h.at.vars.list) c.in-Ok.ensures.passed.header ∙ c.loop-e.invariant.room;
       leads = args_more c.args.p.now (here_at c.args.class.now c.args.m.now c.args.env.now.vars.list) c.args.call.now.from.items c.args.call.now.header.at.vars.list c.args.args.now c.loop-e.e-index _ c.loop-e.call.paths.items (scope_in c.loop-e.env.pool c.loop-e.scope) c.args.env.now.marks c.loop-e.env.marks c.loop-e.invariant.leads c.e-item.result c.loop-e-test.true c.e-item.is AT c.type_arg.new.call.paths.items (scope_in c.type_arg.new.env.pool c.type_arg.new.scope) c.type_arg.new.env.marks
           (one_arg_at c.args.p.now c.args.class.now c.args.m.now c.e-item.result AT.x c.loop-e.call.paths.items (scope_in c.loop-e.env.pool c.loop-e.scope) c.loop-e.env.marks c.type_arg.new.env.marks GO (λ (u : Unit {0}). GO c.type_arg.new.call.paths.items (scope_in c.type_arg.new.env.pool c.type_arg.new.scope)) (Ok tt) c.loop-e.env.vars.list c.args.env.now.vars.list c.loop-e.call.from.items c.args.call.now.from.items (vars_stay c.loop-e.invariant.stays) c.loop-e.invariant.passed.from (c.in-Ok.ensures.told AT.x GO (got_at c.loop-e.call.header c.args.call.now.header (length c.loop-e.call.paths.items) c.loop-e.e-index AT.x c.loop-e.invariant.passed.header c.loop-e.invariant.count AT.get)));
     }
+
+pub type_args-returns-clause-fits : goal.type_args-returns-clause-fits
+type_args-returns-clause-fits t c =
+    c.loop-e.invariant.fits
+
+pub type_args-returns-clause-full : goal.type_args-returns-clause-full
+type_args-returns-clause-full t c =
+    all_passed c.args.p.now c.loop-e.env.pool (scope_in c.loop-e.env.pool c.loop-e.scope) c.loop-e.call c.loop-e.invariant.passed.scope.fits.binds c.loop-e.invariant.fits c.loop-e.e-index (length c.args.args.now)
+    c.loop-e.invariant.count c.loop-e-test.false c.loop-e.invariant.room
 
 pub type_called-result_of-requires-clause-scope : goal.type_called-result_of-requires-clause-scope
 type_called-result_of-requires-clause-scope t c =
@@ -349,20 +354,24 @@ type_called-result_of-requires-clause-scope t c =
 
 pub type_called-result_of-requires-clause-call : goal.type_called-result_of-requires-clause-call
 type_called-result_of-requires-clause-call t c =
-    call_stays c.args.env.now.pool c.type_args.new.env.pool c.args.call.now c.type_args.new.call c.requires.call c.in-Ok.ensures.stays.pool c.in-Ok.ensures.passed.header c.in-Ok.ensures.passed.from
+    c.in-Ok.ensures.fits
+
+pub type_called-result_of-requires-clause-full : goal.type_called-result_of-requires-clause-full
+type_called-result_of-requires-clause-full t c =
+    c.in-Ok.ensures.full
 
 pub type_called-returns-in-Err-clause-told : goal.type_called-returns-in-Err-clause-told
 type_called-returns-in-Err-clause-told t c =
-    args_refused c.args.p.now c.args.class.now c.args.m.now c.args.args.now c.args.env.now.pool c.args.call.now c.requires.call c.args.env.now.vars.list (scope_in c.args.env.now.pool c.args.scope.now) c.args.env.now.marks c.args.env.now.marks c.type_args.new.env.marks
+    args_refused c.args.p.now c.args.class.now c.args.m.now c.args.args.now c.args.env.now.pool c.args.call.now c.requires.call.is_call c.args.env.now.vars.list (scope_in c.args.env.now.pool c.args.scope.now) c.args.env.now.marks c.args.env.now.marks c.type_args.new.env.marks
     (called (here_at c.args.class.now c.args.m.now c.args.env.now.vars.list) (header_in c.args.env.now.pool c.args.call.now.header) (typed_args (here_at c.args.class.now c.args.m.now c.args.env.now.vars.list) c.args.args.now) c.args.call.now.paths.items (scope_in c.args.env.now.pool c.args.scope.now)) (result_gives (header_in c.args.env.now.pool c.args.call.now.header)) c.args.env.now.vars.list (scope_in c.args.env.now.pool c.args.scope.now) refl refl (leads_here _ c.args.env.now.marks) (λ (u : Unit {0}). passed_in c.type_args.new.env.pool c.type_args.new.scope c.type_args.new.call) (typed_in c.type_args.new.env.pool c.type_args.new.scope) c.type_args.new.env.marks c.in-Err.fault c.in-Err.ensures.told
 
 pub type_called-returns-in-Ok-clause-told : goal.type_called-returns-in-Ok-clause-told
 type_called-returns-in-Ok-clause-told t c =
     leads_told (typed_in c.result_of.new.env.pool c.type_args.new.scope) c.result_of.new.env.marks
-    (args_went c.args.p.now c.args.class.now c.args.m.now c.args.args.now c.args.env.now.pool c.args.call.now c.requires.call c.args.env.now.vars.list (scope_in c.args.env.now.pool c.args.scope.now) c.args.env.now.marks c.args.env.now.marks c.type_args.new.env.marks
+    (args_went c.args.p.now c.args.class.now c.args.m.now c.args.args.now c.args.env.now.pool c.args.call.now c.requires.call.is_call c.args.env.now.vars.list (scope_in c.args.env.now.pool c.args.scope.now) c.args.env.now.marks c.args.env.now.marks c.type_args.new.env.marks
     (called (here_at c.args.class.now c.args.m.now c.args.env.now.vars.list) (header_in c.args.env.now.pool c.args.call.now.header) (typed_args (here_at c.args.class.now c.args.m.now c.args.env.now.vars.list) c.args.args.now) c.args.call.now.paths.items (scope_in c.args.env.now.pool c.args.scope.now)) (result_gives (header_in c.args.env.now.pool c.args.call.now.header)) c.args.env.now.vars.list (scope_in c.args.env.now.pool c.args.scope.now) refl refl (leads_here _ c.args.env.now.marks) (passed_in c.type_args.new.env.pool c.type_args.new.scope c.type_args.new.call) c.in-Ok.ensures.told) c.result_of.result
     (result_at c.args.p.now (header_in c.type_args.new.env.pool c.type_args.new.call.header) (header_in c.args.env.now.pool c.args.call.now.header) (passed_in c.type_args.new.env.pool c.type_args.new.scope c.type_args.new.call) (passed_in c.type_args.new.env.pool c.type_args.new.scope c.type_args.new.call) (typed_in c.result_of.new.env.pool c.type_args.new.scope) c.type_args.new.env.marks c.result_of.new.env.marks c.result_of.result
-    (header_stays c.args.env.now.pool c.type_args.new.env.pool c.args.call.now c.type_args.new.call c.requires.call c.in-Ok.ensures.stays.pool c.in-Ok.ensures.passed.header c.in-Ok.ensures.passed.from) refl (c.result_of.ensures.told c.args.p.now))
+    (header_stays c.args.env.now.pool c.type_args.new.env.pool c.args.call.now c.type_args.new.call c.requires.call.is_call c.in-Ok.ensures.stays.pool c.in-Ok.ensures.passed.header c.in-Ok.ensures.passed.from) refl c.result_of.ensures.told)
 
 pub type_called-returns-in-Ok-clause-value : goal.type_called-returns-in-Ok-clause-value
 type_called-returns-in-Ok-clause-value t c =
@@ -375,7 +384,7 @@ type_called-returns-in-Ok-clause-stays t c =
 pub type_call-type_called-requires : goal.type_call-type_called-requires
 type_call-type_called-requires t c =
     let THERE = stays_there c.args.p.now c.args.class.now c.args.m.now c.requires.there c.in-Ok.ensures.stays c.requires.scope c.in-Ok.ensures.call.grows c.in-Ok.ensures.call.scope in
-    (search rules, (parts_stay c.requires.parts c.in-Ok.ensures.stays, (c.in-Ok.ensures.call.scope, (THERE, (c.in-Ok.ensures.call.is_call, ap length c.in-Ok.ensures.call.paths)))))
+    (search rules, (parts_stay c.requires.parts c.in-Ok.ensures.stays, (c.in-Ok.ensures.call.scope, (THERE, (c.in-Ok.ensures.fits, (ap length c.in-Ok.ensures.call.paths, c.in-Ok.ensures.count))))))
 
 pub type_call-returns-in-Err-clause-told : goal.type_call-returns-in-Err-clause-told
 type_call-returns-in-Err-clause-told t c =
@@ -397,7 +406,7 @@ type_call-returns-in-Ok-clause-stays t c =
 
 pub type_made-type_args-requires : goal.type_made-type_args-requires
 type_made-type_args-requires t c =
-    (search rules, (c.requires.parts, (c.requires.scope, (c.requires.there, c.requires.call.begun c.in-Some.begun c.in-Some.is))))
+    (search rules, (c.requires.parts, (c.requires.scope, (c.requires.there, (c.requires.call.fits c.in-Some.begun c.in-Some.is, (c.requires.call.begun c.in-Some.begun c.in-Some.is, c.requires.call.count c.in-Some.begun c.in-Some.is))))))
 
 pub type_made-returns-in-None-clause-told : goal.type_made-returns-in-None-clause-told
 type_made-returns-in-None-clause-told t c =
@@ -439,7 +448,7 @@ type_made-returns-clause-stays t c =
 pub type_new-type_made-requires : goal.type_new-type_made-requires
 type_new-type_made-requires t c =
     let THERE = stays_there c.args.p.now c.args.class.now c.args.m.now c.requires.there c.in-Ok.ensures.stays c.requires.scope c.in-Ok.ensures.made.grows c.in-Ok.ensures.made.scope in
-    (search rules, (parts_stay c.requires.parts c.in-Ok.ensures.stays, (c.in-Ok.ensures.made.scope, (THERE, (c.in-Ok.ensures.made.number, (c.in-Ok.ensures.made.fits, record { call = c.in-Ok.ensures.made.call; begun = c.in-Ok.ensures.made.begun }))))))
+    (search rules, (parts_stay c.requires.parts c.in-Ok.ensures.stays, (c.in-Ok.ensures.made.scope, (THERE, (c.in-Ok.ensures.made.number, (c.in-Ok.ensures.made.fits, c.in-Ok.ensures.awaits))))))
 
 pub type_new-returns-in-Err-clause-told : goal.type_new-returns-in-Err-clause-told
 type_new-returns-in-Err-clause-told t c =
@@ -462,7 +471,10 @@ type_new-returns-in-Ok-clause-stays t c =
 pub type_super_body-type_args-requires : goal.type_super_body-type_args-requires
 type_super_body-type_args-requires t c =
     let SCOPE = scope_stays c.requires.scope c.in-Ok.ensures.stays.pool in
-    (search rules, (parts_stay c.requires.parts c.in-Ok.ensures.stays, (SCOPE, (stays_there c.args.p.now c.args.class.now c.args.m.now c.requires.there c.in-Ok.ensures.stays c.requires.scope (grows_none c.args.scope.now) SCOPE, c.in-Ok.ensures.begun))))
+    let FITS = c.in-Ok.ensures.fits (scope_in c.enter_super.new.env.pool c.args.scope.now)
+    (subst (λ (q : TypeScope). Binds q 0) (sym (scope_kept c.args.scope.now c.requires.scope.known c.in-Ok.ensures.stays.pool)) (this_there c.args.p.now (site_here (here_at c.args.class.now c.args.m.now c.args.env.now.vars.list)) (scope_in c.args.env.now.pool c.args.scope.now) c.requires.there).bound_in)
+    (subst (λ (q : TypeScope). length (bound_of q 0) ≡ length c.args.owner.now) (sym (scope_kept c.args.scope.now c.requires.scope.known c.in-Ok.ensures.stays.pool)) c.requires.deep) in
+    (search rules, (parts_stay c.requires.parts c.in-Ok.ensures.stays, (SCOPE, (stays_there c.args.p.now c.args.class.now c.args.m.now c.requires.there c.in-Ok.ensures.stays c.requires.scope (grows_none c.args.scope.now) SCOPE, (FITS, (c.in-Ok.ensures.begun, c.in-Ok.ensures.count))))))
 
 pub type_super_body-returns-in-Err-type_args-clause-stays : goal.type_super_body-returns-in-Err-type_args-clause-stays
 type_super_body-returns-in-Err-type_args-clause-stays t c =
@@ -478,7 +490,11 @@ type_super_body-end_super-requires-clause-scope t c =
 
 pub type_super_body-end_super-requires-clause-call : goal.type_super_body-end_super-requires-clause-call
 type_super_body-end_super-requires-clause-call t c =
-    call_stays c.enter_super.new.env.pool c.type_args.new.env.pool c.in-Ok.begun c.type_args.new.call c.in-Ok.ensures.call c.in-Ok-type_args.ensures.stays.pool c.in-Ok-type_args.ensures.passed.header c.in-Ok-type_args.ensures.passed.from
+    c.in-Ok-type_args.ensures.fits
+
+pub type_super_body-end_super-requires-clause-full : goal.type_super_body-end_super-requires-clause-full
+type_super_body-end_super-requires-clause-full t c =
+    c.in-Ok-type_args.ensures.full
 
 pub type_super_body-returns-in-Err-clause-told : goal.type_super_body-returns-in-Err-clause-told
 type_super_body-returns-in-Err-clause-told t c =
@@ -510,7 +526,9 @@ type_super_body-returns-clause-stays t c =
 pub type_super-type_super_body-requires : goal.type_super-type_super_body-requires
 type_super-type_super_body-requires t c =
     let SCOPE = scope_stays c.requires.scope c.in-Ok.ensures.stays.pool in
-    (search rules, (parts_stay c.requires.parts c.in-Ok.ensures.stays, (SCOPE, stays_there c.args.p.now c.args.class.now c.args.m.now c.requires.there c.in-Ok.ensures.stays c.requires.scope (grows_none c.args.scope.now) SCOPE)))
+    let AT = own_name (subst (λ (R : Path). MethodAt c.args.p.now R c.args.name.now.name c.in-Some.method.now) (ap (λ (q : ShownPath). reverse q.names) c.in_ok-path-in-Ok.ensures ∙ reverse-reverse c.in-Ok.owner) c.in-Some.ensures) in
+    let DEEP = subst (λ (q : TypeScope). length (bound_of q 0) ≡ length c.in-Ok.owner) (sym (scope_kept c.args.scope.now c.requires.scope.known c.in-Ok.ensures.stays.pool)) c.in-Ok.ensures.deep in
+    (search rules, (parts_stay c.requires.parts c.in-Ok.ensures.stays, (SCOPE, (stays_there c.args.p.now c.args.class.now c.args.m.now c.requires.there c.in-Ok.ensures.stays c.requires.scope (grows_none c.args.scope.now) SCOPE, (AT, DEEP)))))
 
 pub type_super-returns-in-Err-clause-told : goal.type_super-returns-in-Err-clause-told
 type_super-returns-in-Err-clause-told t c =

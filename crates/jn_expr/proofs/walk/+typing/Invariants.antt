@@ -6,7 +6,7 @@ use Rattle.jn_expr.specs.Envs.{ArePartsOf, IsScope, IsThere, Stays, parts, here_
 use Rattle.jn_expr.specs.Passing.{Grows}
 use Rattle.jn_expr.specs.Values.{typed_in, TypedFits}
 use Rattle.jn_expr.specs.Steps.{Leads}
-use Rattle.jn_expr.specs.Calling.{IsPassed}
+use Rattle.jn_expr.specs.Calling.{CallFits, IsPassed}
 use Rattle.jn_expr.proofs.walk.+typing.Given as goal
 
 abbrev pub invariant-type_links-loop-l : goal.invariant-type_links-loop-l
@@ -46,6 +46,8 @@ invariant-type_args-loop-e l = record {
   there : IsThere l.p (site_here (here_at l.class l.m l.env.vars.list)) (scope_in l.env.pool l.scope);
   passed : IsPassed l.env.pool l.fn.scope l.scope l.fn.call l.call;
   count : length l.call.paths.items ≡ l.e-index + 1;
+  fits : CallFits l.p l.env.pool (scope_in l.env.pool l.scope) l.call;
+  room : length l.call.header.at.vars.list ≡ length l.args;
   leads : Leads l.p
       (args_typed (here_at l.class l.m l.fn.env.vars.list) l.fn.call.from.items l.fn.call.header.at.vars.list
       (typed_args (here_at l.class l.m l.fn.env.vars.list) l.args) l.fn.call.paths.items (scope_in l.fn.env.pool l.fn.scope))
