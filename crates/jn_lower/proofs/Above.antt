@@ -1,9 +1,8 @@
 -- Calls of `super`: each step of the walk, and what it does.
-use Rattle.std.proofs.Common.{◌≡◌, ◌<◌, ◌≤◌, ◌+◌, ℕ, suc, List, [], ◌∷◌, ◌++◌, length, drop, get_or, map, reverse, Bool, true, false, Option, Some, None, refl, sym, ap, ◌∙◌, subst, add-one, append_assoc, eqb-true}
+use Rattle.std.proofs.Common.{◌≡◌, ◌<◌, ◌≤◌, ◌+◌, ℕ, suc, List, [], ◌∷◌, ◌++◌, length, drop, get_or, Bool, true, Option, Some, refl, sym, ap, ◌∙◌, subst, add-one, eqb-true}
 use Rattle.std.specs.Prelude.{Result, Ok, slice_get}
 use Rattle.std.proofs.Math.Seq.{drop-cons}
-use Rattle.std.proofs.lemmas.List.{drop_all, length-map, reverse-reverse}
-use Rattle.jn_base.specs.declared.tree.Name.{Name}
+use Rattle.std.proofs.lemmas.List.{drop_all, length-map}
 use Rattle.jn_base.specs.declared.tree.Named.{Named}
 use Rattle.jn_base.specs.declared.tree.Place.{Place}
 use Rattle.jn_base.specs.declared.tree.Term.{Term}
@@ -11,28 +10,29 @@ use Rattle.jn_base.specs.declared.tree.Expr.{Expr}
 use Rattle.jn_base.specs.declared.tree.Constraint.{Constraint}
 use Rattle.jn_base.specs.declared.tree.Node.TheVariants as node
 use Rattle.jn_base.specs.declared.tree.Program.{Program}
-use Rattle.jn_base.specs.declared.path.Path.{Path as ShownPath}
 use Rattle.jn_base.specs.declared.types.Atom.{Atom as ShownAtom}
+use Rattle.jn_base.specs.declared.types.Anchor.TheVariants.{Up}
 use Rattle.jn_base.specs.declared.names.Role.TheVariants as role
 use Rattle.jn_base.specs.declared.names.Var.{Var}
 use Rattle.jn_base.specs.declared.refusal.Refusal.{Refusal}
 use Rattle.jn_base.specs.declared.refusal.Rule.TheVariants as rule
 use Rattle.jn_base.specs.Parts.{expr}
-use Rattle.jn_base.specs.Paths.{Path, shown}
-use Rattle.jn_base.specs.Atoms.{Atom, atom_of}
+use Rattle.jn_base.specs.Paths.{Path}
+use Rattle.jn_base.specs.Atoms.{atom_of}
 use Rattle.jn_base.specs.Scopes.{Scope, bound}
 use Rattle.jn_base.specs.Resolve.{Resolve, scope_at}
-use Rattle.jn_code.specs.declared.instr.Instr.{Instr}
 use Rattle.jn_code.specs.declared.instr.Instr.TheVariants as ins
 use Rattle.jn_code.specs.declared.image.Shape.{Shape}
 use Rattle.jn_code.specs.declared.image.Code.{Code}
+use Rattle.jn_laws.specs.LawsOfWritten.{HeaderPath}
+use Rattle.jn_laws.proofs.Terms.{header_path, case_path, term_case}
 use Rattle.jn_sem.specs.NormalFunction.{normal_type}
 use Rattle.jn_sem.specs.Terms.{spot_at, vars_at, SuperBound}
 use Rattle.jn_sem.specs.Does.{Body, IsBody}
-use Rattle.jn_rules.specs.Plans.{Pledge, Target, target_type, IsBelow, OfTerm, OfBody, Mark, AtomMark, MemberMark, Plan, note, ask, taken, then_do, wants, found_or}
+use Rattle.jn_rules.specs.Plans.{Pledge, target_type, IsBelow, OfTerm, OfBody, Mark, AtomMark, MemberMark, Plan, note, ask, then_do, wants, found_or}
 use Rattle.jn_rules.specs.Questions.{Means, Finds, Gives, Notes}
 use Rattle.jn_rules.specs.Headers.{Header, header_typed}
-use Rattle.jn_rules.specs.Exprs.{Here, site_here, Typed, Passed, Passing, mismatch, in_method, of_name, of_class, plain, gives, put_in, type_passed, arg_passed, args_typed, replaced_paths, as_many, call_typed, result_gives, header_grants, constraints_granted, super_with, super_gives, super_typed, expr_types}
+use Rattle.jn_rules.specs.Exprs.{Here, site_here, Typed, Passed, mismatch, in_method, of_name, of_class, put_in, type_passed, arg_passed, args_typed, replaced_paths, as_many, call_typed, result_gives, header_grants, constraints_granted, super_with, super_gives, super_typed, expr_types}
 use Rattle.jn_rules.specs.Forms.{typed_args, typed_expr}
 use Rattle.jn_rules.proofs.FormLaws.{forms_are}
 use Rattle.jn_rules.proofs.PlanLaws.{then_noted, notes_give}
@@ -41,7 +41,6 @@ use Rattle.jn_agree.specs.Naming.{Naming}
 use Rattle.jn_agree.specs.Rows.{IsShape, kind_of_type, result_kind}
 use Rattle.jn_agree.specs.Places.{MethodOf, dropping}
 use Rattle.jn_places.specs.ExprPlaces.{ArgsAt}
-use Rattle.jn_lower.specs.declared.cursor.Marks.{Marks}
 use Rattle.jn_lower.specs.declared.emitter.Emitter.{Emitter}
 use Rattle.jn_lower.specs.declared.walk.Parts.{Parts}
 use Rattle.jn_lower.specs.declared.walk.Walk.{Walk}
@@ -50,16 +49,16 @@ use Rattle.jn_lower.specs.Cursors.{Ahead}
 use Rattle.jn_lower.specs.Emitted.{Emitted, Adds}
 use Rattle.jn_lower.specs.Forms.{Value}
 use Rattle.jn_lower.specs.Called.{Args, SuperArgs}
-use Rattle.jn_lower.specs.Selecting.{shape_of, method_sel}
+use Rattle.jn_lower.specs.Selecting.{shape_of}
 use Rattle.jn_lower.specs.Told.{IsCallee}
 use Rattle.jn_lower.specs.Lowering.{PartsAre}
-use Rattle.jn_lower.specs.Making.{AboveFound, TuckedFor, AboveCalled, BareCalled}
-use Rattle.jn_lower.specs.Walks.{Ready, LowersValue, LowersArgs, LowersNodeAs}
+use Rattle.jn_lower.specs.Making.{bound_in, AboveFound, TuckedFor, AboveCalled, BareCalled}
+use Rattle.jn_lower.specs.Walks.{ReadyIn, LowersValue, LowersArgs, LowersNodeAs}
 use Rattle.jn_lower.proofs.Growing.{means}
 use Rattle.jn_lower.proofs.Calling.{super_so, bare_super_so}
-use Rattle.jn_lower.proofs.Heads.{head_is, header_silent}
+use Rattle.jn_lower.proofs.Heads.{header_silent}
 use Rattle.jn_lower.proofs.Noting.{taken_noted, wants_noted, found_noted, grants_silent}
-use Rattle.jn_lower.proofs.Taking.{term_ahead, member_ahead, ready_locals, ready_in, ready_typed, ready_tucked, scoped_here, scoped_there}
+use Rattle.jn_lower.proofs.Taking.{term_ahead, member_ahead, ready_locals, ready_in, ready_typed, ready_tucked, known_here, known_there}
 use Rattle.jn_lower.proofs.Seen.{named_low}
 use Rattle.jn_lower.proofs.Chains.{is_it, regroup}
 use Rattle.jn_lower.proofs.Behind.{settles, put_kept}
@@ -166,9 +165,18 @@ record Found (g : Parts) (n : Naming) (h : Here) (u : Term) (m : Named) (es : Li
   called : Called g n h u m sc x c.atom (length es) shape
   ahead : Ahead (c.before ++ (c.after ++ rest)) w1.marks
 
+-- the atom of a `super` term hangs on no fresh path
+super_path : (p : Program) (h : Here) (u : Term) (a : ShownAtom)
+    → Resolve p (spot_at (site_here h) role.Super) (vars_at (site_here h)) u (Ok a) → (q k : ℕ)
+    → (atom_of a).anchor ≡ Up q k → HeaderPath h.vars q
+super_path p h u a resolved q k i =
+    let sp = spot_at (site_here h) role.Super in
+    let vs = vars_at (site_here h) in
+    header_path role.Super h.vars q (case_path sp vs u.head a.anchor q k (term_case p sp vs u a resolved).anchor i)
+
 found : (g : Parts) (n : Naming) (scratch : ℕ) (h : Here) (u : Term) (m : Named) (es : List Expr) (sc : Scope) (x : Above)
     (z : Typed) (ms rest : List Mark) (w0 w1 : Walk) → PartsAre g.p.now g.t.now g.slots.now g.names.now n
-    → Ready g scratch h sc w0 → Ahead (ms ++ rest) w0.marks → AboveFound g m.name (length es) x w0 w1
+    → ReadyIn g scratch h sc w0 → Ahead (ms ++ rest) w0.marks → AboveFound g m.name (length es) x w0 w1
     → (c : AboveNoted g.p.now h u m es sc z ms) → Found g n h u m es sc x z ms rest w1 c
 found g n scratch h u m es sc x z ms rest w0 w1 parts ready ahead f c =
     let one = term_ahead f.atom c.atom (MemberMark c.body.class ∷ (c.before ++ (c.after ++ rest))) w0.marks f.mid f.term
@@ -178,12 +186,12 @@ found g n scratch h u m es sc x z ms rest w0 w1 parts ready ahead f c =
     let callee = f.is c.body.method (method_there g.p.now c.body f.path m.name two.same c.is_body.at) in
     let B = bound sc (atom_of c.atom) in
     let s = scope_at (spot_at (site_here h) role.Super) (vars_at (site_here h)) in
+    let class : slice_get n.classes x.class ≡ Some (bound_in g c.atom) =
+    f.class n parts.classes ∙ ap (λ (a : ShownAtom). Some (bound_in g a)) one.same in
     let here : slice_get n.classes x.class ≡ Some B =
-    f.class n parts.classes sc (scoped_here g scratch h sc w0 ready)
-    ∙ ap (λ (a : ShownAtom). Some (bound sc (atom_of a))) one.same in
+    class ∙ ap (λ (R : Path). Some R) (known_here scratch h sc w0 ready (atom_of c.atom) (super_path g.p.now h u c.atom c.resolved)) in
     let there : slice_get n.classes x.class ≡ Some (bound s (atom_of c.atom)) =
-    f.class n parts.classes s (scoped_there g scratch h sc w0 ready)
-    ∙ ap (λ (a : ShownAtom). Some (bound s (atom_of a))) one.same in
+    class ∙ ap (λ (R : Path). Some R) (known_there scratch h sc w0 ready (atom_of c.atom)) in
     let shape = shape_of f.callee.params.items f.callee.kind in
     record {
       shape = shape;
@@ -319,13 +327,13 @@ above_done g u m e es keeps x w0 w1 w2 w3 w4 w5 above value tucked args made pl 
       (subst (λ (us : List Var). Notes g.p.now (args_typed h from us (typed_args h (e ∷ es)) (0 ∷ []) sc) c.before c.passed) vs.all c.args) in
       let w = wants_noted y.then.0 (mismatch h e.at) (more from v vs.others y.first) y.after c.passed y.then.2 in
       let P = arg_passed from (0 ∷ []) v y.first in
-      let ready1 = ready_locals g scratch h sc w0 w1 (ap (λ (o : Emitter). o.locals) above.out) ready in
+      let ready1 = ready_locals scratch h sc w0 w1 (ap (λ (o : Emitter). o.locals) above.out) ready in
       let d = (value n scratch h sc parts).done y.before (y.after ++ (c.after ++ rest)) y.first ready1 y.noted
       (subst (λ (l : List Mark). Ahead l w1.marks) (regroup c.before y.before y.after (c.after ++ rest) y.all) f.ahead) in
-      let ready2 = ready_typed g scratch h sc e y.before y.first w1 w2 y.noted d.emitted.grown ready1 in
-      let ready3 = ready_in g scratch h y.first.scope P.scope w3
+      let ready2 = ready_typed g.p.now scratch h sc e y.before y.first w1 w2 y.noted d.emitted.grown ready1 in
+      let ready3 = ready_in scratch h y.first.scope P.scope w3
       (named_low (type_passed y.first.ty (put_in y.first.scope from (0 ∷ []) v.ty)) y.first.path y.first.scope)
-      (ready_tucked g scratch h y.first.scope x.first w2 w3 tucked.tucks ready2) in
+      (ready_tucked scratch h y.first.scope x.first w2 w3 tucked.tucks ready2) in
       let a = (args n scratch h parts).done from vs.others (0 ∷ P.path ∷ []) P.scope c.passed y.after (c.after ++ rest)
       vs.long ready3 w.then (subst (Ahead (y.after ++ (c.after ++ rest))) (sym tucked.marks) d.left) in
       let t = put_in c.passed.scope from c.passed.paths k.result in

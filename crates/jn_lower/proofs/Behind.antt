@@ -1,5 +1,5 @@
 -- A field and a call behind a receiver: each step of the walk, and what it does.
-use Rattle.std.proofs.Common.{◌≡◌, ℕ, zero, suc, List, [], ◌∷◌, ◌++◌, length, map, Bool, true, false, Option, Some, None, reverse, refl, sym, ap, ◌∙◌, subst}
+use Rattle.std.proofs.Common.{◌≡◌, ℕ, suc, List, [], ◌∷◌, ◌++◌, length, Bool, true, false, Option, Some, None, reverse, refl, sym, ap, ◌∙◌, subst}
 use Rattle.std.proofs.lemmas.List.{length-map, reverse-reverse}
 use Rattle.std.specs.Prelude.{Result, Ok, cond, slice_get}
 use Rattle.jn_base.specs.declared.tree.Name.{Name}
@@ -24,7 +24,7 @@ use Rattle.jn_base.specs.ResolveTypes.{mask_names}
 use Rattle.jn_sem.specs.NormalFunction.{subst_type}
 use Rattle.jn_sem.specs.Terms.{spot}
 use Rattle.jn_sem.specs.Does.{Body}
-use Rattle.jn_rules.specs.Plans.{FoundField, OfField, OfMethod, Mark, MemberMark, KindMark, Plan, ask, note, refuse, then_do, wants, found_or}
+use Rattle.jn_rules.specs.Plans.{FoundField, OfField, OfMethod, Mark, MemberMark, KindMark, Plan, ask, note, refuse, then_do, found_or}
 use Rattle.jn_rules.specs.Questions.{Gives, Notes, Finds, IsFoundField, IsMethodOf}
 use Rattle.jn_rules.specs.LawsOfPlans.{RepliesAreOne}
 use Rattle.jn_rules.specs.Headers.{Header, header_typed}
@@ -249,7 +249,7 @@ call_done g keeps f es path m1 w0 w2 w3 took all made n scratch h parts = record
       let w1 : Walk = record w0 { marks = m1 } in
       let d = (all n scratch h parts).done (replaced_paths k.vars) k.vars (r.path ∷ []) r.scope c.passed c.before
       (c.after ++ rest) (called_many g.names.now.methods f.name c.body.method made.callee k (length es) is head made.many)
-      (ready_in g scratch h x.scope r.scope w1 (named_low x.ty x.path x.scope) (ready_locals g scratch h x.scope w0 w1 refl ready))
+      (ready_in scratch h x.scope r.scope w1 (named_low x.ty x.path x.scope) (ready_locals scratch h x.scope w0 w1 refl ready))
       c.args one.left in
       let t = put_in c.passed.scope (replaced_paths k.vars) c.passed.paths k.result in
       let s = settles g.p.now t c.passed.scope made.callee.kind y c.after rest made.mid w3 c.result

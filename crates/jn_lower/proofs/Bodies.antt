@@ -1,5 +1,5 @@
 -- A whole body stands where its parts were emitted one behind the other.
-use Rattle.std.proofs.Common.{◌≡◌, ℕ, suc, ◌+◌, ◌<◌, ◌≤◌, List, [], ◌∷◌, ◌++◌, length, map, Bool, true, false, Option, None, zero, refl, sym, ap, ◌∙◌, subst, arith, append-nil}
+use Rattle.std.proofs.Common.{◌≡◌, ℕ, suc, ◌<◌, List, [], ◌∷◌, ◌++◌, length, map, Bool, true, false, Option, None, refl, sym, ap, ◌∙◌, subst, arith, append-nil}
 use Rattle.std.proofs.lemmas.List.{length-map}
 use Rattle.std.proofs.lemmas.Option.{slice_get_within}
 use Rattle.std.specs.Prelude.{Result, Ok, Some, take, slice_get, ◌||◌}
@@ -13,34 +13,29 @@ use Rattle.jn_code.specs.declared.instr.Instr.{Instr}
 use Rattle.jn_code.specs.declared.image.Code.{Code}
 use Rattle.jn_sem.specs.Acts.{path_behind}
 use Rattle.jn_sem.specs.Does.{Body}
-use Rattle.jn_rules.specs.Plans.{Mark, Plan, Nothing, done, then_do, wants}
+use Rattle.jn_rules.specs.Plans.{Mark, Plan, Nothing, done, wants}
 use Rattle.jn_rules.specs.Questions.{Gives, Notes}
-use Rattle.jn_rules.specs.Resolved.{IsResolved, AreSorted}
-use Rattle.jn_rules.specs.Headers.{Header, site_in, header_typed}
+use Rattle.jn_rules.specs.Resolved.{AreSorted}
+use Rattle.jn_rules.specs.Headers.{Header, header_typed}
 use Rattle.jn_rules.specs.Exprs.{in_method}
 use Rattle.jn_rules.specs.Stmts.{Before, here, is_void, all_stop, stmts_type, body_in, at_start, body_with, body_types}
 use Rattle.jn_rules.proofs.PlanLaws.{then_noted, notes_give, plan_one}
 use Rattle.jn_agree.specs.Naming.{Naming}
 use Rattle.jn_agree.specs.Rows.{kind_of_type}
-use Rattle.jn_agree.specs.Places.{Run, tests, last_return}
+use Rattle.jn_agree.specs.Places.{Run, last_return}
 use Rattle.jn_places.specs.StmtPlaces.{StmtsAt, TypedBodyAt}
-use Rattle.jn_lower.specs.declared.cursor.Marks.{Marks}
 use Rattle.jn_lower.specs.declared.emitter.Locals.{Locals}
 use Rattle.jn_lower.specs.declared.emitter.Emitter.{Emitter}
 use Rattle.jn_lower.specs.declared.walk.Parts.{Parts}
 use Rattle.jn_lower.specs.declared.walk.Walk.{Walk}
 use Rattle.jn_lower.specs.Cursors.{Ahead}
-use Rattle.jn_lower.specs.Placed.{Same}
 use Rattle.jn_lower.specs.Emitted.{Fits, Adds}
 use Rattle.jn_lower.specs.Written.{param_kind, param_tests, written_result}
 use Rattle.jn_lower.specs.Lowering.{PartsAre, BodyIs}
 use Rattle.jn_lower.specs.Walks.{Ready, LowersStmts, Begun, Finished}
 use Rattle.jn_lower.proofs.Growing.{added, earlier}
 use Rattle.jn_lower.proofs.Finishing.{locals_fit}
-use Rattle.jn_base.specs.declared.tree.Param.{Param}
-use Rattle.jn_base.specs.Paths.{Path}
-use Rattle.jn_lower.specs.Params.{AtParam, AreParamBounds}
-use Rattle.jn_lower.proofs.ParamBounds.{params_known}
+use Rattle.jn_lower.specs.Known.{AreParamsOf}
 use Rattle.jn_lower.proofs.Heads.{HeadIs, head_is, header_silent}
 
 header_same : {x y : Header} → ◌≡◌ {A = Result Header Refusal} (Ok x) (Ok y) → x ≡ y
@@ -92,29 +87,22 @@ front (x ∷ xs) (y ∷ ys) f =
     ap (λ (k : ℕ). k ∷ take (length xs) ys) (one_some (f 0 x refl))
     ∙ ap (λ (l : List ℕ). x ∷ l) (front xs ys (λ q k e. f (suc q) k e))
 
-kind_there : (xs : List Param) (j : ℕ) (x : Param) → slice_get xs j ≡ Some x
-    → slice_get (map param_kind xs) j ≡ Some (param_kind x)
-kind_there [] j x e = absurd cc
-kind_there (y ∷ xs) zero x e = ap (λ (z : Param). Some (param_kind z)) (same e) where
-  same : Some y ≡ Some x → y ≡ x
-  same e = cc
-kind_there (y ∷ xs) (suc j) x e = kind_there xs j x e
-
 -- ---- the whole
 
 pub body_stands : (g : Parts) (n : Naming) (m : Method) (r : Resolved) (b : Body) (k : Header) (c0 c1 c3 : Emitter)
-    (w1 w2 : Walk) (code : Code) → PartsAre g.p.now g.t.now g.slots.now g.names.now n → g.class.now ≡ r.class
-    → AreParamBounds g.t.now g.class.now m.name.name m.params g.bounds.now → BodyIs g.p.now m r b k → Begun m c0
+    (us vs : List Var) (w1 w2 : Walk) (code : Code) → PartsAre g.p.now g.t.now g.slots.now g.names.now n
+    → g.class.now ≡ r.class → AreParamsOf g.t.now g.class.now m us → BodyIs g.p.now m r b k → Begun m c0
     → Adds (param_tests 1 m.params) c0 c1 → w1.out ≡ c1 → ((ms : List Mark) → AreSorted ms r → Ahead ms w1.marks)
-    → LowersStmts g m.body w1 w2 → Adds (last_return (written_result m.result)) w2.out c3 → Finished m c3 code
+    → LowersStmts g m.body us vs w1 w2 → Adds (last_return (written_result m.result)) w2.out c3 → Finished m c3 code
     → TypedBodyAt g.p.now n b k code
-body_stands g n m r b k c0 c1 c3 w1 w2 code parts class are is begun tested at_first marks all over end =
+body_stands g n m r b k c0 c1 c3 us vs w1 w2 code parts class are is begun tested at_first marks all over end =
     let head = subst (λ (z : Method). HeadIs z.params z.result k) is.method (head_is g.p.now b k is.header) in
     let noted = body_noted g n b k is.resolved.marks parts is.header is.resolved.noted in
     let scratch = path_behind m.body (suc (length m.params)) in
     let locals1 = ap (λ (o : Emitter). o.locals) at_first ∙ tested.locals in
-    let ready : Ready g scratch (here (body_in b k) (at_start b k)) (at_start b k).scope w1 = record {
+    let ready : Ready g.class.now us scratch (here (body_in b k) (at_start b k)) (at_start b k).scope w1 = record {
       class = class ∙ is.resolved.class;
+      vars = are g.p.now b k parts.filled parts.one (class ∙ is.resolved.class) is.method is.header;
       first = ap (λ (o : Locals). slice_get o.kinds 0) locals1 ∙ ap (λ (l : List ℕ). slice_get l 0) begun.kinds;
       above = ap (λ (o : Locals). o.scratch) locals1 ∙ begun.scratch;
       kinds = λ v h. ap (λ (o : Locals). slice_get o.kinds v.path) locals1 ∙ ap (λ (l : List ℕ). slice_get l v.path) begun.kinds
@@ -127,19 +115,6 @@ body_stands g n m r b k c0 c1 c3 w1 w2 code parts class are is begun tested at_f
           omega (arith, l, most, length-map m.params param_kind);
       paths = head.paths;
       low = λ q l. refl;
-      known = λ q B e.
-          let a = are q B e in
-          let l = slice_get_within m.params a.place a.param a.at in
-          let most = end.few in
-          let number = a.number in
-          record {
-            bound = params_known g.p.now g.t.now b k parts.filled parts.one is.header g.class.now (class ∙ is.resolved.class) q B
-                (subst (λ (z : Method). AtParam g.t.now g.class.now z.name.name z.params q B) (sym is.method) a);
-            few = omega (arith, l, most, number);
-            kind = param_kind a.param;
-            at = ap (λ (o : Locals). slice_get o.kinds q) locals1 ∙ ap (λ (ks : List ℕ). slice_get ks q) begun.kinds
-                ∙ ap (slice_get (3 ∷ map param_kind m.params)) number ∙ kind_there m.params a.place a.param a.at;
-          };
     } in
     let d = (all n scratch (body_in b k) parts).done (at_start b k) noted.after is.resolved.marks [] ready
     (subst (λ (z : Method). Notes g.p.now (stmts_type (body_in b k) z.body (at_start b k)) is.resolved.marks noted.after) is.method noted.noted)

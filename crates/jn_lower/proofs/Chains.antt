@@ -1,5 +1,5 @@
 -- Prefix operators and chains of operators: each step of the walk, and what it does.
-use Rattle.std.proofs.Common.{◌≡◌, ℕ, List, [], ◌∷◌, ◌++◌, length, map, Bool, true, false, refl, sym, ap, ◌∙◌, subst, append_assoc}
+use Rattle.std.proofs.Common.{◌≡◌, List, [], ◌∷◌, ◌++◌, length, Bool, true, refl, sym, ap, ◌∙◌, subst, append_assoc}
 use Rattle.std.specs.Prelude.{Ok, Result, Option, Some, None}
 use Rattle.jn_base.specs.declared.tree.Place.{Place}
 use Rattle.jn_base.specs.declared.tree.Level.{Level}
@@ -15,13 +15,10 @@ use Rattle.jn_base.specs.declared.types.ValKind.TheVariants as kind
 use Rattle.jn_base.specs.declared.tree.Program.{Program}
 use Rattle.jn_base.specs.declared.refusal.Refusal.{Refusal}
 use Rattle.jn_base.specs.Parts.{expr}
-use Rattle.jn_base.specs.Scopes.{Scope}
 use Rattle.jn_code.specs.declared.instr.Instr.{Instr}
 use Rattle.jn_code.specs.declared.instr.Instr.TheVariants as ins
-use Rattle.jn_code.specs.declared.image.Code.{Code}
 use Rattle.jn_rules.specs.Plans.{Mark, KindMark, Plan, then_do, wants}
 use Rattle.jn_rules.specs.Questions.{Gives, Notes}
-use Rattle.jn_rules.specs.LawsOfPlans.{RepliesAreOne}
 use Rattle.jn_rules.specs.Exprs.{Here, Typed, plain, mismatch, is_bool, is_int, takes, takes_both, operator_type, kind_of, gives, expr_types, links_typed}
 use Rattle.jn_rules.specs.Forms.{typed_links}
 use Rattle.jn_rules.proofs.FormLaws.{forms_are}
@@ -114,7 +111,7 @@ chained g level e ls w0 w1 w2 first links pl n scratch h sc parts = record {
       let d = (first n scratch h sc parts).done x.before (x.after ++ rest) x.first ready x.noted
       (subst (λ (l : List Mark). Ahead l w0.marks) (regroup ms x.before x.after rest x.all) ahead) in
       let f = (links n scratch h parts).done e.at x.first z x.after rest
-      (ready_typed g scratch h sc e x.before x.first w0 w1 x.noted d.emitted.grown ready) d.kind x.then d.left in
+      (ready_typed g.p.now scratch h sc e x.before x.first w0 w1 x.noted d.emitted.grown ready) d.kind x.then d.left in
       record {
         left = f.left;
         emitted = chain_so g.p.now n scratch h sc pl level e ls w0.out w1.out w2.out d.emitted
@@ -205,10 +202,10 @@ strict_link g l w0 w1 w2 w3 strict right pushed had ls new behind n scratch h pa
       (subst (λ (l : List Mark). Ahead l w0.marks) (y.all rest) ahead) in
       let it = had_ahead y.kind (y.after ++ rest) w2 w3 had
       (subst (Ahead (KindMark y.kind ∷ (y.after ++ rest))) (sym pushed.marks) d.left) in
-      let ready1 = ready_typed g scratch h x.scope l.right y.before y.right w0 w1 y.noted d.emitted.grown ready in
+      let ready1 = ready_typed g.p.now scratch h x.scope l.right y.before y.right w0 w1 y.noted d.emitted.grown ready in
       let locals = ap (λ (o : Emitter). o.locals) it.out ∙ pushed.adds.locals in
       let f = (behind n scratch h parts).done at (plain (operator_type l.op) y.right.scope) z y.after rest
-      (ready_locals g scratch h y.right.scope w1 w3 locals ready1) (it.last ∙ kinds_agree (operator_type l.op) y.kind y.is_kind) y.behind it.left in
+      (ready_locals scratch h y.right.scope w1 w3 locals ready1) (it.last ∙ kinds_agree (operator_type l.op) y.kind y.is_kind) y.behind it.left in
       record {
         left = f.left;
         emitted = strict_so g.p.now n scratch h x l ls w1.last w0.out w1.out w2.out new.out strict d.emitted
@@ -238,15 +235,15 @@ pub deciding_link : (g : Parts) (l : Link) (and : Bool) (i : Instr) (w0 w1 w2 w3
 deciding_link g l and i w0 w1 w2 w3 decides pushed right dec ls new behind n scratch h parts = record {
   done = λ at x z ms rest ready last noted ahead.
       let y = linked g.p.now h at x z l ls ms noted in
-      let ready1 = ready_locals g scratch h x.scope w0 w1 pushed.adds.locals ready in
+      let ready1 = ready_locals scratch h x.scope w0 w1 pushed.adds.locals ready in
       let d = (right n scratch h x.scope parts).done y.before (KindMark y.kind ∷ (y.after ++ rest)) y.right ready1 y.noted
       (subst (Ahead (y.before ++ (KindMark y.kind ∷ (y.after ++ rest)))) (sym pushed.marks)
       (subst (λ (l : List Mark). Ahead l w0.marks) (y.all rest) ahead)) in
       let it = had_ahead y.kind (y.after ++ rest) (record { out = dec.c4; marks = w2.marks; last = w2.last }) w3 dec.had d.left in
-      let ready2 = ready_typed g scratch h x.scope l.right y.before y.right w1 w2 y.noted d.emitted.grown ready1 in
+      let ready2 = ready_typed g.p.now scratch h x.scope l.right y.before y.right w1 w2 y.noted d.emitted.grown ready1 in
       let locals = ap (λ (o : Emitter). o.locals) it.out ∙ dec.behind.locals ∙ dec.past.locals ∙ dec.decides.locals ∙ dec.jumps.locals in
       let f = (behind n scratch h parts).done at (plain (operator_type l.op) y.right.scope) z y.after rest
-      (ready_locals g scratch h y.right.scope w2 w3 locals ready2) (it.last ∙ kinds_agree (operator_type l.op) y.kind y.is_kind) y.behind it.left in
+      (ready_locals scratch h y.right.scope w2 w3 locals ready2) (it.last ∙ kinds_agree (operator_type l.op) y.kind y.is_kind) y.behind it.left in
       record {
         left = f.left;
         emitted = deciding_so g.p.now n scratch h x l ls and i dec.jump w0.out w1.out w2.out dec.c1 dec.c2 dec.c3 dec.c4 new.out

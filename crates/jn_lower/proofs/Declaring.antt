@@ -1,7 +1,6 @@
 -- Locals and assignments: each step of the walk, and what it does.
-use Rattle.std.proofs.Common.{◌≡◌, ◌<◌, ℕ, List, [], ◌∷◌, ◌++◌, length, map, drop, Bool, true, false, ◌⊎◌, inl, inr, zero, suc, refl, sym, ap, ◌∙◌, subst, arith, append-nil}
-use Rattle.std.proofs.Math.Seq.{drop-append_seam}
-use Rattle.std.specs.Prelude.{Result, Ok, Option, Some, None, slice_get, not, cond, nat_eq}
+use Rattle.std.proofs.Common.{◌≡◌, ◌<◌, ℕ, List, [], ◌∷◌, ◌++◌, length, map, Bool, ◌⊎◌, inl, inr, zero, suc, refl, sym, ap, ◌∙◌, subst, append-nil}
+use Rattle.std.specs.Prelude.{Result, Option, Some, None, slice_get, not, cond, nat_eq}
 use Rattle.jn_base.specs.declared.tree.Named.{Named}
 use Rattle.jn_base.specs.declared.tree.TypeTerm.{TypeTerm}
 use Rattle.jn_base.specs.declared.tree.Expr.{Expr}
@@ -14,18 +13,18 @@ use Rattle.jn_base.specs.declared.names.Role.TheVariants as role
 use Rattle.jn_base.specs.declared.names.Var.{Var}
 use Rattle.jn_base.specs.declared.refusal.Refusal.{Refusal}
 use Rattle.jn_base.specs.declared.refusal.Rule.TheVariants as rule
+use Rattle.jn_base.specs.declared.path.Path.{Path as ShownPath}
 use Rattle.jn_base.specs.Paths.{Path}
-use Rattle.jn_base.specs.Atoms.{Among, first, later, atoms_in, first_at}
+use Rattle.jn_base.specs.Atoms.{Among, atoms_in, first_at}
 use Rattle.jn_base.specs.Scopes.{Scope, bound_of}
 use Rattle.jn_laws.specs.LawsOfWritten.{HeaderPaths}
 use Rattle.jn_laws.proofs.WrittenTypes.{written_kinds}
-use Rattle.std.proofs.lemmas.Option.{slice_get_within}
-use Rattle.jn_base.specs.Resolve.{is_class, var_named, var_bind}
+use Rattle.jn_base.specs.Resolve.{var_named}
 use Rattle.jn_base.specs.ResolveTypes.{ResolveType, mask_names}
 use Rattle.jn_code.specs.declared.instr.Instr.TheVariants as ins
 use Rattle.jn_sem.specs.Terms.{spot_at, vars_at}
 use Rattle.jn_sem.specs.Does.{var}
-use Rattle.jn_rules.specs.Plans.{Mark, AtomMark, VarMark, Plan, IsBelow, done, note, note_all, ask, then_do, wants, taken}
+use Rattle.jn_rules.specs.Plans.{Mark, AtomMark, VarMark, Plan, IsBelow, done, note, note_all, ask, wants}
 use Rattle.jn_rules.specs.Questions.{Notes}
 use Rattle.jn_rules.specs.Resolved.{atom_marked, var_marked, member_marked, kind_marked}
 use Rattle.jn_rules.specs.Headers.{declared_type, scope_of}
@@ -35,22 +34,23 @@ use Rattle.jn_rules.proofs.FormLaws.{forms_are}
 use Rattle.jn_rules.proofs.PlanLaws.{then_noted}
 use Rattle.jn_agree.specs.Rows.{kind_of_type}
 use Rattle.jn_lower.specs.declared.cursor.Marks.{Marks}
-use Rattle.jn_lower.specs.declared.emitter.Emitter.{Emitter}
 use Rattle.jn_lower.specs.declared.walk.Parts.{Parts}
 use Rattle.jn_lower.specs.declared.walk.Walk.{Walk}
 use Rattle.jn_lower.specs.Cursors.{Ahead, VarTaken, TermsTaken}
 use Rattle.jn_lower.specs.Emitted.{Adds}
-use Rattle.jn_lower.specs.Stores.{Binds, stored}
-use Rattle.jn_lower.specs.Written.{written_kind, is_reference, written_terms}
-use Rattle.jn_lower.specs.Walks.{Pushed, BindsWritten, Ready, StmtDone, LowersValue, LowersStmt}
+use Rattle.jn_lower.specs.Stores.{stored}
+use Rattle.jn_lower.specs.Written.{written_terms}
+use Rattle.jn_lower.specs.Walks.{Pushed, BindsWritten, Ready, ReadyIn, Sees, StmtDone, LowersValue, LowersStmt, LowersPlain}
+use Rattle.jn_lower.specs.Known.{bare_type, bare, bare_form, written_type, LocalAdded}
+use Rattle.jn_lower.proofs.Knowing.{bare_more}
 use Rattle.jn_lower.proofs.Holding.{local_so, assign_so}
 use Rattle.jn_lower.proofs.Noting.{taken_noted, wants_noted}
 use Rattle.jn_lower.proofs.Taking.{var_ahead, ready_grown, ready_locals, seen_bound}
 use Rattle.jn_lower.proofs.LeafForms.{named_among, newest_named}
 use Rattle.jn_lower.proofs.Written.{told, type_is, kind_kept, class_kept, void_kept}
 use Rattle.jn_lower.proofs.Chains.{regroup}
-use Rattle.jn_lower.proofs.Seen.{bound_passed, first_low, scope_more, paths_more, among_more}
-use Rattle.jn_lower.proofs.Blocks.{behind_it}
+use Rattle.jn_lower.proofs.Seen.{first_low, scope_more, paths_more, among_more}
+use Rattle.jn_lower.proofs.Blocks.{behind_it, seen_so}
 
 -- ---- the terms of a written type are passed over
 
@@ -70,15 +70,46 @@ no_kinds : (xs : List ShownAtom) (ms : List Mark) → kind_marked (map AtomMark 
 no_kinds [] ms = refl
 no_kinds (x ∷ xs) ms = no_kinds xs ms
 
-pub terms_ahead : (k : ℕ) (xs : List ShownAtom) (ms : List Mark) (old new : Marks) → TermsTaken k old new
-    → length xs ≡ k → Ahead (map AtomMark xs ++ ms) old → Ahead ms new
-terms_ahead k xs ms old new t long a = record {
-  terms = t.terms ∙ ap (drop k) (a.terms ∙ terms_first xs ms) ∙ ap (λ (n : ℕ). drop n (xs ++ atom_marked ms)) (sym long)
-      ∙ drop-append_seam xs (atom_marked ms);
-  vars = t.vars ∙ a.vars ∙ no_vars xs ms;
-  members = t.members ∙ a.members ∙ no_members xs ms;
-  kinds = t.kinds ∙ a.kinds ∙ no_kinds xs ms;
-}
+same_front : {A : Type 0} (xs ys us vs : List A) → length xs ≡ length ys → xs ++ us ≡ ys ++ vs → (xs ≡ ys) × (us ≡ vs)
+same_front [] [] us vs l e = (refl, e)
+same_front [] (y ∷ ys) us vs l e = absurd (no l) where
+  no : 0 ≡ suc (length ys) → ⊥
+  no e = cc
+same_front (x ∷ xs) [] us vs l e = absurd (no l) where
+  no : suc (length xs) ≡ 0 → ⊥
+  no e = cc
+same_front {A} (x ∷ xs) (y ∷ ys) us vs l e =
+    let h = same_front xs ys us vs (shorter l) (tails e) in
+    (ap (λ (z : A). z ∷ xs) (heads e) ∙ ap (λ (zs : List A). y ∷ zs) h.0, h.1)
+  where
+    shorter : suc (length xs) ≡ suc (length ys) → length xs ≡ length ys
+    shorter e = cc
+
+    heads : x ∷ (xs ++ us) ≡ y ∷ (ys ++ vs) → x ≡ y
+    heads e = cc
+
+    tails : x ∷ (xs ++ us) ≡ y ∷ (ys ++ vs) → xs ++ us ≡ ys ++ vs
+    tails e = cc
+
+-- they are those of the marks, and the others are left
+pub record TookThem (ys xs : List ShownAtom) (ms : List Mark) (new : Marks) : Type 0 where
+  pub same : ys ≡ xs
+  pub left : Ahead ms new
+
+pub terms_ahead : (k : ℕ) (ys xs : List ShownAtom) (ms : List Mark) (old new : Marks) → TermsTaken k ys old new
+    → length xs ≡ k → Ahead (map AtomMark xs ++ ms) old → TookThem ys xs ms new
+terms_ahead k ys xs ms old new t long a =
+    let e : ys ++ new.terms.now ≡ xs ++ atom_marked ms = sym t.terms ∙ a.terms ∙ terms_first xs ms in
+    let h = same_front ys xs new.terms.now (atom_marked ms) (t.long ∙ sym long) e in
+    record {
+      same = h.0;
+      left = record {
+        terms = h.1;
+        vars = t.vars ∙ a.vars ∙ no_vars xs ms;
+        members = t.members ∙ a.members ∙ no_members xs ms;
+        kinds = t.kinds ∙ a.kinds ∙ no_kinds xs ms;
+      };
+    }
 
 -- what is noted at once
 record NotedAll {A : Type 0} (p : Program) (front ms : List Mark) (go : Plan A) (a : A) : Type 0 where
@@ -126,47 +157,40 @@ front_kind [] k q j e = absurd (no e) where
 front_kind (i ∷ ks) k zero j e = e
 front_kind (i ∷ ks) k (suc q) j e = front_kind ks k q j e
 
-ready_more : (g : Parts) (scratch : ℕ) (b : In) (x : Before) (v : Var) (old new : Walk)
-    → Ready g scratch (here b x) x.scope old → new.out.locals.kinds ≡ old.out.locals.kinds ++ kind_of_type v.ty ∷ []
+ready_more : {at : ShownPath} {us vs : List Var} (scratch : ℕ) (b : In) (x : Before) (v : Var) (old new : Walk)
+    → Ready at us scratch (here b x) x.scope old → vs ≡ map bare (x.vars ++ v ∷ []) → new.out.locals.kinds ≡ old.out.locals.kinds ++ kind_of_type v.ty ∷ []
     → new.out.locals.scratch ≡ old.out.locals.scratch → v.path ≡ length old.out.locals.kinds
     → (v.ty ≡ ty.Void → ⊥) → v.path < 256 → HeaderPaths x.vars v.ty
-    → Ready g scratch (here b (with_local x v)) (with_local x v).scope new
-ready_more g scratch b x v old new ready kinds scr path valued few written = record {
+    → Ready at vs scratch (here b (with_local x v)) (with_local x v).scope new
+ready_more scratch b x v old new ready known kinds scr path valued few written = record {
   class = ready.class;
+  vars = known;
   above = scr ∙ ready.above;
   first = ap (λ (l : List ℕ). slice_get l 0) kinds ∙ front_kind old.out.locals.kinds (kind_of_type v.ty) 0 3 ready.first;
-  kinds = λ u m. ap (λ (l : List ℕ). slice_get l u.path) kinds ∙ kind_at u (among_more vs v u m);
-  valued = λ u m. valued_at u (among_more vs v u m);
-  apart = λ u m. apart_at u (among_more vs v u m);
-  few = λ u m. few_at u (among_more vs v u m);
-  paths = λ u m. paths_at u (among_more vs v u m);
+  kinds = λ u m. ap (λ (l : List ℕ). slice_get l u.path) kinds ∙ kind_at u (among_more xs v u m);
+  valued = λ u m. valued_at u (among_more xs v u m);
+  apart = λ u m. apart_at u (among_more xs v u m);
+  few = λ u m. few_at u (among_more xs v u m);
+  paths = λ u m. paths_at u (among_more xs v u m);
   low = λ q l. ap (λ (R : Path). cond (nat_eq q v.path) R (bound_of x.scope q))
-      (first_low (bound_of x.scope) (bound_of s) (atoms_in v.ty) (λ y r k m e. seen_bound g scratch (here b x) x.scope old ready r (written y r k m e)))
+      (first_low (bound_of x.scope) (bound_of s) (atoms_in v.ty) (λ y r k m e. seen_bound scratch (here b x) x.scope old ready r (written y r k m e)))
       ∙ ap (λ (R : Path). cond (nat_eq q v.path) (first_at (bound_of s) (atoms_in v.ty)) R) (ready.low q l)
       ∙ ap (λ (t : Scope). bound_of t q) (sym (scope_more (site_here (here b x)) v));
-  known = λ q B e. let k = ready.known q B e in
-      let l = slice_get_within old.out.locals.kinds q k.kind k.at in record {
-        bound = ap (λ (t : Scope). bound_of t q) (scope_more (site_here (here b x)) v)
-            ∙ bound_passed (var_bind v) s q (λ i. omega (arith, i, path, l)) ∙ k.bound;
-        few = k.few;
-        kind = k.kind;
-        at = ap (λ (ks : List ℕ). slice_get ks q) kinds ∙ front_kind old.out.locals.kinds (kind_of_type v.ty) q k.kind k.at;
-      };
 }
   where
-    vs : List Var
-    vs = x.vars
+    xs : List Var
+    xs = x.vars
 
     s : Scope
     s = scope_of (site_here (here b x))
 
-    few_at : (u : Var) → Among vs u ⊎ (u ≡ v) → u.path < 256
+    few_at : (u : Var) → Among xs u ⊎ (u ≡ v) → u.path < 256
     few_at u (inl m) = ready.few u m
     few_at u (inr e) = subst (λ (w : Var). w.path < 256) (sym e) few
 
-    paths_at : (u : Var) → Among vs u ⊎ (u ≡ v) → HeaderPaths (vs ++ v ∷ []) u.ty
-    paths_at u (inl m) = paths_more vs v u.ty (ready.paths u m)
-    paths_at u (inr e) = subst (λ (w : Var). HeaderPaths (vs ++ v ∷ []) w.ty) (sym e) (paths_more vs v v.ty written)
+    paths_at : (u : Var) → Among xs u ⊎ (u ≡ v) → HeaderPaths (xs ++ v ∷ []) u.ty
+    paths_at u (inl m) = paths_more xs v u.ty (ready.paths u m)
+    paths_at u (inr e) = subst (λ (w : Var). HeaderPaths (xs ++ v ∷ []) w.ty) (sym e) (paths_more xs v v.ty written)
 
     no_first : (ks : List ℕ) (k : ℕ) → slice_get ks 0 ≡ Some k → length ks ≡ 0 → ⊥
     no_first [] k e l = no e where
@@ -176,7 +200,7 @@ ready_more g scratch b x v old new ready kinds scr path valued few written = rec
       no : suc (length ks) ≡ 0 → ⊥
       no e = cc
 
-    kind_at : (u : Var) → Among vs u ⊎ (u ≡ v)
+    kind_at : (u : Var) → Among xs u ⊎ (u ≡ v)
         → slice_get (old.out.locals.kinds ++ kind_of_type v.ty ∷ []) u.path ≡ Some (kind_of_type u.ty)
     kind_at u (inl m) = front_kind old.out.locals.kinds (kind_of_type v.ty) u.path (kind_of_type u.ty) (ready.kinds u m)
     kind_at u (inr e) =
@@ -184,22 +208,24 @@ ready_more g scratch b x v old new ready kinds scr path valued few written = rec
         ∙ ap (slice_get (old.out.locals.kinds ++ kind_of_type v.ty ∷ [])) path
         ∙ last_kind old.out.locals.kinds (kind_of_type v.ty) ∙ ap (λ (w : Var). Some (kind_of_type w.ty)) (sym e)
 
-    apart_at : (u : Var) → Among vs u ⊎ (u ≡ v) → u.path ≡ 0 → ⊥
+    apart_at : (u : Var) → Among xs u ⊎ (u ≡ v) → u.path ≡ 0 → ⊥
     apart_at u (inl m) = ready.apart u m
     apart_at u (inr e) =
         λ f. no_first old.out.locals.kinds 3 ready.first (sym path ∙ sym (ap (λ (w : Var). w.path) e) ∙ f)
 
-    valued_at : (u : Var) → Among vs u ⊎ (u ≡ v) → u.ty ≡ ty.Void → ⊥
+    valued_at : (u : Var) → Among xs u ⊎ (u ≡ v) → u.ty ≡ ty.Void → ⊥
     valued_at u (inl m) = ready.valued u m
     valued_at u (inr e) = λ f. valued (sym (ap (λ (w : Var). w.ty) e) ∙ f)
 
 -- ---- locals
 
-pub declared : (g : Parts) (fixed : Bool) (written : TypeTerm) (name : Named) (e : Expr) (q : ℕ) (m1 m2 : Marks)
-    (w0 w3 w4 : Walk) → TermsTaken (written_terms written) w0.marks m1 → VarTaken q m1 m2
-    → LowersValue g e (record { out = w0.out; marks = m2; last = w0.last }) w3 → BindsWritten fixed written q w3 w4
-    → LowersStmt g (stmt.Local fixed written name e) w0 w4
-declared g fixed written name e q m1 m2 w0 w3 w4 terms took value binds n scratch b parts = record {
+pub declared : (g at : Parts) (us vs : List Var) (fixed : Bool) (written : TypeTerm) (name : Named) (e : Expr) (q : ℕ)
+    (ys : List ShownAtom) (m1 m2 : Marks) (w0 w3 w4 : Walk) → Sees g us at
+    → TermsTaken (written_terms written) ys w0.marks m1 → VarTaken q m1 m2
+    → LowersValue at e (record { out = w0.out; marks = m2; last = w0.last }) w3 → BindsWritten fixed written q w3 w4
+    → LocalAdded g.class.now fixed written name.name q ys us vs
+    → LowersStmt g (stmt.Local fixed written name e) us vs w0 w4
+declared g seer us vs fixed written name e q ys m1 m2 w0 w3 w4 sees terms took value binds adds n scratch b parts = record {
   done = λ x y ms rest ready noted ahead.
       let at = site_here (here b x) in
       let asked = subst (λ (z : Plan Before). Notes g.p.now z ms y) ((forms_are.stmts b x).local fixed written name e) noted in
@@ -210,22 +236,25 @@ declared g fixed written name e q m1 m2 w0 w3 w4 terms took value binds n scratc
       let v = var name.name x.next fixed t in
       let a = all_noted g.p.now (atom_marks k.given) (local_with b x name e v) ms y k.then in
       let c = below_noted g.p.now b x y (with_local x v) e v.ty a.then.0 a.then.2 in
-      let ahead1 = terms_ahead (written_terms written) f.atoms (VarMark x.next ∷ (a.then.0 ++ rest)) w0.marks m1 terms f.long
+      let them = terms_ahead (written_terms written) ys f.atoms (VarMark x.next ∷ (a.then.0 ++ rest)) w0.marks m1 terms f.long
       (subst (λ (l : List Mark). Ahead l w0.marks) (regroup ms (map AtomMark f.atoms) (VarMark x.next ∷ a.then.0) rest
       (a.all ∙ ap (λ (l : List Mark). l ++ a.after) f.marks ∙ ap (λ (l : List Mark). map AtomMark f.atoms ++ l) a.then.1)) ahead) in
-      let one = var_ahead q x.next (a.then.0 ++ rest) m1 m2 took ahead1 in
+      let one = var_ahead q x.next (a.then.0 ++ rest) m1 m2 took them.left in
       let w1 : Walk = record { out = w0.out; marks = m2; last = w0.last } in
-      let d = (value n scratch (here b x) x.scope parts).done a.then.0 rest c.had
-      (ready_locals g scratch (here b x) x.scope w0 w1 refl ready) c.noted one.left in
+      let ready1 = ready_locals scratch (here b x) x.scope w0 w1 refl ready in
+      let d = seen_so g us seer e w1 w3 sees value n scratch (here b x) x.scope a.then.0 rest c.had parts ready1 c.noted one.left in
       let kind = kind_kept (scope_of at) k.given ∙ f.kind in
       let class = class_kept (scope_of at) k.given ∙ f.class in
-      let ready3 = ready_grown g scratch (here b x) x.scope w1 w3 d.emitted.grown
-      (ready_locals g scratch (here b x) x.scope w0 w1 refl ready) in
+      let ready3 = ready_grown scratch (here b x) x.scope w1 w3 d.emitted.grown ready1 in
       let next = sym one.same ∙ binds.number in
+      let known : vs ≡ map bare (x.vars ++ v ∷ []) =
+      adds.is ∙ ap (λ (i : ℕ). us ++ var name.name i fixed (bare_form g.class.now us (written_type written ys)) ∷ []) one.same
+      ∙ bare_more g.class.now us x.vars b.class ready.class ready.vars name.name x.next fixed k.given (written_type written ys)
+      (ap (λ (l : List ShownAtom). bare_type (written_type written l)) them.same ∙ f.bare) in
       record {
         left = subst (Ahead rest) (sym binds.marks) d.left;
-        ready = subst (λ (z : Before). Ready g scratch (here b z) z.scope w4) (sym c.is)
-            (ready_more g scratch b x v w3 w4 ready3
+        ready = subst (λ (z : Before). Ready g.class.now vs scratch (here b z) z.scope w4) (sym c.is)
+            (ready_more scratch b x v w3 w4 ready3 known
             (binds.kinds ∙ ap (λ (i : ℕ). w3.out.locals.kinds ++ i ∷ []) (sym kind)) binds.scratch next
             (λ z. f.valued (void_kept (scope_of at) k.given z)) (subst (λ (i : ℕ). i < 256) one.same binds.few)
             ((written_kinds g.p.now).paths at written t ready.paths (type_is g.p.now at written k.given means)));
@@ -245,16 +274,16 @@ declared g fixed written name e q m1 m2 w0 w3 w4 terms took value binds n scratc
 
 pub assigned : (g : Parts) (name : Named) (e : Expr) (q : ℕ) (m1 : Marks) (w0 w2 w3 : Walk) → VarTaken q w0.marks m1
     → LowersValue g e (record { out = w0.out; marks = m1; last = w0.last }) w2 → Pushed (ins.Store q ∷ []) w2 w3
-    → LowersStmt g (stmt.Assign name e) w0 w3
+    → LowersPlain g (stmt.Assign name e) w0 w3
 assigned g name e q m1 w0 w2 w3 took value pushed n scratch b parts = record {
   done = λ x y ms rest ready noted ahead.
       at x y ms rest ready noted ahead (var_named (record { list = x.vars }) name.name) refl
       (subst (λ (z : Plan Before). Notes g.p.now z ms y) ((forms_are.stmts b x).assign name e) noted);
 }
   where
-    at : (x y : Before) (ms rest : List Mark) → Ready g scratch (here b x) x.scope w0 → Notes g.p.now (stmt_types b (stmt.Assign name e) x) ms y
+    at : (x y : Before) (ms rest : List Mark) → ReadyIn g scratch (here b x) x.scope w0 → Notes g.p.now (stmt_types b (stmt.Assign name e) x) ms y
         → Ahead (ms ++ rest) w0.marks → (found : Option Var) → var_named (record { list = x.vars }) name.name ≡ found
-        → Notes g.p.now (assign_typed b x name e found) ms y → StmtDone g n scratch b (stmt.Assign name e) rest x y w0 w3
+        → Notes g.p.now (assign_typed b x name e found) ms y → StmtDone g.p.now g.class.now g.vars.now n scratch b (stmt.Assign name e) rest x y w0 w3
     at x y ms rest ready all ahead None is noted = absurd noted
     at x y ms rest ready all ahead (Some v) is noted =
         let u = wants_noted (not v.fixed) (of_name rule.E24 (here b x) name.at name.name)
@@ -263,13 +292,13 @@ assigned g name e q m1 w0 w2 w3 took value pushed n scratch b parts = record {
         let one = var_ahead q v.path (u.then.0 ++ rest) w0.marks m1 took
         (subst (λ (l : List Mark). Ahead (l ++ rest) w0.marks) u.then.1 ahead) in
         let w1 : Walk = record { out = w0.out; marks = m1; last = w0.last } in
-        let ready1 = ready_locals g scratch (here b x) x.scope w0 w1 refl ready in
+        let ready1 = ready_locals scratch (here b x) x.scope w0 w1 refl ready in
         let d = (value n scratch (here b x) x.scope parts).done u.then.0 rest c.had ready1 c.noted one.left in
-        let ready2 = ready_grown g scratch (here b x) x.scope w1 w2 d.emitted.grown ready1 in
+        let ready2 = ready_grown scratch (here b x) x.scope w1 w2 d.emitted.grown ready1 in
         record {
           left = subst (Ahead rest) (sym pushed.marks) d.left;
-          ready = subst (λ (z : Before). Ready g scratch (here b z) z.scope w3) (sym c.is)
-              (ready_locals g scratch (here b x) x.scope w2 w3 pushed.adds.locals ready2);
+          ready = subst (λ (z : Before). ReadyIn g scratch (here b z) z.scope w3) (sym c.is)
+              (ready_locals scratch (here b x) x.scope w2 w3 pushed.adds.locals ready2);
           behind = λ ss end behind. assign_so g.p.now n scratch b x name e v ss w0.out w2.out w3.out end d.emitted
               (newest_named x.vars name.name v is) (ready2.kinds v (named_among x.vars name.name v is))
               (subst (λ (i : ℕ). Adds (ins.Store i ∷ []) w2.out w3.out) one.same pushed.adds)

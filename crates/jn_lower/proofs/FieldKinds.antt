@@ -1,5 +1,5 @@
 -- The kind of a field, by what its slots tell.
-use Rattle.std.proofs.Common.{◌≡◌, ◌++◌, ℕ, [], ◌∷◌, Bool, true, false, Option, Some, reverse, refl, sym, ap, subst, ◌∙◌}
+use Rattle.std.proofs.Common.{◌≡◌, [], Bool, true, false, Option, Some, reverse, refl, sym, ap, subst, ◌∙◌}
 use Rattle.std.proofs.lemmas.List.{append-nil, reverse-reverse}
 use Rattle.std.specs.Prelude.{cond, slice_get}
 use Rattle.jn_base.specs.declared.tree.Name.{Name}
@@ -9,7 +9,7 @@ use Rattle.jn_base.specs.declared.path.Path.{Path as ShownPath}
 use Rattle.jn_base.specs.declared.types.Ty.{Ty}
 use Rattle.jn_base.specs.declared.names.Role.TheVariants as role
 use Rattle.jn_base.specs.Paths.{Path, shown}
-use Rattle.jn_base.specs.Atoms.{Atom, atom_of, shown_atom}
+use Rattle.jn_base.specs.Atoms.{atom_of, shown_atom}
 use Rattle.jn_base.specs.Scopes.{Scope, bound, this_atom, this_type}
 use Rattle.jn_base.specs.Members.{FieldAt}
 use Rattle.jn_base.specs.ResolveTypes.{mask_names}

@@ -1,5 +1,5 @@
 -- What a code is that is made of what was emitted.
-use Rattle.std.proofs.Common.{◌≡◌, ◌≤◌, ◌<◌, ◌+◌, ℕ, suc, List, [], ◌∷◌, ◌++◌, length, drop, get_or, All, Option, Some, None, refl, sym, ap, ◌∙◌, subst, arith, add-one, length-append}
+use Rattle.std.proofs.Common.{◌≡◌, ◌≤◌, ◌<◌, ◌+◌, ℕ, suc, List, ◌∷◌, ◌++◌, length, drop, get_or, All, Option, Some, None, sym, ap, ◌∙◌, subst, arith, add-one, length-append}
 use Rattle.std.specs.List.{AllByRecursion}
 use Rattle.std.proofs.Math.Seq.{drop-cons, take-append_seam, drop-append_seam}
 use Rattle.std.proofs.lemmas.List.{drop_all, length-take-le}
@@ -9,7 +9,7 @@ use Rattle.jn_base.specs.declared.tree.TypeTerm.{TypeTerm}
 use Rattle.jn_base.specs.declared.tree.TypeTerm.TheVariants as type
 use Rattle.jn_code.specs.declared.instr.Instr.{Instr}
 use Rattle.jn_code.specs.declared.image.Code.{Code}
-use Rattle.jn_code.specs.Form.{IsKind, IsResultKind, InstrInForm}
+use Rattle.jn_code.specs.Form.{IsKind, InstrInForm}
 use Rattle.jn_sem.specs.Acts.{path_behind}
 use Rattle.jn_lower.specs.declared.emitter.Emitter.{Emitter}
 use Rattle.jn_lower.specs.Written.{written_kind, written_result}

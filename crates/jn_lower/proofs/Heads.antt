@@ -1,6 +1,6 @@
 -- What a header has: the kinds of its parameters, and which of them are tested.
-use Rattle.std.proofs.Common.{◌≡◌, ℕ, suc, ◌+◌, List, [], ◌∷◌, ◌++◌, length, map, Bool, Option, Some, None, ◌⊎◌, inl, inr, refl, sym, ap, ◌∙◌, subst, append_assoc, append-nil, arith, length-append}
-use Rattle.std.specs.Prelude.{Result, Ok, Err, slice_get, ◌&&◌}
+use Rattle.std.proofs.Common.{◌≡◌, ℕ, suc, List, [], ◌∷◌, ◌++◌, length, map, Bool, Option, Some, None, ◌⊎◌, inl, inr, refl, sym, ap, ◌∙◌, subst, append_assoc, append-nil}
+use Rattle.std.specs.Prelude.{Result, Ok, slice_get, ◌&&◌}
 use Rattle.jn_base.specs.declared.tree.Param.{Param}
 use Rattle.jn_base.specs.declared.tree.TypeTerm.{TypeTerm}
 use Rattle.jn_base.specs.declared.tree.Program.{Program}
@@ -16,7 +16,7 @@ use Rattle.jn_code.specs.declared.instr.Instr.{Instr}
 use Rattle.jn_sem.specs.NormalFunction.{normal_type}
 use Rattle.jn_sem.specs.Terms.{spot_at, vars_at}
 use Rattle.jn_sem.specs.Does.{Body}
-use Rattle.jn_rules.specs.Plans.{Mark, Plan, OfType, done, ask, then_do, taken}
+use Rattle.jn_rules.specs.Plans.{Mark, done, then_do}
 use Rattle.jn_rules.specs.Questions.{Gives, Notes}
 use Rattle.jn_rules.specs.Headers.{site_in, scope_of, declared_type, param_after, params_typed, result_typed, Header, header_typed}
 use Rattle.jn_rules.proofs.PlanLaws.{then_came, then_noted, took}

@@ -31,7 +31,7 @@ use Rattle.jn_lower.specs.declared.walk.Walk.{Walk}
 use Rattle.jn_lower.specs.Cursors.{Ahead, VarTaken, KindTaken}
 use Rattle.jn_lower.specs.Emitted.{Emitted}
 use Rattle.jn_lower.specs.Forms.{Value, StandsAsValue, StandsAsVar}
-use Rattle.jn_lower.specs.Walks.{Had, Pushed, Ready, Done, LowersAs, LowersNodeAs, LowersNode}
+use Rattle.jn_lower.specs.Walks.{Had, Pushed, ReadyIn, Done, LowersAs, LowersNodeAs, LowersNode}
 use Rattle.jn_lower.proofs.Growing.{added}
 use Rattle.jn_lower.proofs.OneInstr.{number_so}
 use Rattle.jn_lower.proofs.Noting.{gives_noted, kinds_agree, valued}
@@ -138,7 +138,7 @@ var_done g x q w0 m o w1 took stands had pl n scratch h sc parts = record {
       (subst (λ y. Notes g.p.now y ms z) ((forms_are.exprs h pl sc).var x) noted);
 }
   where
-    at : (ms rest : List Mark) (z : Typed) → Ready g scratch h sc w0 → Ahead (ms ++ rest) w0.marks
+    at : (ms rest : List Mark) (z : Typed) → ReadyIn g scratch h sc w0 → Ahead (ms ++ rest) w0.marks
         → (found : Option Var) → var_named (record { list = h.vars }) x ≡ found
         → Notes g.p.now (var_gives h pl x sc found) ms z
         → Done (Value g.p.now n scratch h sc true (expr pl (node.Var x))) rest z.ty w0 w1

@@ -12,6 +12,7 @@ pub mod ClassCodes
 pub mod Named
 pub mod Noting
 pub mod Seen
+pub mod Knowing
 pub mod Taking
 pub mod LeafForms
 pub mod Chains
@@ -30,6 +31,5 @@ pub mod Behind
 pub mod Setting
 pub mod Making
 pub mod Above
-pub mod NamedClasses
-pub mod ParamBounds
+pub mod ParamVars
 pub mod Forming

@@ -1,11 +1,12 @@
 -- Loops over the operators of a chain, and over statements.
-use Rattle.std.proofs.Common.{◌≡◌, ℕ, suc, ◌+◌, ◌<◌, ◌≤◌, List, [], ◌∷◌, length, drop, get_or, Bool, true, refl, sym, ap, ◌∙◌, subst, add-one, arith}
+use Rattle.std.proofs.Common.{◌≡◌, ℕ, suc, ◌+◌, ◌<◌, ◌≤◌, List, [], ◌∷◌, length, drop, get_or, Bool, refl, sym, ap, ◌∙◌, subst, add-one, arith}
 use Rattle.std.proofs.Math.Seq.{drop-cons}
 use Rattle.std.proofs.lemmas.List.{drop_all, length-drop}
 use Rattle.jn_base.specs.declared.tree.Link.{Link}
 use Rattle.jn_base.specs.declared.tree.Expr.{Expr}
 use Rattle.jn_base.specs.declared.tree.Suffix.{Suffix}
 use Rattle.jn_base.specs.declared.tree.Stmt.{Stmt}
+use Rattle.jn_base.specs.declared.names.Var.{Var}
 use Rattle.jn_lower.specs.declared.walk.Parts.{Parts}
 use Rattle.jn_lower.specs.declared.walk.Walk.{Walk}
 use Rattle.jn_lower.specs.Walks.{LowersValue, LowersLinks, LowersLink, LowersPart, LowersParts, LowersTail, LowersArgs, IsKept, LowersStmts, LowersStmt}
@@ -14,7 +15,7 @@ use Rattle.jn_lower.proofs.Posts.{last_part_done, one_part_done}
 use Rattle.jn_lower.proofs.Passing.{no_args_done, one_arg_done}
 use Rattle.jn_lower.proofs.Blocks.{no_stmts_done, more_done}
 
-at_index : {A : Type 0} (xs : List A) (i : ℕ) (x : A) → i < length xs → x ≡ get_or xs i x
+pub at_index : {A : Type 0} (xs : List A) (i : ℕ) (x : A) → i < length xs → x ≡ get_or xs i x
     → drop i xs ≡ x ∷ drop (i + 1) xs
 at_index xs i x h e =
     drop-cons xs i x h ∙ (ap (λ (y : _). y ∷ drop (suc i) xs) (sym e) ∙ ap (λ (n : ℕ). x ∷ drop n xs) (sym (add-one i)))
@@ -36,19 +37,19 @@ links_over g ls i w0 w1 so le =
 
 -- ---- statements
 
-pub stmts_on : (g : Parts) (ss : List Stmt) (i : ℕ) (s : Stmt) (w0 w1 w2 : Walk)
-    → ((new : Walk) → LowersStmts g (drop i ss) w1 new → LowersStmts g ss w0 new) → i < length ss
-    → s ≡ get_or ss i s → LowersStmt g s w1 w2 → (new : Walk) → LowersStmts g (drop (i + 1) ss) w2 new
-    → LowersStmts g ss w0 new
-stmts_on g ss i s w0 w1 w2 so lt is one new more =
-    so new (subst (λ (xs : List Stmt). LowersStmts g xs w1 new) (sym (at_index ss i s lt is))
-    (more_done g s (drop (i + 1) ss) w1 w2 new one more))
+pub stmts_on : (g : Parts) (ss : List Stmt) (i : ℕ) (s : Stmt) (us vs ws : List Var) (w0 w1 w2 : Walk)
+    → ((xs : List Var) (new : Walk) → LowersStmts g (drop i ss) vs xs w1 new → LowersStmts g ss us xs w0 new)
+    → i < length ss → s ≡ get_or ss i s → LowersStmt g s vs ws w1 w2 → (xs : List Var) (new : Walk)
+    → LowersStmts g (drop (i + 1) ss) ws xs w2 new → LowersStmts g ss us xs w0 new
+stmts_on g ss i s us vs ws w0 w1 w2 so lt is one xs new more =
+    so xs new (subst (λ (l : List Stmt). LowersStmts g l vs xs w1 new) (sym (at_index ss i s lt is))
+    (more_done g s (drop (i + 1) ss) vs ws xs w1 w2 new one more))
 
-pub stmts_over : (g : Parts) (ss : List Stmt) (i : ℕ) (w0 w1 : Walk)
-    → ((new : Walk) → LowersStmts g (drop i ss) w1 new → LowersStmts g ss w0 new) → length ss ≤ i
-    → LowersStmts g ss w0 w1
-stmts_over g ss i w0 w1 so le =
-    so w1 (subst (λ (xs : List Stmt). LowersStmts g xs w1 w1) (sym (drop_all i ss le)) (no_stmts_done g w1))
+pub stmts_over : (g : Parts) (ss : List Stmt) (i : ℕ) (us vs : List Var) (w0 w1 : Walk)
+    → ((xs : List Var) (new : Walk) → LowersStmts g (drop i ss) vs xs w1 new → LowersStmts g ss us xs w0 new)
+    → length ss ≤ i → LowersStmts g ss us vs w0 w1
+stmts_over g ss i us vs w0 w1 so le =
+    so vs w1 (subst (λ (l : List Stmt). LowersStmts g l vs vs w1 w1) (sym (drop_all i ss le)) (no_stmts_done g vs w1))
 
 -- ---- arguments
 

@@ -1,21 +1,19 @@
 -- New objects: each step of the walk, and what it does.
-use Rattle.std.proofs.Common.{◌≡◌, ℕ, List, [], ◌∷◌, ◌++◌, length, map, reverse, Bool, true, false, Option, Some, None, refl, sym, ap, ◌∙◌, subst, append_assoc, eqb-true}
+use Rattle.std.proofs.Common.{◌≡◌, ℕ, List, [], ◌∷◌, ◌++◌, length, reverse, Bool, Option, Some, None, refl, sym, ap, ◌∙◌, subst, append_assoc, eqb-true}
 use Rattle.std.specs.Prelude.{Result, Ok, nat_eq, slice_get}
 use Rattle.std.proofs.lemmas.List.{length-map, reverse-reverse}
 use Rattle.jn_base.specs.declared.tree.Name.{Name}
 use Rattle.jn_base.specs.declared.tree.Place.{Place}
 use Rattle.jn_base.specs.declared.tree.Term.{Term}
 use Rattle.jn_base.specs.declared.tree.Expr.{Expr}
-use Rattle.jn_base.specs.declared.tree.Method.{Method}
 use Rattle.jn_base.specs.declared.tree.Node.TheVariants as node
 use Rattle.jn_base.specs.declared.tree.Program.{Program}
 use Rattle.jn_base.specs.declared.path.Path.{Path as ShownPath}
 use Rattle.jn_base.specs.declared.types.Atom.{Atom as ShownAtom}
-use Rattle.jn_base.specs.declared.types.Ty.{Ty}
 use Rattle.jn_base.specs.declared.types.ValKind.TheVariants as kind
+use Rattle.jn_base.specs.declared.types.Anchor.TheVariants.{Up}
 use Rattle.jn_base.specs.declared.names.Role.TheVariants as role
 use Rattle.jn_base.specs.declared.tree.Kind.TheVariants as kinds
-use Rattle.jn_base.specs.declared.names.Var.{Var}
 use Rattle.jn_base.specs.declared.refusal.Refusal.{Refusal}
 use Rattle.jn_base.specs.declared.refusal.Rule.TheVariants as rule
 use Rattle.jn_base.specs.Parts.{expr}
@@ -24,6 +22,7 @@ use Rattle.jn_base.specs.Members.{MethodAt, HasKind}
 use Rattle.jn_base.proofs.Reaching.{declared_in_universe}
 use Rattle.jn_laws.proofs.Bounded.{heir_there}
 use Rattle.jn_laws.proofs.Terms.{header_path, case_path, term_case}
+use Rattle.jn_laws.specs.LawsOfWritten.{HeaderPath}
 use Rattle.jn_sem.specs.Sharing.{IsClass}
 use Rattle.jn_base.specs.Atoms.{Atom, atom_of, anchor_at}
 use Rattle.jn_base.specs.Scopes.{Scope, bound_of, bound}
@@ -35,20 +34,19 @@ use Rattle.jn_code.specs.declared.image.Code.{Code}
 use Rattle.jn_sem.specs.NormalFunction.{normal_type}
 use Rattle.jn_sem.specs.Terms.{spot_at, vars_at, TermIs}
 use Rattle.jn_sem.specs.Does.{Body, IsBody, IsConstructorBody}
-use Rattle.jn_rules.specs.Plans.{Mark, AtomMark, MemberMark, KindMark, OfTerm, OfConstructor, Plan, note, then_do, wants}
+use Rattle.jn_table.specs.Rows.{HasMethod}
+use Rattle.jn_rules.specs.Plans.{Mark, MemberMark, KindMark, OfTerm, OfConstructor, Plan, note, then_do}
 use Rattle.jn_rules.specs.Questions.{Means, Finds, Gives, Notes}
-use Rattle.jn_rules.specs.Resolved.{member_marked}
 use Rattle.jn_rules.specs.Headers.{scope_of, Header, header_typed}
-use Rattle.jn_rules.specs.Exprs.{Here, site_here, Typed, Passed, in_method, gives, replaced_paths, as_many, call_typed, made_exact, of_new, fresh_with, made_with, made_by, new_typed, expr_types}
+use Rattle.jn_rules.specs.Exprs.{Here, site_here, Typed, in_method, gives, replaced_paths, as_many, call_typed, made_exact, of_new, fresh_with, made_with, made_by, new_typed}
 use Rattle.jn_rules.specs.Forms.{typed_args, typed_expr}
 use Rattle.jn_rules.proofs.FormLaws.{forms_are}
 use Rattle.jn_rules.proofs.PlanLaws.{then_noted, notes_give, plan_one}
 use Rattle.jn_agree.specs.declared.selectors.MethodSel.{MethodSel}
 use Rattle.jn_agree.specs.Naming.{Naming}
 use Rattle.jn_agree.specs.Rows.{IsShape, kind_of_type}
-use Rattle.jn_agree.specs.Places.{MethodOf, CtorCode, ClassCode, ctor, dropping}
+use Rattle.jn_agree.specs.Places.{MethodOf, CtorCode, ctor, dropping}
 use Rattle.jn_places.specs.ExprPlaces.{ArgsAt, no_args}
-use Rattle.jn_lower.specs.declared.cursor.Marks.{Marks}
 use Rattle.jn_lower.specs.declared.emitter.Emitter.{Emitter}
 use Rattle.jn_lower.specs.declared.members.Callee.{Callee}
 use Rattle.jn_lower.specs.declared.walk.Parts.{Parts}
@@ -61,16 +59,16 @@ use Rattle.jn_lower.specs.Selecting.{shape_of, method_sel}
 use Rattle.jn_lower.specs.Selecting as selecting
 use Rattle.jn_lower.specs.Told.{IsCallee}
 use Rattle.jn_lower.specs.Lowering.{PartsAre}
-use Rattle.jn_lower.specs.Making.{IsLast, Constructs, ConstructsNot, ByMark, MadeWith, by, without, unmarked, MadeBy, MadeOf}
-use Rattle.jn_lower.specs.Walks.{Ready, Done, LowersArgs, LowersNodeAs}
+use Rattle.jn_lower.specs.Making.{bound_in, IsLast, ByMark, MadeWith, by, without, MadeBy, MadeOf}
+use Rattle.jn_lower.specs.Walks.{ReadyIn, Done, LowersArgs, LowersNodeAs}
 use Rattle.jn_lower.proofs.Growing.{means}
 use Rattle.jn_lower.proofs.Calling.{new_so}
 use Rattle.jn_lower.proofs.CtorCodes.{ctors_found}
 use Rattle.jn_lower.proofs.Heads.{head_is, header_silent}
 use Rattle.jn_lower.proofs.Noting.{taken_noted, wants_noted, gives_noted}
-use Rattle.jn_lower.proofs.Taking.{term_ahead, member_ahead, had_ahead, ready_locals, ready_in, scoped_here, same_bound}
+use Rattle.jn_lower.proofs.Taking.{term_ahead, member_ahead, had_ahead, ready_locals, ready_in, same_bound, known_here}
 use Rattle.jn_lower.proofs.Seen.{named_low}
-use Rattle.jn_lower.proofs.Chains.{regroup, last_one}
+use Rattle.jn_lower.proofs.Chains.{last_one}
 
 -- ---- the shape by which a body is called
 
@@ -141,16 +139,24 @@ no_items (x ∷ es) e = absurd (no e) where
   no : length (x ∷ es) ≡ 0 → ⊥
   no e = cc
 
+-- what `new` makes hangs on no fresh path
+made_path : (p : Program) (h : Here) (u : Term) (a : ShownAtom) → TermIs p role.New (site_here h) u (atom_of a) → (q k : ℕ)
+    → (atom_of a).anchor ≡ Up q k → HeaderPath h.vars q
+made_path p h u a is q k i =
+    let sp = spot_at (site_here h) role.New in
+    let vs = vars_at (site_here h) in
+    let t = term_case p sp vs u is.0 is.1 in
+    header_path role.New h.vars q (case_path sp vs u.head is.0.anchor q k t.anchor (sym (ap (λ (x : Atom). x.anchor) is.2) ∙ i))
+
 -- what `new` makes is a class
 made_class : (g : Parts) (scratch : ℕ) (h : Here) (sc : Scope) (w : Walk) (u : Term) (a : ShownAtom)
-    → Ready g scratch h sc w → TermIs g.p.now role.New (site_here h) u (atom_of a) → IsClass g.p.now (bound sc (atom_of a))
+    → ReadyIn g scratch h sc w → TermIs g.p.now role.New (site_here h) u (atom_of a) → IsClass g.p.now (bound sc (atom_of a))
 made_class g scratch h sc w u a ready is =
     let at = site_here h in
     let t = term_case g.p.now (spot_at at role.New) (vars_at at) u is.0 is.1 in
     let k : HasKind g.p.now (bound (scope_of at) (atom_of is.0)) kinds.Class = t.class in
     let e : bound sc (atom_of a) ≡ bound (scope_of at) (atom_of is.0) =
-    ap (bound sc) is.2 ∙ same_bound g scratch h sc w ready (atom_of is.0)
-    (λ q j i. header_path role.New h.vars q (case_path (spot_at at role.New) (vars_at at) u.head is.0.anchor q j t.anchor i)) in
+    same_bound scratch h sc w ready (atom_of a) (made_path g.p.now h u a is) ∙ ap (bound (scope_of at)) is.2 in
     subst (λ (R : Path). IsClass g.p.now R) (sym e) (record {
       universe = heir_there k.super (declared_in_universe g.p.now k.at k.decl k.stands);
       kind = k;
@@ -167,6 +173,10 @@ module _ (g : Parts) (u : Term) (es : List Expr) (keeps : Bool) (pl : Place) (n 
     (parts : PartsAre g.p.now g.t.now g.slots.now g.names.now n) (a : ShownAtom) (o : Option ℕ) (w0 w1 w2 w3 w4 : Walk)
     (same : w1.out ≡ w0.out) (is : TermIs g.p.now role.New (site_here h) u (atom_of a)) (C : Name) (last : IsLast a C)
     (args : LowersArgs g es w2 w3) (seen : MadeOf g a o keeps w3 w4) where
+  -- the bound that the walk finds
+  known_is : ReadyIn g scratch h sc w0 → bound_in g a ≡ bound sc (atom_of a)
+  known_is ready = known_here scratch h sc w0 ready (atom_of a) (made_path g.p.now h u a is)
+
   -- what is had where the arguments and the constructor stand
   finished : (rest : List Mark) (z : Typed) → kind_of_type z.ty ≡ 3 → Ahead (KindMark kind.Reference ∷ rest) w3.marks
       → Emitted (NewArgs g.p.now n scratch h sc (atom_of a) es) w0.out w3.out
@@ -196,7 +206,7 @@ module _ (g : Parts) (u : Term) (es : List Expr) (keeps : Bool) (pl : Place) (n 
   -- by the constructor of the bound
   by_one : (rest ms : List Mark) (z : Typed) (b : Body) → IsConstructorBody g.p.now (bound sc (atom_of a)) b
       → Notes g.p.now (made_with h pl (typed_args h es) sc (normal_type sc (made_exact (atom_of a))) (Some b)) ms z
-      → Ready g scratch h sc w0 → Ahead (ms ++ rest) w1.marks → ByMark g a C (length es) o w1 w2
+      → ReadyIn g scratch h sc w0 → Ahead (ms ++ rest) w1.marks → ByMark g a C (length es) o w1 w2
       → Done (Value g.p.now n scratch h sc keeps (expr pl (node.New u es))) rest z.ty w0 w4
   by_one rest ms z b cons noted ready ahead m =
       let T = normal_type sc (made_exact (atom_of a)) in
@@ -215,8 +225,8 @@ module _ (g : Parts) (u : Term) (es : List Expr) (keeps : Bool) (pl : Place) (n 
       (subst (λ (l : List Mark). Ahead l w1.marks) all ahead) in
       let long = eqb-true (length k.vars) (length (typed_args h es)) w.test ∙ length-map es (typed_expr h) in
       let out = m.out ∙ same in
-      let ready2 = ready_in g scratch h sc F.scope w2 (named_low T None sc)
-      (ready_locals g scratch h sc w0 w2 (ap (λ (e : Emitter). e.locals) out) ready) in
+      let ready2 = ready_in scratch h sc F.scope w2 (named_low T None sc)
+      (ready_locals scratch h sc w0 w2 (ap (λ (e : Emitter). e.locals) out) ready) in
       let d = (args n scratch h parts).done (replaced_paths k.vars) k.vars (F.path ∷ []) F.scope c.first c.before
       (KindMark kind.Reference ∷ rest) long ready2 c.noted took.left in
       let body = body_of g.p.now sc (atom_of a) C last.0 b last.1 cons in
@@ -253,7 +263,7 @@ module _ (g : Parts) (u : Term) (es : List Expr) (keeps : Bool) (pl : Place) (n 
   -- without one
   by_none : (rest ms : List Mark) (z : Typed) → ((b : Body) → IsConstructorBody g.p.now (bound sc (atom_of a)) b → ⊥)
       → Notes g.p.now (made_with h pl (typed_args h es) sc (normal_type sc (made_exact (atom_of a))) None) ms z
-      → Ready g scratch h sc w0 → Ahead (ms ++ rest) w1.marks → length es ≡ 0 → w2 ≡ w1
+      → ReadyIn g scratch h sc w0 → Ahead (ms ++ rest) w1.marks → length es ≡ 0 → w2 ≡ w1
       → ((m : Naming) → m.methods ≡ g.names.now.methods → selecting.IsCtorOf m (atom_of a) [] o)
       → Done (Value g.p.now n scratch h sc keeps (expr pl (node.New u es))) rest z.ty w0 w4
   by_none rest ms z none noted ready ahead empty stays found =
@@ -263,7 +273,7 @@ module _ (g : Parts) (u : Term) (es : List Expr) (keeps : Bool) (pl : Place) (n 
       let gave = gives_noted g.p.now kind.Reference (of_new T F F.scope) z ms refl w.then in
       let nothing = no_items es empty in
       let out = ap (λ (v : Walk). v.out) stays ∙ same in
-      let ready2 = ready_locals g scratch h sc w0 w2 (ap (λ (e : Emitter). e.locals) out) ready in
+      let ready2 = ready_locals scratch h sc w0 w2 (ap (λ (e : Emitter). e.locals) out) ready in
       let ahead2 : Ahead (KindMark kind.Reference ∷ rest) w2.marks =
       subst (λ (v : Walk). Ahead (KindMark kind.Reference ∷ rest) v.marks) (sym stays)
       (subst (λ (l : List Mark). Ahead (l ++ rest) w1.marks) gave.marks ahead) in
@@ -282,35 +292,19 @@ module _ (g : Parts) (u : Term) (es : List Expr) (keeps : Bool) (pl : Place) (n 
 
   by_either : (rest ms : List Mark) (z : Typed) (f : Option Body) → Finds (IsConstructorBody g.p.now (bound sc (atom_of a))) f
       → Notes g.p.now (made_with h pl (typed_args h es) sc (normal_type sc (made_exact (atom_of a))) f) ms z
-      → Ready g scratch h sc w0 → Ahead (ms ++ rest) w1.marks → MadeWith g a C (length es) o w1 w2
+      → ReadyIn g scratch h sc w0 → Ahead (ms ++ rest) w1.marks → MadeWith g a C (length es) o w1 w2
       → Done (Value g.p.now n scratch h sc keeps (expr pl (node.New u es))) rest z.ty w0 w4
   by_either rest ms z (Some b) cons noted ready ahead (by so m) = by_one rest ms z b cons noted ready ahead m
   by_either rest ms z (Some b) cons noted ready ahead (without empty so stays found) =
-      absurd (so parts.filled sc (scoped_here g scratch h sc w0 ready)
-      (made_class g scratch h sc w0 u a ready is)
-      (b.class, (body_of g.p.now sc (atom_of a) C last.0 b last.1 cons).least.among))
-  by_either rest ms z (Some b) cons noted ready ahead (unmarked empty none stays found) =
-      let F = fresh_with (normal_type sc (made_exact (atom_of a))) sc in
-      let T = normal_type sc (made_exact (atom_of a)) in
-      let hd = then_noted (header_typed b) (made_by h pl (typed_args h es) sc T b) ms z noted in
-      let k = hd.first in
-      let w = wants_noted (as_many k (typed_args h es)) (in_method rule.E17 h pl)
-      (note (MemberMark b.class) (then_do (call_typed h k (typed_args h es) F) (λ v. gives (of_new T F v.scope)))) hd.after z hd.then in
-      let all : ms ≡ MemberMark b.class ∷ w.then.0 =
-      hd.all ∙ ap (λ (l : List Mark). l ++ hd.after) (header_silent g.p.now b hd.before k hd.noted) ∙ w.then.1 in
-      let body = body_of g.p.now sc (atom_of a) C last.0 b last.1 cons in
-      absurd (none (shown b.class) (member_marked (w.then.0 ++ rest))
-      (ahead.members ∙ ap (λ (l : List Mark). member_marked (l ++ rest)) all) b.method
-      (method_there g.p.now b (shown b.class) C refl body.at))
-  by_either rest ms z None none noted ready ahead (unmarked empty clear stays found) =
-      by_none rest ms z none noted ready ahead empty stays found
+      absurd (so parts.filled (subst (λ (R : Path). HasMethod g.p.now R C) (sym (known_is ready))
+      (b.class, (body_of g.p.now sc (atom_of a) C last.0 b last.1 cons).least.among)))
   by_either rest ms z None none noted ready ahead (by so m) =
       let w = wants_noted (nat_eq (length (typed_args h es)) 0) (in_method rule.E17 h pl)
       (gives (of_new (normal_type sc (made_exact (atom_of a))) (fresh_with (normal_type sc (made_exact (atom_of a))) sc)
       (fresh_with (normal_type sc (made_exact (atom_of a))) sc).scope)) ms z noted in
       let empty = sym (length-map es (typed_expr h)) ∙ eqb-true (length (typed_args h es)) 0 w.test in
       let class = made_class g scratch h sc w0 u a ready is in
-      let has = so empty parts.filled sc (scoped_here g scratch h sc w0 ready) class in
+      let has = subst (λ (R : Path). HasMethod g.p.now R C) (known_is ready) (so empty parts.filled) in
       absurd (parts.least (bound sc (atom_of a)) C class has
       (λ b body. none b (constructor_of g.p.now sc (atom_of a) C last.0 b last.1 body)))
   by_either rest ms z None none noted ready ahead (without empty so stays found) =

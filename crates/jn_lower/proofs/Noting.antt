@@ -1,5 +1,5 @@
 -- What the parts of a plan note.
-use Rattle.std.proofs.Common.{◌≡◌, List, [], ◌∷◌, ◌++◌, Bool, true, false, Option, Some, None, refl, sym, ap, ◌∙◌, subst}
+use Rattle.std.proofs.Common.{◌≡◌, List, [], ◌∷◌, ◌++◌, Bool, true, false, Option, Some, None, refl, sym, ap, ◌∙◌}
 use Rattle.std.specs.Prelude.{Result, Ok, Err, cond, ◌&&◌}
 use Rattle.jn_base.specs.declared.tree.Constraint.{Constraint}
 use Rattle.jn_base.specs.declared.tree.Program.{Program}
@@ -10,9 +10,8 @@ use Rattle.jn_base.specs.declared.types.ValKind.TheVariants as kind
 use Rattle.jn_base.specs.declared.refusal.Refusal.{Refusal}
 use Rattle.jn_base.specs.Scopes.{Scope}
 use Rattle.jn_base.specs.Resolve.{is_class}
-use Rattle.jn_rules.specs.Plans.{Pledge, Target, Grants, EitherMasks, Mark, KindMark, Plan, done, refuse, note, ask, then_do, wants, taken, found_or}
-use Rattle.jn_rules.specs.Questions.{Means, Notes, masks_of}
-use Rattle.jn_rules.specs.LawsOfPlans.{Noted}
+use Rattle.jn_rules.specs.Plans.{Pledge, Target, Grants, EitherMasks, Mark, KindMark, Plan, done, ask, then_do, wants, taken, found_or}
+use Rattle.jn_rules.specs.Questions.{Notes, masks_of}
 use Rattle.jn_rules.specs.Exprs.{Here, Typed, kind_of, note_kind, gives, one_grants}
 use Rattle.jn_rules.specs.Stmts.{joined_type, joined, remasked}
 use Rattle.jn_rules.proofs.PlanLaws.{then_noted}

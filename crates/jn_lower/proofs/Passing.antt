@@ -1,14 +1,11 @@
 -- Arguments: each step of the walk, and what it does.
-use Rattle.std.proofs.Common.{◌≡◌, ℕ, suc, ◌+◌, ◌<◌, ◌≤◌, List, [], ◌∷◌, ◌++◌, length, drop, get_or, Bool, refl, sym, ap, ◌∙◌, subst, add-one}
-use Rattle.std.proofs.Math.Seq.{drop-cons}
-use Rattle.std.proofs.lemmas.List.{drop_all}
-use Rattle.std.specs.Prelude.{Ok}
+use Rattle.std.proofs.Common.{◌≡◌, ℕ, suc, List, [], ◌∷◌, ◌++◌, length, sym, subst}
 use Rattle.jn_base.specs.declared.tree.Expr.{Expr}
 use Rattle.jn_base.specs.declared.names.Var.{Var}
 use Rattle.jn_base.specs.Scopes.{Scope}
-use Rattle.jn_rules.specs.Plans.{Mark, Plan, IsBelow, done, ask, then_do, wants}
-use Rattle.jn_rules.specs.Questions.{Gives, Notes}
-use Rattle.jn_rules.specs.Exprs.{Here, Typed, Passed, mismatch, put_in, type_passed, arg_passed, args_typed, expr_types}
+use Rattle.jn_rules.specs.Plans.{Mark, Plan, IsBelow, ask, wants}
+use Rattle.jn_rules.specs.Questions.{Notes}
+use Rattle.jn_rules.specs.Exprs.{Typed, Passed, mismatch, put_in, type_passed, arg_passed, args_typed, expr_types}
 use Rattle.jn_rules.specs.Forms.{typed_args}
 use Rattle.jn_rules.proofs.PlanLaws.{then_noted}
 use Rattle.jn_places.specs.ExprPlaces.{ArgsAt}
@@ -16,7 +13,7 @@ use Rattle.jn_lower.specs.declared.walk.Parts.{Parts}
 use Rattle.jn_lower.specs.declared.walk.Walk.{Walk}
 use Rattle.jn_lower.specs.Cursors.{Ahead}
 use Rattle.jn_lower.specs.Called as called
-use Rattle.jn_lower.specs.Walks.{Ready, ArgsDone, LowersValue, LowersArgs}
+use Rattle.jn_lower.specs.Walks.{ReadyIn, ArgsDone, LowersValue, LowersArgs}
 use Rattle.jn_lower.proofs.Growing.{means}
 use Rattle.jn_lower.proofs.Calling.{no_args_so, one_arg_so}
 use Rattle.jn_lower.proofs.Noting.{wants_noted}
@@ -51,7 +48,7 @@ one_arg_done g e es w0 w1 w2 first others n scratch h parts = record {
 }
   where
     at : (from : List ℕ) (xs : List Var) (to : List ℕ) (sc : Scope) (y : Passed) (ms rest : List Mark)
-        → length xs ≡ suc (length es) → Ready g scratch h sc w0
+        → length xs ≡ suc (length es) → ReadyIn g scratch h sc w0
         → Notes g.p.now (args_typed h from xs (typed_args h (e ∷ es)) to sc) ms y → Ahead (ms ++ rest) w0.marks
         → ArgsDone (called.Args g.p.now n scratch h from xs (e ∷ es) to sc) rest w0 w2
     at from [] to sc y ms rest long ready noted ahead = absurd (no_length (length es) (sym long))
@@ -62,9 +59,9 @@ one_arg_done g e es w0 w1 w2 first others n scratch h parts = record {
         let d = (first n scratch h sc parts).done f.before (f.after ++ rest) f.first ready f.noted
         (subst (λ (l : List Mark). Ahead l w0.marks) (regroup ms f.before f.after rest f.all) ahead) in
         let k = (others n scratch h parts).done from xs (to ++ (arg_passed from to x f.first).path ∷ []) (arg_passed from to x f.first).scope
-        y f.after rest (length_suc (length xs) (length es) long) (ready_in g scratch h f.first.scope (arg_passed from to x f.first).scope w1
+        y f.after rest (length_suc (length xs) (length es) long) (ready_in scratch h f.first.scope (arg_passed from to x f.first).scope w1
         (named_low (type_passed f.first.ty (put_in f.first.scope from to x.ty)) f.first.path f.first.scope)
-        (ready_typed g scratch h sc e f.before f.first w0 w1 f.noted d.emitted.grown ready)) u.then d.left in
+        (ready_typed g.p.now scratch h sc e f.before f.first w0 w1 f.noted d.emitted.grown ready)) u.then d.left in
         record {
           left = k.left;
           emitted = one_arg_so g.p.now n scratch h from x xs e es to sc w0.out w1.out w2.out d.emitted

@@ -1,6 +1,6 @@
 -- What stands behind a receiver: each part, and all of them.
-use Rattle.std.proofs.Common.{◌≡◌, ℕ, suc, ◌+◌, ◌<◌, ◌≤◌, List, [], ◌∷◌, ◌++◌, length, drop, get_or, Bool, true, false, Option, Some, None, refl, sym, ap, ◌∙◌, subst, append-nil}
-use Rattle.std.specs.Prelude.{Result, Ok}
+use Rattle.std.proofs.Common.{◌≡◌, List, [], ◌∷◌, ◌++◌, Bool, true, Option, Some, None, sym, ap, ◌∙◌, subst}
+use Rattle.std.specs.Prelude.{Ok}
 use Rattle.jn_base.specs.declared.tree.Named.{Named}
 use Rattle.jn_base.specs.declared.tree.Place.{Place}
 use Rattle.jn_base.specs.declared.tree.Expr.{Expr}
@@ -9,10 +9,8 @@ use Rattle.jn_base.specs.declared.tree.Node.TheVariants as node
 use Rattle.jn_base.specs.declared.tree.Program.{Program}
 use Rattle.jn_base.specs.declared.refusal.Refusal.{Refusal}
 use Rattle.jn_base.specs.declared.refusal.Rule.TheVariants as rule
-use Rattle.jn_base.specs.Parts.{expr}
 use Rattle.jn_base.specs.Resolve.{is_class}
-use Rattle.jn_code.specs.declared.image.Code.{Code}
-use Rattle.jn_rules.specs.Plans.{Mark, Plan, OfField, OfMethod, done, ask, then_do, wants, found_or}
+use Rattle.jn_rules.specs.Plans.{Mark, Plan, OfField, OfMethod, done, ask, wants, found_or}
 use Rattle.jn_rules.specs.Questions.{Gives, Notes}
 use Rattle.jn_rules.specs.Exprs.{Here, Typed, mismatch, of_class, first_bound, field_gives, method_gives, suffix_typed, suffixes_typed, expr_types}
 use Rattle.jn_rules.specs.Forms.{given_args, typed_args, part_types, typed_parts}
@@ -23,12 +21,10 @@ use Rattle.jn_places.specs.ExprPlaces.{PartsAt}
 use Rattle.jn_lower.specs.declared.walk.Parts.{Parts}
 use Rattle.jn_lower.specs.declared.walk.Walk.{Walk}
 use Rattle.jn_lower.specs.Cursors.{Ahead}
-use Rattle.jn_lower.specs.Emitted.{Emitted}
 use Rattle.jn_lower.specs.Called as called
 use Rattle.jn_lower.specs.Walks.{LowersValue, LowersNodeAs, LowersPart, LowersParts}
 use Rattle.jn_lower.proofs.Growing.{means}
 use Rattle.jn_lower.proofs.Calling.{post_so, last_part_so, one_part_so}
-use Rattle.jn_lower.proofs.Noting.{wants_noted}
 use Rattle.jn_lower.proofs.Taking.{ready_grown, ready_in, ready_typed}
 use Rattle.jn_lower.proofs.Seen.{part_low}
 use Rattle.jn_lower.proofs.Chains.{is_it, regroup}
@@ -78,9 +74,9 @@ one_part_done g keeps z w ws w0 w1 w2 one others n scratch h parts = record {
       let d = (one n scratch h parts).done at x f.first f.before (f.after ++ rest) ready f.noted
       (subst (λ (l : List Mark). Ahead l w0.marks) (regroup ms f.before f.after rest f.all) ahead) in
       let e = (others n scratch h parts).done whole whole f.first y f.after rest
-      (ready_in g scratch h x.scope f.first.scope w1
+      (ready_in scratch h x.scope f.first.scope w1
       (part_low g.p.now h z at x f.first (notes_give g.p.now (part_types h z at x) f.before f.first f.noted))
-      (ready_grown g scratch h x.scope w0 w1 d.emitted.grown ready)) f.then d.left in
+      (ready_grown scratch h x.scope w0 w1 d.emitted.grown ready)) f.then d.left in
       record {
         left = e.left;
         emitted = one_part_so g.p.now n scratch h x keeps z w ws w0.out w1.out w2.out d.emitted
@@ -101,7 +97,7 @@ post_done g keeps e zs w0 w1 w2 first all pl n scratch h sc parts = record {
       let d = (first n scratch h sc parts).done f.before (f.after ++ rest) f.first ready f.noted
       (subst (λ (l : List Mark). Ahead l w0.marks) (regroup ms f.before f.after rest f.all) ahead) in
       let k = (all n scratch h parts).done pl e.at f.first z f.after rest
-      (ready_typed g scratch h sc e f.before f.first w0 w1 f.noted d.emitted.grown ready) f.then d.left in
+      (ready_typed g.p.now scratch h sc e f.before f.first w0 w1 f.noted d.emitted.grown ready) f.then d.left in
       record {
         left = k.left;
         emitted = post_so g.p.now n scratch h sc keeps pl e zs w0.out w1.out w2.out d.emitted

@@ -78,6 +78,10 @@ pub on_ok : {A E X Y : Type 0} (r : Result A E) → (X → Y) → OnOk r X → O
 on_ok (Ok x) f h = f h
 on_ok (Err e) f h = h
 
+pub on_both : {A E X Y Z : Type 0} (r : Result A E) → (X → Y → Z) → OnOk r X → OnOk r Y → OnOk r Z
+on_both (Ok x) f h k = f h k
+on_both (Err e) f h k = h
+
 pub if_ok : {A E : Type 0} (r : Result A E) (P Q : A → Type 0) → ((a : A) → P a → Q a) → IfOk r P → IfOk r Q
 if_ok (Ok x) P Q f h = f x h
 if_ok (Err e) P Q f h = h

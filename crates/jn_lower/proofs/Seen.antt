@@ -1,5 +1,5 @@
 -- What the scopes have in which the parts of an expression are typed: each path below 256 has the bound that it had.
-use Rattle.std.proofs.Common.{◌≡◌, ◌<◌, ℕ, List, [], ◌∷◌, ◌++◌, length, map, drop, reverse, Option, Some, None, Bool, true, false, ◌⊎◌, inl, inr, refl, sym, ap, ◌∙◌, subst, arith, append-nil}
+use Rattle.std.proofs.Common.{◌≡◌, ℕ, List, [], ◌∷◌, ◌++◌, length, map, drop, reverse, Option, Some, None, Bool, true, false, ◌⊎◌, inl, inr, refl, sym, ap, ◌∙◌, subst, arith, append-nil}
 use Rattle.std.specs.Prelude.{cond, nat_eq, ◌&&◌, Result, Ok, Err}
 use Rattle.std.proofs.lemmas.Bool.{ne_eqb}
 use Rattle.std.proofs.lemmas.List.{reverse-append, reverse-reverse, map-append}
@@ -41,8 +41,8 @@ use Rattle.jn_sem.specs.Does.{Body}
 use Rattle.jn_sem.specs.NormalFunction.{normal_type}
 use Rattle.jn_rules.specs.Plans.{FoundField, IsBelow, Target, Pledge, target_type, Sharing, Holding, Refuted, MemberMark, Plan, done, refuse, note, ask, then_do, wants, taken}
 use Rattle.jn_rules.specs.Questions.{Gives}
-use Rattle.jn_rules.specs.Headers.{Header, scope_of, header_typed}
-use Rattle.jn_rules.specs.Exprs.{Here, Typed, Typing, Passed, Passing, of_class, of_name, first_bound, plain, of_path, of_new, fresh_with, next_path, path_of, path_or_fresh, put_in, type_passed, arg_passed, args_typed, mismatch, replaced_paths, note_kind, kind_of, gives, is_int, is_bool, is_null_type, is_object, takes, takes_both, operator_type, var_typed, var_gives, new_typed, made_exact, made_with, made_by, as_many, call_typed, result_gives, super_typed, super_gives, super_with, constraints_granted, header_grants, view_typed, viewed, viewed_as, by_sharing, shared_or, field_gives, field_type, method_gives, method_with, unmasked, suffix_typed, suffixes_typed, links_typed, expr_types}
+use Rattle.jn_rules.specs.Headers.{scope_of, header_typed}
+use Rattle.jn_rules.specs.Exprs.{Here, Typed, Passed, of_class, of_name, first_bound, plain, of_path, of_new, fresh_with, next_path, path_of, path_or_fresh, put_in, type_passed, arg_passed, args_typed, mismatch, replaced_paths, note_kind, kind_of, gives, is_int, is_bool, is_null_type, is_object, takes, takes_both, operator_type, var_typed, var_gives, new_typed, made_exact, made_with, made_by, as_many, call_typed, result_gives, super_typed, super_gives, super_with, constraints_granted, header_grants, view_typed, viewed, viewed_as, by_sharing, shared_or, field_gives, field_type, method_gives, method_with, unmasked, suffix_typed, suffixes_typed, links_typed, expr_types}
 use Rattle.jn_rules.specs.Forms.{typed_args, given_args, typed_expr, typed_parts, typed_links, part_types}
 use Rattle.jn_rules.proofs.FormLaws.{forms_are}
 use Rattle.jn_rules.proofs.PlanLaws.{then_came, wanted, took, found_was}

@@ -1,6 +1,6 @@
 -- Assignments to fields: each step of the walk, and what it does.
 use Rattle.std.proofs.Common.{◌≡◌, ℕ, List, [], ◌∷◌, ◌++◌, Bool, true, false, Option, Some, None, refl, sym, ap, ◌∙◌, subst, append-nil}
-use Rattle.std.specs.Prelude.{Ok, cond}
+use Rattle.std.specs.Prelude.{cond}
 use Rattle.jn_base.specs.declared.tree.Name.{Name}
 use Rattle.jn_base.specs.declared.tree.Named.{Named}
 use Rattle.jn_base.specs.declared.tree.Expr.{Expr}
@@ -10,7 +10,7 @@ use Rattle.jn_base.specs.declared.path.Path.{Path as ShownPath}
 use Rattle.jn_base.specs.declared.refusal.Refusal.{Refusal}
 use Rattle.jn_base.specs.declared.refusal.Rule.TheVariants as rule
 use Rattle.jn_base.specs.Resolve.{is_class}
-use Rattle.jn_rules.specs.Plans.{FoundField, OfField, IsBelow, Mark, MemberMark, Plan, done, ask, then_do, wants, found_or}
+use Rattle.jn_rules.specs.Plans.{FoundField, OfField, IsBelow, Mark, MemberMark, Plan, done, ask, wants, found_or}
 use Rattle.jn_rules.specs.Questions.{Notes, Finds, IsFoundField}
 use Rattle.jn_rules.specs.Exprs.{Typed, mismatch, of_class, first_bound, path_of, field_type}
 use Rattle.jn_rules.specs.Stmts.{In, Before, here, typed, is_variable, with_masks, without_mask, dropped, set_with, stmt_types}
@@ -26,7 +26,7 @@ use Rattle.jn_lower.specs.declared.walk.Walk.{Walk}
 use Rattle.jn_lower.specs.Cursors.{Ahead, MemberTaken}
 use Rattle.jn_lower.specs.Forms.{Value}
 use Rattle.jn_lower.specs.Stores.{ValueBehind}
-use Rattle.jn_lower.specs.Walks.{FieldPut, LowersValue, LowersStmt}
+use Rattle.jn_lower.specs.Walks.{FieldPut, LowersValue, LowersPlain}
 use Rattle.jn_lower.proofs.Growing.{means}
 use Rattle.jn_lower.proofs.Holding.{set_so}
 use Rattle.jn_lower.proofs.Noting.{wants_noted, found_noted}
@@ -123,7 +123,7 @@ set_noted p b x y r f e ms noted =
 
 pub set_done : (g : Parts) (r : Expr) (f : Named) (e : Expr) (path : ShownPath) (m2 : Marks) (w0 w1 w3 w4 : Walk)
     → LowersValue g r w0 w1 → MemberTaken path w1.marks m2 → LowersValue g e (record w1 { marks = m2 }) w3
-    → FieldPut g path f.name w3 w4 → LowersStmt g (stmt.Set r f e) w0 w4
+    → FieldPut g path f.name w3 w4 → LowersPlain g (stmt.Set r f e) w0 w4
 set_done g r f e path m2 w0 w1 w3 w4 receiver took value puts n scratch b parts = record {
   done = λ x y ms rest ready noted ahead.
       let s = set_noted g.p.now b x y r f e ms noted in
@@ -136,16 +136,16 @@ set_done g r f e path m2 w0 w1 w3 w4 receiver took value puts n scratch b parts 
       let one = member_ahead path c.class (s.behind ++ rest) w1.marks m2 took d.left in
       let w2 : Walk = record w1 { marks = m2 } in
       let h = here b x in
-      let ready1 = ready_locals g scratch h x.scope w1 w2 refl (ready_grown g scratch h x.scope w0 w1 d.emitted.grown ready) in
-      let ready2 = ready_in g scratch h v.scope scope w2 (named_low v.ty v.path v.scope)
-      (ready_locals g scratch h v.scope w1 w2 refl
-      (ready_typed g scratch h x.scope r s.before v w0 w1 s.noted d.emitted.grown ready)) in
+      let ready1 = ready_locals scratch h x.scope w1 w2 refl (ready_grown scratch h x.scope w0 w1 d.emitted.grown ready) in
+      let ready2 = ready_in scratch h v.scope scope w2 (named_low v.ty v.path v.scope)
+      (ready_locals scratch h v.scope w1 w2 refl
+      (ready_typed g.p.now scratch h x.scope r s.before v w0 w1 s.noted d.emitted.grown ready)) in
       let k = (value n scratch h scope parts).done s.behind rest s.value ready2 s.gave one.left in
       let by = read_by g n parts v.scope v.ty f.name c path puts.getter s.found one.same puts.is in
       record {
         left = subst (Ahead rest) (sym puts.marks) k.left;
-        ready = ready_apart g scratch b x y w4 s.vars s.apart
-            (ready_locals g scratch h x.scope w3 w4 puts.adds.locals (ready_grown g scratch h x.scope w2 w3 k.emitted.grown ready1));
+        ready = ready_apart scratch b x y w4 s.vars s.apart
+            (ready_locals scratch h x.scope w3 w4 puts.adds.locals (ready_grown scratch h x.scope w2 w3 k.emitted.grown ready1));
         behind = λ ss end all. set_so g.p.now n scratch b x r f e puts.getter.selector puts.getter.kind ss w0.out w1.out
             w3.out w4.out end d.emitted
             (means (Value g.p.now n scratch (here b x) scope true e) (ValueBehind g.p.now n scratch b x r e) w1.out w3.out

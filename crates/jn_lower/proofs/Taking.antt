@@ -1,17 +1,18 @@
 -- How marks are taken, and what still stands behind a step of a walk.
-use Rattle.std.proofs.Common.{◌≡◌, ℕ, List, [], ◌∷◌, ◌++◌, refl, sym, ap, ◌∙◌, subst, arith}
-use Rattle.std.specs.Prelude.{Some, slice_get, reverse}
-use Rattle.std.proofs.lemmas.List.{reverse-reverse}
+use Rattle.std.proofs.Common.{◌≡◌, ℕ, List, ◌∷◌, ◌++◌, map, sym, ap, ◌∙◌, subst, arith}
+use Rattle.std.specs.Prelude.{slice_get, reverse}
 use Rattle.jn_base.specs.declared.types.Atom.{Atom as ShownAtom}
 use Rattle.jn_base.specs.declared.types.ValKind.{ValKind}
 use Rattle.jn_base.specs.declared.path.Path.{Path as ShownPath}
 use Rattle.jn_base.specs.declared.names.Var.{Var}
+use Rattle.jn_base.specs.declared.tree.Program.{Program}
 use Rattle.jn_base.specs.declared.tree.Expr.{Expr}
 use Rattle.jn_base.specs.Paths.{Path, shown}
 use Rattle.jn_base.specs.declared.types.Anchor.TheVariants.{Up}
 use Rattle.jn_base.specs.Atoms.{Atom, Among}
 use Rattle.jn_base.specs.Scopes.{Scope, bound_of, bound}
 use Rattle.jn_sem.specs.Terms.{Site}
+use Rattle.jn_laws.proofs.AlikeScopes.{bound_like}
 use Rattle.jn_laws.specs.LawsOfWritten.{HeaderPath, of_this, of_param, HeaderPaths}
 use Rattle.jn_rules.specs.Headers.{scope_of}
 use Rattle.jn_rules.specs.Plans.{Mark, AtomMark, VarMark, MemberMark, KindMark}
@@ -23,13 +24,13 @@ use Rattle.jn_rule_laws.specs.Behind.{MasksApart}
 use Rattle.jn_rules.specs.Resolved.{atom_marked, var_marked, member_marked, kind_marked}
 use Rattle.jn_lower.specs.declared.cursor.Marks.{Marks}
 use Rattle.jn_lower.specs.declared.emitter.Locals.{Locals}
-use Rattle.jn_lower.specs.declared.walk.Parts.{Parts}
 use Rattle.jn_lower.specs.declared.walk.Walk.{Walk}
 use Rattle.jn_lower.specs.Cursors.{Ahead, TermTaken, VarTaken, MemberTaken, KindTaken}
 use Rattle.jn_lower.specs.Called.{Tucks}
 use Rattle.jn_lower.specs.Emitted.{Grown}
-use Rattle.jn_lower.specs.Making.{Scoped}
+use Rattle.jn_lower.specs.Known.{scope_in, bare}
 use Rattle.jn_lower.specs.Walks.{kind_number, Had, Low, Ready}
+use Rattle.jn_lower.proofs.Knowing.{bare_alike}
 use Rattle.jn_lower.proofs.Seen.{low_joined, anchor_low, apart_bound, this_first, expr_low}
 
 -- ---- lists
@@ -117,10 +118,11 @@ had_ahead k ms old new h a =
 
 -- ---- locals
 
-pub ready_grown : (g : Parts) (scratch : ℕ) (h : Here) (sc : Scope) (old new : Walk) → Grown old.out new.out
-    → Ready g scratch h sc old → Ready g scratch h sc new
-ready_grown g scratch h sc old new grown r = record {
+pub ready_grown : {at : ShownPath} {vs : List Var} (scratch : ℕ) (h : Here) (sc : Scope) (old new : Walk) → Grown old.out new.out
+    → Ready at vs scratch h sc old → Ready at vs scratch h sc new
+ready_grown scratch h sc old new grown r = record {
   class = r.class;
+  vars = r.vars;
   above = grown.locals.scratch ∙ r.above;
   first = grown.locals.kinds 0 3 r.first;
   kinds = λ v m. grown.locals.kinds v.path _ (r.kinds v m);
@@ -129,14 +131,13 @@ ready_grown g scratch h sc old new grown r = record {
   few = r.few;
   paths = r.paths;
   low = r.low;
-  known = λ q B e. let k = r.known q B e in
-      record { bound = k.bound; few = k.few; kind = k.kind; at = grown.locals.kinds q k.kind k.at };
 }
 
-pub ready_locals : (g : Parts) (scratch : ℕ) (h : Here) (sc : Scope) (old new : Walk)
-    → new.out.locals ≡ old.out.locals → Ready g scratch h sc old → Ready g scratch h sc new
-ready_locals g scratch h sc old new e r = record {
+pub ready_locals : {at : ShownPath} {vs : List Var} (scratch : ℕ) (h : Here) (sc : Scope) (old new : Walk)
+    → new.out.locals ≡ old.out.locals → Ready at vs scratch h sc old → Ready at vs scratch h sc new
+ready_locals scratch h sc old new e r = record {
   class = r.class;
+  vars = r.vars;
   above = ap (λ (o : Locals). o.scratch) e ∙ r.above;
   first = ap (λ (o : Locals). slice_get o.kinds 0) e ∙ r.first;
   kinds = λ v m. ap (λ (o : Locals). slice_get o.kinds v.path) e ∙ r.kinds v m;
@@ -145,17 +146,16 @@ ready_locals g scratch h sc old new e r = record {
   few = r.few;
   paths = r.paths;
   low = r.low;
-  known = λ q B i. let k = r.known q B i in
-      record { bound = k.bound; few = k.few; kind = k.kind; at = ap (λ (o : Locals). slice_get o.kinds q) e ∙ k.at };
 }
 
 -- behind what brings `this` below the first argument of `super`
-pub ready_tucked : (g : Parts) (scratch : ℕ) (h : Here) (sc : Scope) (kind : ℕ) (old new : Walk)
-    → Tucks kind old.out new.out → Ready g scratch h sc old → Ready g scratch h sc new
-ready_tucked g scratch h sc kind old new t r =
+pub ready_tucked : {at : ShownPath} {vs : List Var} (scratch : ℕ) (h : Here) (sc : Scope) (kind : ℕ) (old new : Walk)
+    → Tucks kind old.out new.out → Ready at vs scratch h sc old → Ready at vs scratch h sc new
+ready_tucked scratch h sc kind old new t r =
     let kinds : new.out.locals.kinds ≡ old.out.locals.kinds = ap (λ (o : Locals). o.kinds) t.added.locals ∙ t.spare.kinds in
     record {
       class = r.class;
+      vars = r.vars;
       above = ap (λ (o : Locals). o.scratch) t.added.locals ∙ t.spare.scratch ∙ r.above;
       first = ap (λ (l : List ℕ). slice_get l 0) kinds ∙ r.first;
       kinds = λ v m. ap (λ (l : List ℕ). slice_get l v.path) kinds ∙ r.kinds v m;
@@ -164,49 +164,47 @@ ready_tucked g scratch h sc kind old new t r =
       few = r.few;
       paths = r.paths;
       low = r.low;
-      known = λ q B e. let k = r.known q B e in
-          record { bound = k.bound; few = k.few; kind = k.kind; at = ap (λ (l : List ℕ). slice_get l q) kinds ∙ k.at };
     }
 
 -- ---- scopes
 
 -- `this` has the class of the body
-pub own_bound : (g : Parts) (scratch : ℕ) (h : Here) (sc : Scope) (w : Walk) → Ready g scratch h sc w
+pub own_bound : {at : ShownPath} {vs : List Var} (scratch : ℕ) (h : Here) (sc : Scope) (w : Walk) → Ready at vs scratch h sc w
     → bound_of sc 0 ≡ h.class
-own_bound g scratch h sc w r = r.low 0 (omega arith) ∙ this_first (site_here h) r.apart
+own_bound scratch h sc w r = r.low 0 (omega arith) ∙ this_first (site_here h) r.apart
 
 -- a path that a term may mention has the bound that it has where terms are resolved, and so has an atom that hangs on one
-pub seen_bound : (g : Parts) (scratch : ℕ) (h : Here) (sc : Scope) (w : Walk) → Ready g scratch h sc w → (q : ℕ)
+pub seen_bound : {at : ShownPath} {vs : List Var} (scratch : ℕ) (h : Here) (sc : Scope) (w : Walk) → Ready at vs scratch h sc w → (q : ℕ)
     → HeaderPath h.vars q → bound_of sc q ≡ bound_of (scope_of (site_here h)) q
-seen_bound g scratch h sc w r q (of_this e) = r.low q (omega (arith, e))
-seen_bound g scratch h sc w r q (of_param v m e f c) = let l = r.few v m in r.low q (omega (arith, e, l))
+seen_bound scratch h sc w r q (of_this e) = r.low q (omega (arith, e))
+seen_bound scratch h sc w r q (of_param v m e f c) = let l = r.few v m in r.low q (omega (arith, e, l))
 
--- the scope, and that in which terms are resolved, have the class of the body and the known bounds
-pub scoped_here : (g : Parts) (scratch : ℕ) (h : Here) (sc : Scope) (w : Walk) → Ready g scratch h sc w
-    → Scoped g.class.now g.bounds.now sc
-scoped_here g scratch h sc w r = record {
-  this = own_bound g scratch h sc w r ∙ sym (reverse-reverse h.class) ∙ ap (λ (q : ShownPath). reverse q.names) (sym r.class);
-  has = λ q B e. let k = r.known q B e in r.low q k.few ∙ k.bound;
-}
-
-pub scoped_there : (g : Parts) (scratch : ℕ) (h : Here) (sc : Scope) (w : Walk) → Ready g scratch h sc w
-    → Scoped g.class.now g.bounds.now (scope_of (site_here h))
-scoped_there g scratch h sc w r = record {
-  this = this_first (site_here h) r.apart ∙ sym (reverse-reverse h.class) ∙ ap (λ (q : ShownPath). reverse q.names) (sym r.class);
-  has = λ q B e. (r.known q B e).bound;
-}
-
-pub same_bound : (g : Parts) (scratch : ℕ) (h : Here) (sc : Scope) (w : Walk) → Ready g scratch h sc w → (x : Atom)
-    → ((q k : ℕ) → x.anchor ≡ Up q k → HeaderPath h.vars q) → bound sc x ≡ bound (scope_of (site_here h)) x
-same_bound g scratch h sc w r x own =
+pub same_bound : {at : ShownPath} {vs : List Var} (scratch : ℕ) (h : Here) (sc : Scope) (w : Walk) → Ready at vs scratch h sc w
+    → (x : Atom) → ((q k : ℕ) → x.anchor ≡ Up q k → HeaderPath h.vars q) → bound sc x ≡ bound (scope_of (site_here h)) x
+same_bound scratch h sc w r x own =
     ap (λ (R : Path). x.names ++ (x.exact ++ R)) (anchor_low (bound_of sc) (bound_of (scope_of (site_here h))) x.anchor
-    (λ q k e. seen_bound g scratch h sc w r q (own q k e)))
+    (λ q k e. seen_bound scratch h sc w r q (own q k e)))
+
+-- an atom has the bound that the walk finds
+pub known_there : {at : ShownPath} {vs : List Var} (scratch : ℕ) (h : Here) (sc : Scope) (w : Walk)
+    → Ready at vs scratch h sc w → (x : Atom) → bound (scope_in at vs) x ≡ bound (scope_of (site_here h)) x
+known_there {at} {vs} scratch h sc w r x =
+    ap (λ (q : ShownPath). bound (scope_in q vs) x) r.class
+    ∙ ap (λ (us : List Var). bound (scope_in (shown h.class) us) x) r.vars
+    ∙ bound_like (bare_alike (reverse (shown h.class).names) h.vars) x
+
+-- so it is in the scope, where it hangs on no fresh path
+pub known_here : {at : ShownPath} {vs : List Var} (scratch : ℕ) (h : Here) (sc : Scope) (w : Walk)
+    → Ready at vs scratch h sc w → (x : Atom) → ((q k : ℕ) → x.anchor ≡ Up q k → HeaderPath h.vars q)
+    → bound (scope_in at vs) x ≡ bound sc x
+known_here scratch h sc w r x own = known_there scratch h sc w r x ∙ sym (same_bound scratch h sc w r x own)
 
 -- with fresh paths more
-pub ready_in : (g : Parts) (scratch : ℕ) (h : Here) (s t : Scope) (w : Walk) → Low s t → Ready g scratch h s w
-    → Ready g scratch h t w
-ready_in g scratch h s t w low r = record {
+pub ready_in : {at : ShownPath} {vs : List Var} (scratch : ℕ) (h : Here) (s t : Scope) (w : Walk) → Low s t → Ready at vs scratch h s w
+    → Ready at vs scratch h t w
+ready_in scratch h s t w low r = record {
   class = r.class;
+  vars = r.vars;
   above = r.above;
   first = r.first;
   kinds = r.kinds;
@@ -215,14 +213,14 @@ ready_in g scratch h s t w low r = record {
   few = r.few;
   paths = r.paths;
   low = low_joined (scope_of (site_here h)) s t r.low low;
-  known = r.known;
 }
 
 -- with other masks
-pub ready_apart : (g : Parts) (scratch : ℕ) (b : In) (x y : Before) (w : Walk) → y.vars ≡ x.vars
-    → MasksApart x.scope y.scope → Ready g scratch (here b x) x.scope w → Ready g scratch (here b y) y.scope w
-ready_apart g scratch b x y w vars apart r = record {
+pub ready_apart : {at : ShownPath} {vs : List Var} (scratch : ℕ) (b : In) (x y : Before) (w : Walk) → y.vars ≡ x.vars
+    → MasksApart x.scope y.scope → Ready at vs scratch (here b x) x.scope w → Ready at vs scratch (here b y) y.scope w
+ready_apart scratch b x y w vars apart r = record {
   class = r.class;
+  vars = r.vars ∙ ap (map bare) (sym vars);
   above = r.above;
   first = r.first;
   kinds = λ v m. r.kinds v (subst (λ (vs : List Var). Among vs v) vars m);
@@ -233,21 +231,15 @@ ready_apart g scratch b x y w vars apart r = record {
       (r.paths v (subst (λ (vs : List Var). Among vs v) vars m));
   low = λ q l. apart_bound x.scope y.scope apart q ∙ r.low q l
       ∙ ap (λ (vs : List Var). bound_of (scope_of (site_in_of vs)) q) (sym vars);
-  known = λ q B e. let k = r.known q B e in record {
-    bound = ap (λ (vs : List Var). bound_of (scope_of (site_in_of vs)) q) vars ∙ k.bound;
-    few = k.few;
-    kind = k.kind;
-    at = k.at;
-  };
 }
   where
     site_in_of : List Var → Site
     site_in_of vs = record { class = b.class; method = b.method.name.name; vars = vs }
 
 -- behind an expression
-pub ready_typed : (g : Parts) (scratch : ℕ) (h : Here) (sc : Scope) (e : Expr) (ms : List Mark) (x : Typed)
-    (old new : Walk) → Notes g.p.now (expr_types h e sc) ms x → Grown old.out new.out → Ready g scratch h sc old
-    → Ready g scratch h x.scope new
-ready_typed g scratch h sc e ms x old new noted grown r =
-    ready_in g scratch h sc x.scope new (expr_low g.p.now h e sc x (notes_give g.p.now (expr_types h e sc) ms x noted))
-    (ready_grown g scratch h sc old new grown r)
+pub ready_typed : {at : ShownPath} {vs : List Var} (p : Program) (scratch : ℕ) (h : Here) (sc : Scope) (e : Expr) (ms : List Mark) (x : Typed)
+    (old new : Walk) → Notes p (expr_types h e sc) ms x → Grown old.out new.out → Ready at vs scratch h sc old
+    → Ready at vs scratch h x.scope new
+ready_typed p scratch h sc e ms x old new noted grown r =
+    ready_in scratch h sc x.scope new (expr_low p h e sc x (notes_give p (expr_types h e sc) ms x noted))
+    (ready_grown scratch h sc old new grown r)

@@ -1,5 +1,5 @@
 -- View changes: each step of the walk, and what it does.
-use Rattle.std.proofs.Common.{◌≡◌, ℕ, List, [], ◌∷◌, ◌++◌, Bool, true, false, refl, sym, ap, ◌∙◌, subst, append_assoc}
+use Rattle.std.proofs.Common.{List, [], ◌∷◌, ◌++◌, Bool, true, false, refl, sym, ap, ◌∙◌, subst, append_assoc}
 use Rattle.std.specs.Prelude.{Result, Ok, cond}
 use Rattle.jn_base.specs.declared.tree.Place.{Place}
 use Rattle.jn_base.specs.declared.tree.ViewTerm.{ViewTerm}
@@ -16,7 +16,6 @@ use Rattle.jn_base.specs.Parts.{expr}
 use Rattle.jn_base.specs.Atoms.{atom_of}
 use Rattle.jn_code.specs.declared.instr.Instr.{Instr}
 use Rattle.jn_code.specs.declared.instr.Instr.TheVariants as ins
-use Rattle.jn_sem.specs.Terms.{ViewIs}
 use Rattle.jn_rules.specs.Plans.{Target, Sharing, Holding, Refuted, Mark, AtomMark, KindMark, Plan, then_do, wants}
 use Rattle.jn_rules.specs.Questions.{TargetIs, Notes}
 use Rattle.jn_rules.specs.Exprs.{Here, site_here, Typed, mismatch, is_object, is_null_type, gives, header_grants, shared_or, by_sharing, viewed_as, viewed, view_typed, expr_types}
@@ -35,7 +34,7 @@ use Rattle.jn_lower.specs.Walks.{ViewedAs, LowersValue, LowersNode}
 use Rattle.jn_lower.proofs.Composing.{view_so}
 use Rattle.jn_lower.proofs.Noting.{GaveOne, taken_noted, wants_noted, gives_noted, grants_silent}
 use Rattle.jn_lower.proofs.Taking.{term_ahead, had_ahead, ready_locals}
-use Rattle.jn_lower.proofs.Chains.{regroup, last_one}
+use Rattle.jn_lower.proofs.Chains.{last_one}
 
 viewed_noted : (p : Program) (h : Here) (at : Place) (u : Target) (x z : Typed) (ms : List Mark)
     → Notes p (viewed h at u x) ms z → GaveOne kind.Reference (viewed_as u x.scope) z ms
@@ -85,7 +84,7 @@ view_done g v e a m1 w0 w2 w4 took value seen pl n scratch h sc parts = record {
       ∙ ap (λ (l : List Mark). AtomMark u.atom ∷ l) (last_one k.then.0 f.before f.after rest kind.Reference f.all gave.marks)) ahead) in
       let w1 : Walk = record { out = w0.out; marks = m1; last = w0.last } in
       let d = (value n scratch h sc parts).done f.before (KindMark kind.Reference ∷ rest) f.first
-      (ready_locals g scratch h sc w0 w1 refl ready) f.noted one.left in
+      (ready_locals scratch h sc w0 w1 refl ready) f.noted one.left in
       let it = had_ahead kind.Reference rest seen.mid w4 seen.had (subst (Ahead (KindMark kind.Reference ∷ rest)) (sym seen.marks) d.left) in
       let code = seen.class n parts.classes in
       let adds : Adds (code.cls ++ ins.Conv ∷ []) w2.out seen.mid.out = record {

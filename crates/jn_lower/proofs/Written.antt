@@ -1,5 +1,5 @@
 -- What a written type stands for: its kind, and how many atoms it has.
-use Rattle.std.proofs.Common.{◌≡◌, ℕ, suc, List, [], ◌∷◌, ◌++◌, length, map, Bool, true, false, Option, Some, None, refl, sym, ap, ◌∙◌, subst}
+use Rattle.std.proofs.Common.{◌≡◌, suc, List, [], ◌∷◌, length, map, Bool, true, false, Option, Some, None, refl, sym, ap, ◌∙◌, subst}
 use Rattle.std.specs.Prelude.{Result, Ok, Err}
 use Rattle.jn_base.specs.declared.tree.Named.{Named}
 use Rattle.jn_base.specs.declared.tree.Term.{Term}
@@ -18,7 +18,7 @@ use Rattle.jn_base.specs.declared.refusal.Refusal.{Refusal}
 use Rattle.jn_base.specs.Paths.{Path}
 use Rattle.jn_base.specs.Scopes.{Scope}
 use Rattle.jn_base.specs.Resolve.{is_class}
-use Rattle.jn_base.specs.ResolveTypes.{before_all, ResolveAll, none, refused, first, bounds_at, may_mask, Taken, UnfitGives, UnmaskedGives, MasksGive, DepthsGive, many, one, AtomsGive, ResolveClass, ResolveType, mask_names}
+use Rattle.jn_base.specs.ResolveTypes.{ResolveAll, none, refused, first, bounds_at, may_mask, Taken, UnfitGives, UnmaskedGives, MasksGive, DepthsGive, many, one, AtomsGive, ResolveType, mask_names}
 use Rattle.jn_sem.specs.Normal.{same_path}
 use Rattle.jn_sem.specs.NormalFunction.{normal_type}
 use Rattle.jn_sem.specs.Terms.{Site, TypeIs, spot_at, vars_at}
@@ -27,6 +27,7 @@ use Rattle.jn_rules.specs.Plans.{AtomMark}
 use Rattle.jn_rules.specs.Headers.{declared_type, scope_of}
 use Rattle.jn_rules.specs.Stmts.{atom_marks}
 use Rattle.jn_agree.specs.Rows.{kind_of_type}
+use Rattle.jn_lower.specs.Known.{bare_type, written_type}
 use Rattle.jn_lower.specs.Written.{written_kind, is_reference, written_terms}
 
 ok_same : {A : Type 0} (a b : A) → ◌≡◌ {A = Result A Refusal} (Ok a) (Ok b) → a ≡ b
@@ -98,6 +99,7 @@ pub record Told (tt : TypeTerm) (t : Ty) : Type 0 where
   pub atoms : List ShownAtom
   pub marks : atom_marks t ≡ map AtomMark atoms
   pub long : length atoms ≡ written_terms tt
+  pub bare : bare_type (written_type tt atoms) ≡ bare_type t
 
 of_class : (ts : List Term) (ms : List Named) (t : Ty) (xs : List ShownAtom) (m : Masks) → t ≡ ty.Class xs m
     → length xs ≡ length ts → Told (type.Class ts ms) t
@@ -108,6 +110,7 @@ of_class ts ms t xs m e n = subst (Told (type.Class ts ms)) (sym e) (record {
   atoms = xs;
   marks = refl;
   long = n;
+  bare = refl;
 }) where
   no_void : ty.Class xs m ≡ ty.Void → ⊥
   no_void e = cc
@@ -121,6 +124,7 @@ told p names spot vars type.Int t h = subst (Told type.Int) (sym (ok_same t ty.I
   atoms = [];
   marks = refl;
   long = refl;
+  bare = refl;
 }) where
   no_void : ty.Int ≡ ty.Void → ⊥
   no_void e = cc
@@ -131,6 +135,7 @@ told p names spot vars type.Bool t h = subst (Told type.Bool) (sym (ok_same t ty
   atoms = [];
   marks = refl;
   long = refl;
+  bare = refl;
 }) where
   no_void : ty.Bool ≡ ty.Void → ⊥
   no_void e = cc

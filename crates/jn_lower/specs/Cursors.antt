@@ -1,5 +1,5 @@
 -- What is left of the marks of a body while it is lowered.
-use Rattle.std.specs.Prelude.{◌≡◌, ℕ, List, ◌∷◌, drop}
+use Rattle.std.specs.Prelude.{◌≡◌, ℕ, List, ◌∷◌, ◌++◌, length}
 use Rattle.jn_base.specs.declared.path.Path.{Path as ShownPath}
 use Rattle.jn_base.specs.declared.types.Atom.{Atom as ShownAtom}
 use Rattle.jn_base.specs.declared.types.ValKind.{ValKind}
@@ -21,9 +21,10 @@ pub record TermTaken (a : ShownAtom) (old new : Marks) : Type 0 where
   pub members : new.members.now ≡ old.members.now
   pub kinds : new.kinds.now ≡ old.kinds.now
 
--- that many terms were passed over
-pub record TermsTaken (k : ℕ) (old new : Marks) : Type 0 where
-  pub terms : new.terms.now ≡ drop k old.terms.now
+-- that many terms were taken
+pub record TermsTaken (k : ℕ) (xs : List ShownAtom) (old new : Marks) : Type 0 where
+  pub long : length xs ≡ k
+  pub terms : old.terms.now ≡ xs ++ new.terms.now
   pub vars : new.vars.now ≡ old.vars.now
   pub members : new.members.now ≡ old.members.now
   pub kinds : new.kinds.now ≡ old.kinds.now

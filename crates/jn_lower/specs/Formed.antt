@@ -1,5 +1,5 @@
 -- What is asked of what was emitted before it becomes a code, and what the code then is.
-use Rattle.std.specs.Prelude.{◌≡◌, ◌≤◌, ◌<◌, ◌+◌, ℕ, suc, List, length, All}
+use Rattle.std.specs.Prelude.{◌≡◌, ◌≤◌, ◌<◌, ◌+◌, ℕ, List, length, All}
 use Rattle.jn_base.specs.declared.tree.Method.{Method}
 use Rattle.jn_code.specs.declared.instr.Instr.{Instr}
 use Rattle.jn_code.specs.declared.image.Code.{Code}

@@ -17,6 +17,5 @@ pub mod Cursors
 pub mod Lowering
 pub mod Walks
 pub mod Making
-pub mod Alike
-pub mod Params
+pub mod Known
 pub mod Formed

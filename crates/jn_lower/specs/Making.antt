@@ -1,18 +1,16 @@
 -- What a walk does at `new` and at `super`.
-use Rattle.std.specs.Prelude.{◌≡◌, ◌++◌, ℕ, List, [], ◌∷◌, length, drop, reverse, Bool, true, false, Option, Some, None, slice_get}
+use Rattle.std.specs.Prelude.{◌≡◌, ◌++◌, ℕ, List, [], ◌∷◌, length, reverse, Bool, true, false, Option, Some, slice_get}
 use Rattle.jn_base.specs.declared.tree.Name.{Name}
 use Rattle.jn_base.specs.declared.tree.Method.{Method}
-use Rattle.jn_base.specs.declared.types.Anchor.{Anchor}
 use Rattle.jn_base.specs.declared.types.Atom.{Atom as ShownAtom}
 use Rattle.jn_base.specs.declared.path.Path.{Path as ShownPath}
 use Rattle.jn_base.specs.Paths.{Path}
 use Rattle.jn_base.specs.Members.{MethodAt}
-use Rattle.jn_base.specs.Atoms.{atom_of, anchor_at}
-use Rattle.jn_base.specs.Scopes.{Scope, bound_of, bound}
+use Rattle.jn_base.specs.Atoms.{atom_of}
+use Rattle.jn_base.specs.Scopes.{bound}
 use Rattle.jn_table.specs.Rows.{HasMethod}
 use Rattle.jn_table.specs.Tables.{IsFilled}
 use Rattle.jn_code.specs.declared.instr.Instr.TheVariants as ins
-use Rattle.jn_sem.specs.Sharing.{IsClass}
 use Rattle.jn_agree.specs.Naming.{Naming}
 use Rattle.jn_agree.specs.Places.{dropping}
 use Rattle.jn_lower.specs.declared.cursor.Marks.{Marks}
@@ -27,31 +25,14 @@ use Rattle.jn_lower.specs.Called.{Tucks}
 use Rattle.jn_lower.specs.Classes.{AreClassesOf, AddsClass}
 use Rattle.jn_lower.specs.Selecting.{IsCtorOf, made_by}
 use Rattle.jn_lower.specs.Told.{IsCallee, MakesBy}
-use Rattle.jn_lower.specs.Params.{HasBounds}
+use Rattle.jn_lower.specs.Known.{scope_in}
 use Rattle.jn_lower.specs.Walks.{Had, Settled}
 
--- ---- bounds, where `this` has the class at the path
+-- ---- bounds
 
-abbrev pub IsThis : ShownPath → Scope → Type 0
-IsThis class s = bound_of s 0 ≡ reverse class.names
-
--- and the variables have these bounds
-pub record Scoped (class : ShownPath) (bounds : List (Option Path)) (s : Scope) : Type 0 where
-  pub this : IsThis class s
-  pub has : HasBounds bounds s
-
--- the known bound of a variable without its last k names
-pub record IsVariableBound (bounds : List (Option Path)) (q k : ℕ) (B : Path) : Type 0 where
-  pub whole : Path
-  pub at : slice_get bounds q ≡ Some (Some whole)
-  pub is : B ≡ drop k whole
-
--- the bound of an anchor, and of an atom, in each such scope
-pub record IsAnchorBound (class : ShownPath) (bounds : List (Option Path)) (a : Anchor) (B : Path) : Type 0 where
-  pub is : (s : Scope) → Scoped class bounds s → B ≡ anchor_at (bound_of s) a
-
-pub record IsAtomBound (class : ShownPath) (bounds : List (Option Path)) (x : ShownAtom) (B : Path) : Type 0 where
-  pub is : (s : Scope) → Scoped class bounds s → B ≡ bound s (atom_of x)
+-- the bound of an atom where these variables are in scope
+abbrev pub bound_in : Parts → ShownAtom → Path
+bound_in g x = bound (scope_in g.class.now g.vars.now) (atom_of x)
 
 -- ---- new objects
 
@@ -59,33 +40,18 @@ pub record IsAtomBound (class : ShownPath) (bounds : List (Option Path)) (x : Sh
 abbrev pub IsLast : ShownAtom → Name → Type 0
 IsLast x C = (P : Path) × ((atom_of x).names ++ (atom_of x).exact ≡ C ∷ P)
 
--- where the bound of the atom is a class, it has a constructor
+-- the class of the atom has a constructor
 abbrev pub Constructs : Parts → ShownAtom → Name → Type 0
-Constructs g x C =
-    IsFilled g.p.now g.t.now → (s : Scope) → Scoped g.class.now g.bounds.now s → IsClass g.p.now (bound s (atom_of x))
-    → HasMethod g.p.now (bound s (atom_of x)) C
+Constructs g x C = IsFilled g.p.now g.t.now → HasMethod g.p.now (bound_in g x) C
 
 -- or has none
 abbrev pub ConstructsNot : Parts → ShownAtom → Name → Type 0
-ConstructsNot g x C =
-    IsFilled g.p.now g.t.now → (s : Scope) → Scoped g.class.now g.bounds.now s → IsClass g.p.now (bound s (atom_of x))
-    → HasMethod g.p.now (bound s (atom_of x)) C → ⊥
+ConstructsNot g x C = IsFilled g.p.now g.t.now → HasMethod g.p.now (bound_in g x) C → ⊥
 
 -- whether it has one
 pub record SaysConstructs (g : Parts) (x : ShownAtom) (C : Name) (told : Bool) : Type 0 where
   pub yes : told ≡ true → Constructs g x C
   pub no : told ≡ false → ConstructsNot g x C
-
--- or nothing is said
-abbrev pub SaysOf : Parts → ShownAtom → Name → Option Bool → Type 0
-SaysOf g x C (Some told) = SaysConstructs g x C told
-SaysOf g x C None = Unit {0}
-
--- no class with a method of the name C is marked next
-abbrev pub Unmarked : Parts → Name → Marks → Type 0
-Unmarked g C marks =
-    (R : ShownPath) (Rs : List ShownPath) → marks.members.now ≡ R ∷ Rs → (m : Method)
-    → MethodAt g.p.now (reverse R.names) C m → ⊥
 
 -- the constructor that the marked class declares, with so many parameters
 pub record ByMark (g : Parts) (x : ShownAtom) (C : Name) (count : ℕ) (ctor : Option ℕ) (old new : Walk) : Type 0 where
@@ -98,14 +64,11 @@ pub record ByMark (g : Parts) (x : ShownAtom) (C : Name) (count : ℕ) (ctor : O
   pub out : new.out ≡ old.out
 
 -- The constructor by which an object of the atom's class is made from so many arguments: where there are some, or the
--- class has a constructor, that of the mark. Else, as where no mark of a constructor is next, whichever constructor
--- without parameters some class of the name has.
+-- class has a constructor, that of the mark. Else none is of the class, and it is whichever constructor without parameters
+-- some class of the name has.
 pub data MadeWith (g : Parts) (x : ShownAtom) (C : Name) (count : ℕ) (ctor : Option ℕ) (old new : Walk) : Type 0 where
   by : (count ≡ 0 → Constructs g x C) → ByMark g x C count ctor old new → MadeWith g x C count ctor old new
   without : count ≡ 0 → ConstructsNot g x C → new ≡ old
-      → ((n : Naming) → n.methods ≡ g.names.now.methods → IsCtorOf n (atom_of x) [] ctor)
-      → MadeWith g x C count ctor old new
-  unmarked : count ≡ 0 → Unmarked g C old.marks → new ≡ old
       → ((n : Naming) → n.methods ≡ g.names.now.methods → IsCtorOf n (atom_of x) [] ctor)
       → MadeWith g x C count ctor old new
 
@@ -135,8 +98,7 @@ pub record AboveFound (g : Parts) (f : Name) (count : ℕ) (x : Above) (old new 
   pub term : TermTaken atom old.marks mid
   pub member : MemberTaken path mid new.marks
   pub out : new.out ≡ old.out
-  pub class : (n : Naming) → AreClassesOf g.t.now n → (s : Scope) → Scoped g.class.now g.bounds.now s
-      → slice_get n.classes x.class ≡ Some (bound s (atom_of atom))
+  pub class : (n : Naming) → AreClassesOf g.t.now n → slice_get n.classes x.class ≡ Some (bound_in g atom)
   pub is : (m : Method) → MethodAt g.p.now (reverse path.names) f m → IsCallee g.names.now.methods f m callee
   pub many : length callee.params.items ≡ count
   pub selector : x.selector ≡ callee.selector

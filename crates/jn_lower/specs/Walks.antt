@@ -1,6 +1,7 @@
 -- What a walk over a body does: it takes the marks that the rules note of each form, in their order, and what it emits
 -- stands at the form's place.
 use Rattle.std.specs.Prelude.{◌≡◌, ◌<◌, ◌≤◌, ℕ, zero, suc, List, [], ◌∷◌, ◌++◌, length, map, reverse, take, Bool, true, false, Option, Some, slice_get}
+use Rattle.jn_base.specs.declared.tree.Program.{Program}
 use Rattle.jn_base.specs.declared.tree.Place.{Place}
 use Rattle.jn_base.specs.declared.tree.Op.{Op}
 use Rattle.jn_base.specs.declared.tree.Node.{Node}
@@ -29,7 +30,7 @@ use Rattle.jn_base.specs.declared.types.ValKind.TheVariants as kind
 use Rattle.jn_base.specs.declared.names.Var.{Var}
 use Rattle.jn_base.specs.Parts.{expr}
 use Rattle.jn_base.specs.Atoms.{Among, atom_of}
-use Rattle.jn_base.specs.Paths.{Path, shown}
+use Rattle.jn_base.specs.Paths.{shown}
 use Rattle.jn_base.specs.Scopes.{Scope, bound_of}
 use Rattle.jn_code.specs.declared.instr.Instr.{Instr}
 use Rattle.jn_code.specs.declared.instr.Instr.TheVariants as ins
@@ -59,6 +60,7 @@ use Rattle.jn_lower.specs.Formed.{Formed}
 use Rattle.jn_lower.specs.Written.{is_reference, written_kind, written_result, param_kind}
 use Rattle.jn_lower.specs.Cursors.{Ahead, KindTaken}
 use Rattle.jn_lower.specs.Lowering.{PartsAre}
+use Rattle.jn_lower.specs.Known.{bare}
 
 -- ---- small steps
 
@@ -158,18 +160,12 @@ pub record BindsWritten (fixed : Bool) (tt : TypeTerm) (q : ℕ) (old new : Walk
 abbrev pub Low : Scope → Scope → Type 0
 Low s t = (q : ℕ) → q < 256 → bound_of t q ≡ bound_of s q
 
--- the path has the bound there, and is that of a local
-pub record KnownAt (s : Scope) (kinds : List ℕ) (q : ℕ) (B : Path) : Type 0 where
-  pub bound : bound_of s q ≡ B
-  pub few : q < 256
-  pub kind : ℕ
-  pub at : slice_get kinds q ≡ Some kind
-
--- The body stands in the class that is told. Local 0 is a reference; the local of each variable in scope has the kind
--- of its type, none is `void`, and none has the number of `this`, or of a fresh path. Paths have the bounds that they
--- have where terms are resolved, and the known ones are those that are told.
-pub record Ready (g : Parts) (scratch : ℕ) (h : Here) (sc : Scope) (w : Walk) : Type 0 where
-  pub class : g.class.now ≡ shown h.class
+-- The body stands in the class that is told, and the variables that are told are those in scope, but for masks. Local 0 is
+-- a reference; the local of each variable in scope has the kind of its type, none is `void`, and none has the number of
+-- `this`, or of a fresh path. Paths have the bounds that they have where terms are resolved.
+pub record Ready (at : ShownPath) (vs : List Var) (scratch : ℕ) (h : Here) (sc : Scope) (w : Walk) : Type 0 where
+  pub class : at ≡ shown h.class
+  pub vars : vs ≡ map bare h.vars
   pub above : w.out.locals.scratch ≡ scratch
   pub first : slice_get w.out.locals.kinds 0 ≡ Some 3
   pub kinds : (v : Var) → Among h.vars v → slice_get w.out.locals.kinds v.path ≡ Some (kind_of_type v.ty)
@@ -178,8 +174,10 @@ pub record Ready (g : Parts) (scratch : ℕ) (h : Here) (sc : Scope) (w : Walk) 
   pub few : (v : Var) → Among h.vars v → v.path < 256
   pub paths : (v : Var) → Among h.vars v → HeaderPaths h.vars v.ty
   pub low : Low (scope_of (site_here h)) sc
-  pub known : (q : ℕ) (B : Path) → slice_get g.bounds.now q ≡ Some (Some B)
-      → KnownAt (scope_of (site_here h)) w.out.locals.kinds q B
+
+-- where the variables are those of the parts
+abbrev pub ReadyIn : Parts → ℕ → Here → Scope → Walk → Type 0
+ReadyIn g scratch h sc w = Ready g.class.now g.vars.now scratch h sc w
 
 -- These marks are left, the form stands where it was emitted, and the value that was had last has the type's kind.
 pub record Done (There : Code → ℕ → ℕ → Type 0) (rest : List Mark) (t : Ty) (old new : Walk) : Type 0 where
@@ -192,7 +190,7 @@ pub record Done (There : Code → ℕ → ℕ → Type 0) (rest : List Mark) (t 
 -- an expression whose value is kept, or not
 pub record Lowers (g : Parts) (n : Naming) (scratch : ℕ) (h : Here) (sc : Scope) (keeps : Bool) (e : Expr)
     (old new : Walk) : Type 0 where
-  pub done : (ms rest : List Mark) (x : Typed) → Ready g scratch h sc old → Notes g.p.now (expr_types h e sc) ms x
+  pub done : (ms rest : List Mark) (x : Typed) → ReadyIn g scratch h sc old → Notes g.p.now (expr_types h e sc) ms x
       → Ahead (ms ++ rest) old.marks → Done (Value g.p.now n scratch h sc keeps e) rest x.ty old new
 
 -- wherever it stands
@@ -223,7 +221,7 @@ LowersNode g x old new = LowersNodeAs g true x old new
 -- the operators of a chain, behind a left operand that was had
 pub record LowersThem (g : Parts) (n : Naming) (scratch : ℕ) (h : Here) (ls : List Link) (old new : Walk)
     : Type 0 where
-  pub done : (at : Place) (x z : Typed) (ms rest : List Mark) → Ready g scratch h x.scope old
+  pub done : (at : Place) (x z : Typed) (ms rest : List Mark) → ReadyIn g scratch h x.scope old
       → old.last ≡ kind_of_type x.ty → Notes g.p.now (links_typed h at x (typed_links h ls)) ms z
       → Ahead (ms ++ rest) old.marks → Done (Links g.p.now n scratch h x ls) rest z.ty old new
 
@@ -242,7 +240,7 @@ LowersLink g l old mid =
 -- a field or a call behind a receiver, whose value is kept or not
 pub record LowersBehind (g : Parts) (n : Naming) (scratch : ℕ) (h : Here) (keeps : Bool) (f : Named)
     (args : Option (List Expr)) (old new : Walk) : Type 0 where
-  pub done : (at : Place) (x y : Typed) (ms rest : List Mark) → Ready g scratch h x.scope old
+  pub done : (at : Place) (x y : Typed) (ms rest : List Mark) → ReadyIn g scratch h x.scope old
       → Notes g.p.now (suffix_typed h f (given_args h args) at x) ms y → Ahead (ms ++ rest) old.marks
       → Done (called.Part g.p.now n scratch h x keeps f.name args) rest y.ty old new
 
@@ -257,7 +255,7 @@ LowersPart g keeps z old new = LowersMember g keeps (out-Suffix z).name (out-Suf
 -- all of them, of which only the last value is kept or not
 pub record LowersEach (g : Parts) (n : Naming) (scratch : ℕ) (h : Here) (keeps : Bool) (zs : List Suffix)
     (old new : Walk) : Type 0 where
-  pub done : (whole at : Place) (x y : Typed) (ms rest : List Mark) → Ready g scratch h x.scope old
+  pub done : (whole at : Place) (x y : Typed) (ms rest : List Mark) → ReadyIn g scratch h x.scope old
       → Notes g.p.now (suffixes_typed whole at (typed_parts h zs) x) ms y → Ahead (ms ++ rest) old.marks
       → Done (called.Parts g.p.now n scratch h x keeps zs) rest y.ty old new
 
@@ -275,7 +273,7 @@ pub record ArgsDone (There : Code → ℕ → ℕ → Type 0) (rest : List Mark)
 pub record LowersGiven (g : Parts) (n : Naming) (scratch : ℕ) (h : Here) (es : List Expr) (old new : Walk)
     : Type 0 where
   pub done : (from : List ℕ) (xs : List Var) (to : List ℕ) (sc : Scope) (y : Passed) (ms rest : List Mark)
-      → length xs ≡ length es → Ready g scratch h sc old → Notes g.p.now (args_typed h from xs (typed_args h es) to sc) ms y
+      → length xs ≡ length es → ReadyIn g scratch h sc old → Notes g.p.now (args_typed h from xs (typed_args h es) to sc) ms y
       → Ahead (ms ++ rest) old.marks → ArgsDone (called.Args g.p.now n scratch h from xs es to sc) rest old new
 
 abbrev pub LowersArgs : Parts → List Expr → Walk → Walk → Type 0
@@ -332,38 +330,65 @@ pub record IsKept (keeps : Bool) (left : ℕ) (kept : Bool) : Type 0 where
 
 -- ---- statements
 
-pub record StmtsDone (There : Code → ℕ → ℕ → Type 0) (g : Parts) (scratch : ℕ) (b : In) (rest : List Mark)
-    (y : Before) (old new : Walk) : Type 0 where
+-- the same parts where these variables are in scope
+pub record Sees (g : Parts) (vs : List Var) (at : Parts) : Type 0 where
+  pub is : at ≡ record g { vars = at.vars }
+  pub vars : at.vars.now ≡ vs
+
+-- an expression, where these variables are in scope
+abbrev pub LowersSeen : Parts → List Var → Expr → Walk → Walk → Type 0
+LowersSeen g vs e old new =
+    (n : Naming) (scratch : ℕ) (h : Here) (sc : Scope) (ms rest : List Mark) (x : Typed)
+    → PartsAre g.p.now g.t.now g.slots.now g.names.now n → Ready g.class.now vs scratch h sc old
+    → Notes g.p.now (expr_types h e sc) ms x → Ahead (ms ++ rest) old.marks
+    → Done (Value g.p.now n scratch h sc true e) rest x.ty old new
+
+pub record StmtsDone (There : Code → ℕ → ℕ → Type 0) (class : ShownPath) (vs : List Var) (scratch : ℕ) (b : In)
+    (rest : List Mark) (y : Before) (old new : Walk) : Type 0 where
   pub left : Ahead rest new.marks
   pub emitted : Emitted There old.out new.out
-  pub ready : Ready g scratch (here b y) y.scope new
+  pub ready : Ready class vs scratch (here b y) y.scope new
 
-pub record LowersAll (g : Parts) (n : Naming) (scratch : ℕ) (b : In) (ss : List Stmt) (old new : Walk)
-    : Type 0 where
-  pub done : (x y : Before) (ms rest : List Mark) → Ready g scratch (here b x) x.scope old
-      → Notes g.p.now (stmts_type b ss x) ms y → Ahead (ms ++ rest) old.marks
-      → StmtsDone (Stmts g.p.now n scratch b x ss) g scratch b rest y old new
+-- the variables before and behind the statements are us and vs
+pub record LowersAll (p : Program) (class : ShownPath) (n : Naming) (scratch : ℕ) (b : In) (ss : List Stmt)
+    (us vs : List Var) (old new : Walk) : Type 0 where
+  pub done : (x y : Before) (ms rest : List Mark) → Ready class us scratch (here b x) x.scope old
+      → Notes p (stmts_type b ss x) ms y → Ahead (ms ++ rest) old.marks
+      → StmtsDone (Stmts p n scratch b x ss) class vs scratch b rest y old new
 
-abbrev pub LowersStmts : Parts → List Stmt → Walk → Walk → Type 0
-LowersStmts g ss old new =
-    (n : Naming) (scratch : ℕ) (b : In) → PartsAre g.p.now g.t.now g.slots.now g.names.now n → LowersAll g n scratch b ss old new
+abbrev pub LowersStmts : Parts → List Stmt → List Var → List Var → Walk → Walk → Type 0
+LowersStmts g ss us vs old new =
+    (n : Naming) (scratch : ℕ) (b : In) → PartsAre g.p.now g.t.now g.slots.now g.names.now n
+    → LowersAll g.p.now g.class.now n scratch b ss us vs old new
+
+-- those of a block, whose locals are known in it alone
+pub record LowersBlock (g : Parts) (ss : List Stmt) (vs : List Var) (old new : Walk) : Type 0 where
+  pub inner : List Var
+  pub lowers : LowersStmts g ss vs inner old new
 
 -- These marks are left, and where statements stand behind the statement, all of them stand.
-pub record StmtDone (g : Parts) (n : Naming) (scratch : ℕ) (b : In) (s : Stmt) (rest : List Mark) (x y : Before)
-    (old new : Walk) : Type 0 where
+pub record StmtDone (p : Program) (class : ShownPath) (vs : List Var) (n : Naming) (scratch : ℕ) (b : In) (s : Stmt)
+    (rest : List Mark) (x y : Before) (old new : Walk) : Type 0 where
   pub left : Ahead rest new.marks
-  pub ready : Ready g scratch (here b y) y.scope new
-  pub behind : (ss : List Stmt) (end : Emitter) → Emitted (Stmts g.p.now n scratch b y ss) new.out end
-      → Emitted (Stmts g.p.now n scratch b x (s ∷ ss)) old.out end
+  pub ready : Ready class vs scratch (here b y) y.scope new
+  pub behind : (ss : List Stmt) (end : Emitter) → Emitted (Stmts p n scratch b y ss) new.out end
+      → Emitted (Stmts p n scratch b x (s ∷ ss)) old.out end
 
-pub record LowersOne (g : Parts) (n : Naming) (scratch : ℕ) (b : In) (s : Stmt) (old new : Walk) : Type 0 where
-  pub done : (x y : Before) (ms rest : List Mark) → Ready g scratch (here b x) x.scope old
-      → Notes g.p.now (stmt_types b s x) ms y → Ahead (ms ++ rest) old.marks → StmtDone g n scratch b s rest x y old new
+pub record LowersOne (p : Program) (class : ShownPath) (n : Naming) (scratch : ℕ) (b : In) (s : Stmt) (us vs : List Var)
+    (old new : Walk) : Type 0 where
+  pub done : (x y : Before) (ms rest : List Mark) → Ready class us scratch (here b x) x.scope old
+      → Notes p (stmt_types b s x) ms y → Ahead (ms ++ rest) old.marks
+      → StmtDone p class vs n scratch b s rest x y old new
 
 -- one statement, wherever it stands
-abbrev pub LowersStmt : Parts → Stmt → Walk → Walk → Type 0
-LowersStmt g s old new =
-    (n : Naming) (scratch : ℕ) (b : In) → PartsAre g.p.now g.t.now g.slots.now g.names.now n → LowersOne g n scratch b s old new
+abbrev pub LowersStmt : Parts → Stmt → List Var → List Var → Walk → Walk → Type 0
+LowersStmt g s us vs old new =
+    (n : Naming) (scratch : ℕ) (b : In) → PartsAre g.p.now g.t.now g.slots.now g.names.now n
+    → LowersOne g.p.now g.class.now n scratch b s us vs old new
+
+-- one that changes no variable of the parts
+abbrev pub LowersPlain : Parts → Stmt → Walk → Walk → Type 0
+LowersPlain g s old new = LowersStmt g s g.vars.now g.vars.now old new
 
 -- ---- bodies
 

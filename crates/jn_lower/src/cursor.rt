@@ -1,4 +1,4 @@
-ghost use Rattle.std.specs.Prelude.{List, IfSome, OnOk};
+ghost use Rattle.std.specs.Prelude.{List, IfSome, IfOk};
 ghost use Rattle.jn_rules.specs.Plans.{Mark};
 ghost use Rattle.jn_rules.specs.Resolved.{AreSorted};
 ghost use Rattle.jn_lower.specs.Cursors.{Ahead, TermTaken, TermsTaken, VarTaken, MemberTaken, KindTaken};
@@ -43,15 +43,16 @@ impl<'a> Marks<'a> {
         }
     }
 
-    /// Passes over that many terms. Where there are fewer, which never is, it is refused for want of memory.
-    pub fn pass_terms(&mut self, k: usize) -> Result<(), AllocError>
-        ensures { OnOk result (TermsTaken k self.old self.new) }
+    /// The atoms of the next terms, of so many. Where there are fewer, which never is, it is refused for want of memory.
+    pub fn next_terms(&mut self, k: usize) -> Result<&'a [Atom], AllocError>
+        ensures { IfOk result (λ xs. TermsTaken k xs.now self.old self.new) }
     {
         if k > self.terms.len() {
             return Err(AllocError);
         }
+        let front = &self.terms[..k];
         self.terms = &self.terms[k..];
-        Ok(())
+        Ok(front)
     }
 
     /// The number of the next variable.

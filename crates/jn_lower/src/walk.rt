@@ -1,22 +1,22 @@
 ghost use Rattle.std.specs.Prelude.{◌≡◌, ◌∷◌, [], OnOk};
 ghost use Rattle.jn_lower.specs.Emitted.{Patched};
-ghost use Rattle.jn_lower.specs.Walks.{kind_number, Had, Pushed};
+ghost use Rattle.jn_lower.specs.Walks.{kind_number, Had, Pushed, Sees};
 
 use crate::cursor::Marks;
 use crate::emitter::Emitter;
 use jn_agree::selectors::Selectors;
+use jn_base::names::{Var, Vars};
 use jn_base::path::Path;
 use jn_base::tree::Program;
 use jn_base::types::ValKind;
 use jn_code::Instr;
-use jn_names::Bound;
 use jn_share::Slots;
 use jn_table::Table;
 use std::alloc::{AllocError, Global};
 
 /// What the bodies of a program are lowered by.
 #[derive(Clone, Copy)]
-pub struct Parts<'a> {
+pub struct Parts<'a, 'v> {
     pub alloc: Global,
     pub p: &'a Program,
     pub t: &'a Table,
@@ -24,8 +24,8 @@ pub struct Parts<'a> {
     pub names: &'a Selectors,
     /// The class that declares the body.
     pub class: &'a Path,
-    /// The bounds of its parameters by their numbers, where they are known.
-    pub bounds: &'a [Option<Bound>],
+    /// The variables in scope, with their types in normal form, but for masks.
+    pub vars: &'v [Var],
 }
 
 /// A walk over a body: what was emitted so far, the marks that are left, and the kind of the value that was had last.
@@ -34,6 +34,21 @@ pub struct Walk<'a> {
     pub out: Emitter,
     pub marks: Marks<'a>,
     pub last: u8,
+}
+
+/// The same parts where these variables are in scope.
+pub fn seeing<'a, 'v>(g: &Parts<'a, '_>, known: &'v Vars) -> Parts<'a, 'v>
+    ensures { Sees g.now known.now.list result }
+{
+    Parts {
+        alloc: g.alloc,
+        p: g.p,
+        t: g.t,
+        slots: g.slots,
+        names: g.names,
+        class: g.class,
+        vars: known.list.as_slice(),
+    }
 }
 
 /// The number of a kind.

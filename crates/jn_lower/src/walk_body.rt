@@ -17,7 +17,7 @@ use crate::emitter::Emitter;
 use crate::ending::code_of;
 use crate::formed::is_formed;
 use crate::kinds::{is_reference, written_kind};
-use crate::param_bounds::param_bounds;
+use crate::param_vars::params_of;
 use crate::params::testing;
 use crate::path_behind::{next_number, path_behind};
 use crate::straight::last_return;
@@ -164,7 +164,7 @@ pub fn lower(
     let mut out = begin(alloc, m)?;
     test_params(&mut out, m.params.as_slice())?;
     let class = declaring(r);
-    let known = param_bounds(alloc, t, class, m)?;
+    let mut known = params_of(alloc, t, class, m)?;
     let g = Parts {
         alloc,
         p,
@@ -172,7 +172,7 @@ pub fn lower(
         slots,
         names: s,
         class,
-        bounds: known.as_slice(),
+        vars: &[],
     };
     let marks = Marks::of(r);
     let mut w = Walk {
@@ -180,7 +180,7 @@ pub fn lower(
         marks,
         last: 0,
     };
-    stmts(&g, &mut w, m.body.as_slice())?;
+    stmts(&g, &mut known, &mut w, m.body.as_slice())?;
     last_return(&mut w.out, written_result(&m.result))?;
     finish(alloc, w.out, m)
 }

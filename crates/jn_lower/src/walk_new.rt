@@ -1,73 +1,27 @@
-ghost use Rattle.std.specs.Prelude.{◌≡◌, false, IfOk, OnOk};
+ghost use Rattle.std.specs.Prelude.{IfOk, OnOk};
 ghost use Rattle.jn_base.specs.declared.tree.Name.{Name as AName};
-ghost use Rattle.jn_lower.specs.Making.{IsAtomBound, SaysConstructs, SaysOf, Unmarked, ByMark, MadeWith, MadeBy, MadeOf, IsLast};
+ghost use Rattle.jn_lower.specs.Making.{SaysConstructs, ByMark, MadeWith, MadeBy, MadeOf, IsLast};
 ghost use Rattle.jn_lower.specs.Walks.{NoneTwice};
 
 use crate::bounds::class_bound;
 use crate::calls::make;
 use crate::classes::class_of;
-use crate::cursor::Marks;
-use crate::members::{constructor_at, has_method, method_at};
-use crate::named_classes::named_construct;
+use crate::members::{constructor_at, has_method};
 use crate::selecting::{constructor_number, name_of};
 use crate::walk::{Parts, Walk, had};
 use jn_base::tree::Name;
 use jn_base::types::Atom;
-use jn_names::Bound;
 use std::alloc::AllocError;
 
-/// Whether the class of the atom, of which that is the bound, has a method of that name. One that isn't in the table,
-/// which no checked body makes, is refused for want of memory.
-fn bound_constructs(g: &Parts, x: &Atom, b: Bound, name: Name) -> Result<bool, AllocError>
-    requires { IsAtomBound g.now.class.now g.now.bounds.now x.now b }
+/// Whether the class of the atom has a method of that name, as its last one is that of its constructor. One that isn't in
+/// the table, which no checked body makes, is refused for want of memory.
+fn constructs(g: &Parts, x: &Atom, name: Name) -> Result<bool, AllocError>
     ensures { IfOk result (SaysConstructs g.now x.now name) }
 {
+    let b = class_bound(g, x)?;
     match b.number(g.t) {
         None => Err(AllocError),
         Some(id) => Ok(has_method(g.t, id, name)),
-    }
-}
-
-/// The same as an answer that may be none.
-fn own_constructs(g: &Parts, x: &Atom, b: Bound, name: Name) -> Result<Option<bool>, AllocError>
-    requires { IsAtomBound g.now.class.now g.now.bounds.now x.now b }
-    ensures { IfOk result (SaysOf g.now x.now name) }
-{
-    let told = bound_constructs(g, x, b, name)?;
-    Ok(Some(told))
-}
-
-/// The same by its last name, which the atom has.
-fn name_constructs(g: &Parts, x: &Atom, name: Name) -> Result<Option<bool>, AllocError>
-    requires { IsLast x.now name }
-    ensures { IfOk result (SaysOf g.now x.now name) }
-{
-    named_construct(g.alloc, g.t, name)
-}
-
-/// Whether the class of the atom, whose last name that is, has a constructor. Where its bound isn't known, and some
-/// classes of the name have one and others none, nothing is told.
-fn constructs(g: &Parts, x: &Atom, name: Name) -> Result<Option<bool>, AllocError>
-    requires { IsLast x.now name }
-    ensures { IfOk result (SaysOf g.now x.now name) }
-{
-    match class_bound(g.alloc, g.class, g.bounds, x)? {
-        Some(b) => own_constructs(g, x, b, name),
-        None => name_constructs(g, x, name),
-    }
-}
-
-/// Whether a class that declares a method of that name is marked next.
-fn is_marked(g: &Parts, marks: &Marks, name: Name) -> bool
-    requires { NoneTwice g.now }
-    ensures { result ≡ false → Unmarked g.now name marks.now }
-{
-    match marks.members {
-        [] => false,
-        [first, ..] => match method_at(g.p, first, name) {
-            None => false,
-            Some(_) => true,
-        },
     }
 }
 
@@ -89,29 +43,18 @@ fn by_mark(g: &Parts, w: &mut Walk, x: &Atom, count: usize) -> Result<Option<u32
     }
 }
 
-/// The number of the constructor for no argument, where the class of the atom may have one or none: that of the name.
-/// Where a class that declares one is marked next, it is refused for want of memory.
-fn made_unmarked(g: &Parts, w: &mut Walk, x: &Atom, name: Name) -> Result<Option<u32>, AllocError>
-    requires { NoneTwice g.now }
-    ensures { IfOk result (λ ctor. MadeWith g.now x.now name 0 ctor w.old w.new) }
-{
-    let marked = is_marked(g, &w.marks, name);
-    if marked {
-        return Err(AllocError);
-    }
-    constructor_number(g.names.methods.as_slice(), x, &[])
-}
-
-/// The number of the constructor of the atom's class, whose last name that is, for no argument.
+/// The number of the constructor of the atom's class, whose last name that is, for no argument. Where the class has none,
+/// that is the one of the name.
 fn made_alone(g: &Parts, w: &mut Walk, x: &Atom, name: Name) -> Result<Option<u32>, AllocError>
     requires twice { NoneTwice g.now }
     requires last { IsLast x.now name }
     ensures { IfOk result (λ ctor. MadeWith g.now x.now name 0 ctor w.old w.new) }
 {
-    match constructs(g, x, name)? {
-        Some(true) => by_mark(g, w, x, 0),
-        Some(false) => constructor_number(g.names.methods.as_slice(), x, &[]),
-        None => made_unmarked(g, w, x, name),
+    let has = constructs(g, x, name)?;
+    if has {
+        by_mark(g, w, x, 0)
+    } else {
+        constructor_number(g.names.methods.as_slice(), x, &[])
     }
 }
 

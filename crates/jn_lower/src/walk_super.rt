@@ -1,10 +1,8 @@
 ghost use Rattle.std.specs.Prelude.{◌≡◌, List, ◌∷◌, ℕ, length, IfOk, OnOk};
 ghost use Rattle.jn_agree.specs.Naming.{Naming};
-ghost use Rattle.jn_base.specs.Atoms.{atom_of};
-ghost use Rattle.jn_base.specs.Scopes.{Scope, bound};
 ghost use Rattle.std.specs.Prelude.{slice_get, Some};
 ghost use Rattle.jn_lower.specs.Classes.{AreClassesOf};
-ghost use Rattle.jn_lower.specs.Making.{Scoped, AboveFound, TuckedFor, AboveCalled, BareCalled};
+ghost use Rattle.jn_lower.specs.Making.{bound_in, AboveFound, TuckedFor, AboveCalled, BareCalled};
 ghost use Rattle.jn_lower.specs.Walks.{NoneTwice};
 
 use crate::bounds::class_bound;
@@ -38,15 +36,13 @@ fn number_of(t: &Table, b: &Bound) -> Result<u16, AllocError>
     }
 }
 
-/// The number of the atom's class. One whose bound isn't known is refused for want of memory.
+/// The number of the atom's class.
 fn class_number(g: &Parts, x: &Atom) -> Result<u16, AllocError>
-    ensures { IfOk result (λ k. (n : Naming) → AreClassesOf g.now.t.now n → (s : Scope)
-        → Scoped g.now.class.now g.now.bounds.now s → slice_get n.classes k ≡ Some (bound s (atom_of x.now))) }
+    ensures { IfOk result (λ k. (n : Naming) → AreClassesOf g.now.t.now n
+        → slice_get n.classes k ≡ Some (bound_in g.now x.now)) }
 {
-    match class_bound(g.alloc, g.class, g.bounds, x)? {
-        None => Err(AllocError),
-        Some(bound) => number_of(g.t, &bound),
-    }
+    let b = class_bound(g, x)?;
+    number_of(g.t, &b)
 }
 
 /// The kind of the first parameter, 0 where there is none.

@@ -1,5 +1,4 @@
 use Rattle.std.proofs.Common.{rules, IsTrue}
-use Rattle.jn_code.specs.declared.instr.Instr.TheVariants as ins
 use Rattle.jn_code.specs.Form.{InstrInForm}
 use Rattle.jn_lower.proofs.Forming.{each_on, each_over}
 use Rattle.jn_lower.proofs.formed.are_in_form.Goals as goal

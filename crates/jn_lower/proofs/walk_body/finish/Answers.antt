@@ -1,4 +1,4 @@
-use Rattle.std.proofs.Common.{ℕ, suc, ◌≤◌, sym, ap, ◌∙◌, subst}
+use Rattle.std.proofs.Common.{ℕ, suc, ◌≤◌, ap, ◌∙◌, subst}
 use Rattle.std.specs.Prelude.{take}
 use Rattle.jn_lower.proofs.NextLocals.{if_ok}
 use Rattle.jn_lower.proofs.Forming.{code_formed}

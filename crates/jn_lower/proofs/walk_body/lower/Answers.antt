@@ -1,4 +1,4 @@
-use Rattle.std.proofs.Common.{List, ℕ, refl, sym, subst}
+use Rattle.std.proofs.Common.{List, ℕ, [], refl, subst}
 use Rattle.jn_base.specs.declared.tree.Param.{Param}
 use Rattle.jn_base.specs.declared.tree.Stmt.{Stmt}
 use Rattle.jn_agree.specs.Places.{last_return}
@@ -9,20 +9,19 @@ use Rattle.jn_lower.specs.Written.{param_tests}
 use Rattle.jn_lower.specs.Walks.{LowersStmts}
 use Rattle.jn_lower.proofs.NextLocals.{if_ok}
 use Rattle.jn_lower.proofs.Bodies.{body_stands}
-use Rattle.jn_lower.specs.Params.{AreParamBounds}
 use Rattle.jn_lower.proofs.walk_body.lower.Goals as goal
 
 pub returns-clause-at : goal.returns-clause-at
 returns-clause-at c =
-    let g : Parts = record { alloc = c.args.alloc; p = c.args.p; t = c.args.t; slots = c.args.slots; names = c.args.s; class = c.declaring-class.result; bounds = c.as_slice-2.result } in
+    let g : Parts = record { alloc = c.args.alloc; p = c.args.p; t = c.args.t; slots = c.args.slots; names = c.args.s; class = c.declaring-class.result; vars = record { ref_ptr = (0, 0); now = [] } } in
     let w1 : Walk = record { out = c.test_params.new.out; marks = c.of-marks.result; last = 0 } in
-    let known : AreParamBounds c.args.t.now g.class.now c.args.m.now.name.name c.args.m.now.params g.bounds.now =
-    subst (AreParamBounds c.args.t.now g.class.now c.args.m.now.name.name c.args.m.now.params) (sym c.as_slice-2.ensures.value) c.in_ok-known.ensures in
     if_ok c.finish.result (λ code end n b k parts is. body_stands g n c.args.m.now c.args.r.now b k c.in_ok-out.out
-    c.test_params.new.out c.last_return.new.out w1 c.stmts.new.w code parts c.declaring-class.ensures known is c.in_ok-out.ensures
+    c.test_params.new.out c.last_return.new.out c.in_ok-known.known.list c.stmts.new.known.list w1 c.stmts.new.w code parts
+    c.declaring-class.ensures c.in_ok-known.ensures is c.in_ok-out.ensures
     (subst (λ (xs : List Param). Adds (param_tests 1 xs) c.in_ok-out.out c.test_params.new.out) c.as_slice.ensures c.in_ok-test_params.ensures)
     refl c.of-marks.ensures
-    (subst (λ (ss : List Stmt). LowersStmts g ss w1 c.stmts.new.w) c.as_slice-3.ensures c.in_ok-stmts.ensures)
+    (subst (λ (ss : List Stmt). LowersStmts g ss c.in_ok-known.known.list c.stmts.new.known.list w1 c.stmts.new.w)
+    c.as_slice-2.ensures c.in_ok-stmts.ensures.lowers)
     (subst (λ (i : ℕ). Adds (last_return i) c.stmts.new.w.out c.last_return.new.out) c.written_result.ensures c.in_ok-last_return.ensures)
     end) c.finish.ensures.finished
 

@@ -2,7 +2,7 @@ use Rattle.std.proofs.Common.{refl, ◌++◌, [], ◌∷◌, List, Bool, ℕ, ap
 use Rattle.jn_code.specs.declared.instr.Instr.{Instr}
 use Rattle.jn_lower.specs.declared.emitter.Locals.{Locals}
 use Rattle.jn_lower.specs.Stores.{stored}
-use Rattle.jn_lower.specs.Written.{is_reference, written_kind}
+use Rattle.jn_lower.specs.Written.{is_reference}
 use Rattle.jn_lower.proofs.Seams.{on_ok}
 use Rattle.jn_lower.proofs.walk_locals.bound.Goals as goal
 
