@@ -13,6 +13,7 @@ pub mod NameSets
 pub mod Keeping
 pub mod Descent
 pub mod MemberProof
+pub mod Exchanged
 pub mod MemberSays
 pub mod MemberRowProof
 pub mod FieldProof

@@ -78,12 +78,12 @@ same_or_other a b = by_number (cases_eq a.0 b.0) where
   by_number (inr n) = inr (λ e. n (ap (λ (c : ClassId). c.0) e))
 
 -- a number's first place
-record FirstPlace (xs : List ClassId) (a : ClassId) : Type 0 where
-  place : ℕ
-  at : slice_get xs place ≡ Some a
-  first : (k : ℕ) → k < place → slice_get xs k ≡ Some a → ⊥
+pub record FirstPlace (xs : List ClassId) (a : ClassId) : Type 0 where
+  pub place : ℕ
+  pub at : slice_get xs place ≡ Some a
+  pub first : (k : ℕ) → k < place → slice_get xs k ≡ Some a → ⊥
 
-first_place : (xs : List ClassId) (a : ClassId) → Contains xs a → FirstPlace xs a
+pub first_place : (xs : List ClassId) (a : ClassId) → Contains xs a → FirstPlace xs a
 first_place [] a c = absurd (omega (arith, c.1))
 first_place (x ∷ xs) a c = by_head (λ d. first_place xs a d) (same_or_other x a) where
   tail : (x ≡ a → ⊥) → (k : ℕ) → k < length (x ∷ xs) → get_or (x ∷ xs) k a ≡ a → Contains xs a

@@ -1,5 +1,5 @@
 -- What the rows of `Members` say of numbers. `ids` are the classes whose declarations have a method or a field, `sups` the
--- supers of a class.
+-- supers of a class; or the other way round, where those are fewer.
 use Rattle.std.specs.Prelude.{◌≡◌, ◌<◌, ◌⊎◌, ℕ, List, Contains, slice_get, length, Option, Some, None}
 use Rattle.jn_table.specs.declared.class.ClassId.{ClassId}
 use Rattle.jn_names.specs.declared.member_row.MemberRow.{MemberRow}

@@ -4,10 +4,11 @@ ghost use Rattle.jn_base.specs.TableRules.{IsCycle, NoneIs};
 ghost use Rattle.jn_table.specs.Tables.{IsFilled};
 ghost use Rattle.jn_table.specs.declared.class.ClassId.{ClassId as AClassId};
 ghost use Rattle.jn_names.specs.declared.members.Least.TheVariants as least;
+ghost use Rattle.jn_names.specs.Ascending.{Ascend};
 ghost use Rattle.jn_names.specs.Listed.{AreListed, method_keys, field_keys};
 ghost use Rattle.jn_names.specs.MemberRows.{SupAtRow, HasLowerRow, PassedRow, PassedTo, IsLowRow, FirstLowRow, FieldlessRow, FieldlessTo, IsFieldRow, FirstFieldRow, LeastRow, FieldRow, IsOneRow, AboveRow, AboveTo};
 
-use crate::ascending::is_class;
+use crate::ascending::{is_among, is_class};
 use crate::by_name::keep_at_each;
 use crate::member_row::{MemberRow, is_super};
 use crate::rows::row_of;
@@ -31,8 +32,8 @@ pub enum Least {
 
 /// Which declarations the methods and fields of each class have.
 ///
-/// The least one of a method is sought among the classes that declare it, and asked of each of these is whether it is a
-/// super; so a class costs what there is of its methods, and not of its supers.
+/// The least one of a method stands among the supers of the class and among the classes that declare it. The shorter of
+/// the two lists is walked, and each number of it is looked for in the other by halves.
 #[derive(Drop)]
 pub struct Members {
     rows: Vec<MemberRow>,
@@ -62,24 +63,26 @@ fn has_sup(rows: &[MemberRow], a: ClassId, b: ClassId) -> bool
 }
 
 /// Whether `t` is another one, is a super of the row's class, and stands below `s`.
-fn is_lower(rows: &[MemberRow], row: &MemberRow, s: ClassId, t: ClassId) -> bool
-    ensures { IsTrue result ↔ ((t ≡ s → ⊥) × Contains row.now.sups.items t × SupAtRow rows.now t s) }
+fn is_lower(rows: &[MemberRow], among: &[ClassId], s: ClassId, t: ClassId) -> bool
+    requires { Ascend among.now }
+    ensures { IsTrue result ↔ ((t ≡ s → ⊥) × Contains among.now t × SupAtRow rows.now t s) }
 {
     if is_class(t, s) {
         return false;
     }
-    if !is_super(row, t) {
+    if !is_among(among, t) {
         return false;
     }
     has_sup(rows, t, s)
 }
 
 /// Whether another of the numbers is a super and stands below `s`.
-fn has_lower(rows: &[MemberRow], row: &MemberRow, ids: &[ClassId], s: ClassId) -> bool
-    ensures { IsTrue result ↔ HasLowerRow rows.now ids.now row.now.sups.items s }
+fn has_lower(rows: &[MemberRow], among: &[ClassId], ids: &[ClassId], s: ClassId) -> bool
+    requires { Ascend among.now }
+    ensures { IsTrue result ↔ HasLowerRow rows.now ids.now among.now s }
 {
     for t in ids {
-        if is_lower(rows, row, s, *t) {
+        if is_lower(rows, among, s, *t) {
             return true;
         }
     }
@@ -89,35 +92,37 @@ fn has_lower(rows: &[MemberRow], row: &MemberRow, ids: &[ClassId], s: ClassId) -
 /// Whether the number is no super, is the one that is left out, or has another below.
 fn is_passed(
     rows: &[MemberRow],
-    row: &MemberRow,
+    among: &[ClassId],
     ids: &[ClassId],
     but: Option<ClassId>,
     s: ClassId,
 ) -> bool
-    ensures passed { IsTrue result → PassedRow rows.now ids.now row.now.sups.items but s }
-    ensures low { result ≡ false → IsLowRow rows.now ids.now row.now.sups.items but s }
+    requires { Ascend among.now }
+    ensures passed { IsTrue result → PassedRow rows.now ids.now among.now but s }
+    ensures low { result ≡ false → IsLowRow rows.now ids.now among.now but s }
 {
-    if !is_super(row, s) {
+    if !is_among(among, s) {
         return true;
     }
     if is_just(but, s) {
         return true;
     }
-    has_lower(rows, row, ids, s)
+    has_lower(rows, among, ids, s)
 }
 
 /// The first of the numbers, but for one, that is a super and has none below.
 fn first_low(
     rows: &[MemberRow],
-    row: &MemberRow,
+    among: &[ClassId],
     ids: &[ClassId],
     but: Option<ClassId>,
 ) -> Option<ClassId>
-    ensures { MatchOption result (PassedTo rows.now ids.now row.now.sups.items but (length ids.now))
-        (FirstLowRow rows.now ids.now row.now.sups.items but) }
+    requires { Ascend among.now }
+    ensures { MatchOption result (PassedTo rows.now ids.now among.now but (length ids.now))
+        (FirstLowRow rows.now ids.now among.now but) }
 {
     for s in ids {
-        if !is_passed(rows, row, ids, but, *s) {
+        if !is_passed(rows, among, ids, but, *s) {
             return Some(*s);
         }
     }
@@ -125,23 +130,25 @@ fn first_low(
 }
 
 /// Whether the number is no super, or is the one that is left out.
-fn is_fieldless(row: &MemberRow, but: Option<ClassId>, s: ClassId) -> bool
-    ensures passed { IsTrue result → FieldlessRow row.now.sups.items but s }
-    ensures other { result ≡ false → IsFieldRow row.now.sups.items but s }
+fn is_fieldless(among: &[ClassId], but: Option<ClassId>, s: ClassId) -> bool
+    requires { Ascend among.now }
+    ensures passed { IsTrue result → FieldlessRow among.now but s }
+    ensures other { result ≡ false → IsFieldRow among.now but s }
 {
-    if !is_super(row, s) {
+    if !is_among(among, s) {
         return true;
     }
     is_just(but, s)
 }
 
 /// The first of the numbers, but for one, that is a super.
-fn first_field(row: &MemberRow, ids: &[ClassId], but: Option<ClassId>) -> Option<ClassId>
-    ensures { MatchOption result (FieldlessTo ids.now row.now.sups.items but (length ids.now))
-        (FirstFieldRow ids.now row.now.sups.items but) }
+fn first_field(among: &[ClassId], ids: &[ClassId], but: Option<ClassId>) -> Option<ClassId>
+    requires { Ascend among.now }
+    ensures { MatchOption result (FieldlessTo ids.now among.now but (length ids.now))
+        (FirstFieldRow ids.now among.now but) }
 {
     for s in ids {
-        if !is_fieldless(row, but, *s) {
+        if !is_fieldless(among, but, *s) {
             return Some(*s);
         }
     }
@@ -159,19 +166,21 @@ fn is_lower_yet(rows: &[MemberRow], low: Option<ClassId>, s: ClassId) -> bool
 }
 
 /// Whether the number is a super and stands below the one before it, where there is one.
-fn goes_down(rows: &[MemberRow], row: &MemberRow, low: Option<ClassId>, s: ClassId) -> bool
-    ensures { IsTrue result → Contains row.now.sups.items s }
+fn goes_down(rows: &[MemberRow], among: &[ClassId], low: Option<ClassId>, s: ClassId) -> bool
+    requires { Ascend among.now }
+    ensures { IsTrue result → Contains among.now s }
 {
-    is_super(row, s) && is_lower_yet(rows, low, s)
+    is_among(among, s) && is_lower_yet(rows, low, s)
 }
 
 /// One of the numbers that are supers: where one stands below all others, that one.
-fn lowest(rows: &[MemberRow], row: &MemberRow, ids: &[ClassId]) -> Option<ClassId>
-    ensures { IfSome result (IsOneRow ids.now row.now.sups.items) }
+fn lowest(rows: &[MemberRow], among: &[ClassId], ids: &[ClassId]) -> Option<ClassId>
+    requires { Ascend among.now }
+    ensures { IfSome result (IsOneRow ids.now among.now) }
 {
     let mut low = None;
     for s in ids {
-        if goes_down(rows, row, low, *s) {
+        if goes_down(rows, among, low, *s) {
             low = Some(*s);
         }
     }
@@ -179,21 +188,23 @@ fn lowest(rows: &[MemberRow], row: &MemberRow, ids: &[ClassId]) -> Option<ClassI
 }
 
 /// Whether the number is no super, or is `a`, or `a` stands below it.
-fn is_above(rows: &[MemberRow], row: &MemberRow, a: ClassId, s: ClassId) -> bool
-    ensures { IsTrue result → AboveRow rows.now row.now.sups.items a s }
+fn is_above(rows: &[MemberRow], among: &[ClassId], a: ClassId, s: ClassId) -> bool
+    requires { Ascend among.now }
+    ensures { IsTrue result → AboveRow rows.now among.now a s }
 {
-    if !is_super(row, s) {
+    if !is_among(among, s) {
         return true;
     }
     is_class(s, a) || has_sup(rows, a, s)
 }
 
 /// Whether `a` stands below all others of the numbers that are supers.
-fn are_above(rows: &[MemberRow], row: &MemberRow, ids: &[ClassId], a: ClassId) -> bool
-    ensures { IsTrue result → AboveTo rows.now ids.now row.now.sups.items a (length ids.now) }
+fn are_above(rows: &[MemberRow], among: &[ClassId], ids: &[ClassId], a: ClassId) -> bool
+    requires { Ascend among.now }
+    ensures { IsTrue result → AboveTo rows.now ids.now among.now a (length ids.now) }
 {
     for s in ids {
-        if !is_above(rows, row, a, *s) {
+        if !is_above(rows, among, a, *s) {
             return false;
         }
     }
@@ -201,36 +212,39 @@ fn are_above(rows: &[MemberRow], row: &MemberRow, ids: &[ClassId], a: ClassId) -
 }
 
 /// Whether `a` has none below, and stands below all others of the numbers that are supers.
-fn is_least(rows: &[MemberRow], row: &MemberRow, ids: &[ClassId], a: ClassId) -> bool
-    ensures { IsTrue result → IsOneRow ids.now row.now.sups.items a
-        → LeastRow rows.now ids.now row.now.sups.items (least.One a) }
+fn is_least(rows: &[MemberRow], among: &[ClassId], ids: &[ClassId], a: ClassId) -> bool
+    requires { Ascend among.now }
+    ensures { IsTrue result → IsOneRow ids.now among.now a
+        → LeastRow rows.now ids.now among.now (least.One a) }
 {
-    are_above(rows, row, ids, a) && !has_lower(rows, row, ids, a)
+    are_above(rows, among, ids, a) && !has_lower(rows, among, ids, a)
 }
 
 /// The least one of the numbers that are supers, or the first two that have none below. The least one is found by walks
 /// over the numbers; only where there is none, each is asked for another below.
-fn least_of(rows: &[MemberRow], row: &MemberRow, ids: &[ClassId]) -> Least
-    ensures { LeastRow rows.now ids.now row.now.sups.items result }
+fn least_among(rows: &[MemberRow], among: &[ClassId], ids: &[ClassId]) -> Least
+    requires { Ascend among.now }
+    ensures { LeastRow rows.now ids.now among.now result }
 {
-    match lowest(rows, row, ids) {
-        None => low_ones(rows, row, ids),
+    match lowest(rows, among, ids) {
+        None => low_ones(rows, among, ids),
         Some(a) => {
-            if is_least(rows, row, ids, a) {
+            if is_least(rows, among, ids, a) {
                 return Least::One(a);
             }
-            low_ones(rows, row, ids)
+            low_ones(rows, among, ids)
         }
     }
 }
 
 /// The same, of which each number that is a super is asked for another below.
-fn low_ones(rows: &[MemberRow], row: &MemberRow, ids: &[ClassId]) -> Least
-    ensures { LeastRow rows.now ids.now row.now.sups.items result }
+fn low_ones(rows: &[MemberRow], among: &[ClassId], ids: &[ClassId]) -> Least
+    requires { Ascend among.now }
+    ensures { LeastRow rows.now ids.now among.now result }
 {
-    match first_low(rows, row, ids, None) {
+    match first_low(rows, among, ids, None) {
         None => Least::None,
-        Some(a) => match first_low(rows, row, ids, Some(a)) {
+        Some(a) => match first_low(rows, among, ids, Some(a)) {
             None => Least::One(a),
             Some(b) => Least::Many(a, b),
         },
@@ -238,16 +252,39 @@ fn low_ones(rows: &[MemberRow], row: &MemberRow, ids: &[ClassId]) -> Least
 }
 
 /// The only one of the numbers that is a super, or the first two.
-fn field_of(row: &MemberRow, ids: &[ClassId]) -> Least
-    ensures { FieldRow ids.now row.now.sups.items result }
+fn field_among(among: &[ClassId], ids: &[ClassId]) -> Least
+    requires { Ascend among.now }
+    ensures { FieldRow ids.now among.now result }
 {
-    match first_field(row, ids, None) {
+    match first_field(among, ids, None) {
         None => Least::None,
-        Some(a) => match first_field(row, ids, Some(a)) {
+        Some(a) => match first_field(among, ids, Some(a)) {
             None => Least::One(a),
             Some(b) => Least::Many(a, b),
         },
     }
+}
+
+/// The least one of the numbers that are supers of the row's class, or the first two. The shorter list is walked.
+fn least_of(rows: &[MemberRow], row: &MemberRow, ids: &[ClassId]) -> Least
+    requires { Ascend ids.now }
+    ensures { LeastRow rows.now ids.now row.now.sups.items result }
+{
+    if ids.len() <= row.sups.len() {
+        return least_among(rows, &row.sups, ids);
+    }
+    least_among(rows, ids, &row.sups)
+}
+
+/// The only one of the numbers that is a super of the row's class, or the first two. The shorter list is walked.
+fn field_of(row: &MemberRow, ids: &[ClassId]) -> Least
+    requires { Ascend ids.now }
+    ensures { FieldRow ids.now row.now.sups.items result }
+{
+    if ids.len() <= row.sups.len() {
+        return field_among(&row.sups, ids);
+    }
+    field_among(ids, &row.sups)
 }
 
 impl Members {

@@ -3,4 +3,4 @@ use Rattle.jn_names.proofs.MemberRowProof.{StandsLower}
 use Rattle.jn_names.proofs.members.has_lower.Given as goal
 
 abbrev pub invariant-loop-t : goal.invariant-loop-t
-invariant-loop-t l = NoneBefore (StandsLower l.rows l.row.sups.items l.s) l.ids l.t-index
+invariant-loop-t l = NoneBefore (StandsLower l.rows l.among l.s) l.ids l.t-index

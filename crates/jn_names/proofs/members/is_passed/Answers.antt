@@ -3,7 +3,7 @@ use Rattle.jn_names.proofs.members.is_passed.Goals as goal
 
 pub returns-clause-low : goal.returns-clause-low
 returns-clause-low c = λ h. record {
-  super = c.is_super.ensures.0 c.if-not-is_super.false;
+  super = c.is_among.ensures.0 c.if-not-is_among.false;
   other = not_when c.if-is_just.false c.is_just.ensures;
   low = not_when h c.has_lower.ensures;
 }
