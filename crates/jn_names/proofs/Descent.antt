@@ -27,10 +27,12 @@ elsewhere z L v c n = by_place (in_cons z L v c) where
 abbrev UnderIn : Program → (Path → Type 0) → Path → Path → Type 0
 UnderIn p P z v = P v × Sup p v z × (v ≡ z → ⊥)
 
-under_covered : (p : Program) (L : List Path) (P : Path → Type 0) (z : Path) → ((w : Path) → P w → Contains (z ∷ L) w) → (v : Path) → UnderIn p P z v → Contains L v
+under_covered : (p : Program) (L : List Path) (P : Path → Type 0) (z : Path) → ((w : Path) → P w → Contains (z ∷ L) w)
+    → (v : Path) → UnderIn p P z v → Contains L v
 under_covered p L P z cover v u = elsewhere z L v (cover v u.0) (λ e. u.2 (sym e))
 
-under_lower : (p : Program) → NoneIs (IsCycle p) → (P : Path → Type 0) (z : Path) → ((w : Path) → P w → LowerIn p P w) → (v : Path) → UnderIn p P z v
+under_lower : (p : Program) → NoneIs (IsCycle p) → (P : Path → Type 0) (z : Path) → ((w : Path) → P w → LowerIn p P w)
+    → (v : Path) → UnderIn p P z v
     → LowerIn p (UnderIn p P z) v
 under_lower p n P z lower v u =
     let y = lower v u.0 in

@@ -1,20 +1,19 @@
 -- Two lists of numbers in ascending order: what is the least one, the only one or the first of those that are in both is
 -- so whichever list is walked.
-use Rattle.std.proofs.Common.{◌≡◌, ◌<◌, ◌≤◌, ℕ, List, length, slice_get, Some, None, Option, sym, ap, subst, ◌⊎◌, inl, inr, Contains, arith}
+use Rattle.std.proofs.Common.{◌≡◌, ◌<◌, ◌≤◌, ℕ, List, length, slice_get, Some, None, Option, subst, ◌⊎◌, inl}
+use Rattle.std.proofs.Common.{inr, Contains, arith}
 use Rattle.std.proofs.lemmas.Bool.{cases_lt}
-use Rattle.std.proofs.lemmas.Option.{slice_get_within, slice_get-get_or, get_or_from_slice_get}
+use Rattle.std.proofs.lemmas.Option.{slice_get_within, slice_get-get_or}
 use Rattle.jn_table.specs.declared.class.ClassId.{ClassId}
 use Rattle.jn_table.proofs.Shown.{same_id}
 use Rattle.jn_names.specs.declared.member_row.MemberRow.{MemberRow}
 use Rattle.jn_names.specs.declared.members.Least.{Least}
 use Rattle.jn_names.specs.declared.members.Least.TheVariants as least
 use Rattle.jn_names.specs.Ascending.{Ascend}
-use Rattle.jn_names.specs.MemberRows.{LowerRow, HasLowerRow, PassedRow, PassedTo, IsLowRow, FirstLowRow, FieldlessRow, FieldlessTo, IsFieldRow, FirstFieldRow, LeastRow, FieldRow}
-use Rattle.jn_names.proofs.Keeping.{ascend_at}
+use Rattle.jn_names.specs.MemberRows.{HasLowerRow, PassedTo, FirstLowRow}
+use Rattle.jn_names.specs.MemberRows.{FieldlessTo, FirstFieldRow, LeastRow, FieldRow}
+use Rattle.jn_names.proofs.Keeping.{stands, ascend_at}
 use Rattle.jn_names.proofs.MemberRowProof.{FirstPlace, first_place}
-
-stands : (ids : List ClassId) (k : ℕ) (x : ClassId) → slice_get ids k ≡ Some x → Contains ids x
-stands ids k x at = (k, slice_get_within ids k x at, get_or_from_slice_get ids k x x at)
 
 -- a number's place
 place_of : (ids : List ClassId) (x : ClassId) → Contains ids x → (k : ℕ) × (slice_get ids k ≡ Some x)
@@ -69,7 +68,9 @@ module _ (rows : List MemberRow) (ids sups : List ClassId) where
           place = p.place;
           at = p.at;
           is = record { super = stands sups f.place a f.at; other = f.is.other; low = λ w. f.is.low (lower_on a w) };
-          before = before_exchanged (Passes but) ids sups a up also p f.place f.at (λ k s l at c. passes but s (f.before k s l at c));
+          before =
+              before_exchanged (Passes but) ids sups a up also p f.place f.at
+              (λ k s l at c. passes but s (f.before k s l at c));
         }
 
     pub least_exchanged : (told : Least) → LeastRow rows sups ids told → LeastRow rows ids sups told

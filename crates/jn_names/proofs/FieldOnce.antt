@@ -18,13 +18,16 @@ use Rattle.jn_table.proofs.Shown.{path_number}
 use Rattle.jn_table.proofs.Sorted.{in_order}
 use Rattle.jn_names.specs.declared.fault.NameFault.{NameFault}
 use Rattle.jn_names.specs.declared.fault.NameFault.TheVariants.{Refused, Memory}
-use Rattle.jn_names.specs.FieldTypes.{AtField, AllFieldsGive, FieldsTold, declared_fields, spot_of, no_vars, FieldGives, before_fields, typed, FieldsGive, none, refused, first}
+use Rattle.jn_names.specs.FieldTypes.{AtField, AllFieldsGive, FieldsTold, declared_fields, spot_of, no_vars, FieldGives}
+use Rattle.jn_names.specs.FieldTypes.{before_fields, typed, FieldsGive, none, refused, first}
 
-module _ (p : Program) (known : List ShownPath) (one : (a b : ClassId) (P : Path) → IsNumber known a P → IsNumber known b P → a ≡ b) where
+module _ (p : Program) (known : List ShownPath)
+    (one : (a b : ClassId) (P : Path) → IsNumber known a P → IsNumber known b P → a ≡ b) where
   field_once : (x : AtField) (a b : Result Ty Refusal) → FieldGives p x a → FieldGives p x b → a ≡ b
   field_once x = type_once p (mask_names p) (spot_of x) no_vars x.field.ty
 
-  pub fields_once : (xs : List AtField) (a b : Result (List FieldTy) Refusal) → FieldsGive p known xs a → FieldsGive p known xs b → a ≡ b
+  pub fields_once : (xs : List AtField) (a b : Result (List FieldTy) Refusal) → FieldsGive p known xs a
+      → FieldsGive p known xs b → a ≡ b
   fields_once [] a b (none e) (none h) = e ∙ sym h
   fields_once (x ∷ xs) a b (refused r g e) (refused s h i) =
       let k : ◌≡◌ {A = Result Ty Refusal} (Err r) (Err s) = field_once x (Err r) (Err s) g h in
@@ -41,16 +44,19 @@ module _ (p : Program) (known : List ShownPath) (one : (a b : ClassId) (P : Path
       ∙ (ap (λ (z : ClassId). before_fields (typed z x ty') others) c ∙ (ap (before_fields (typed id' x ty')) o ∙ sym i)))
 
 -- where T holds of one answer at most, that one is told
-pub only_fields : (T : Result (List FieldTy) Refusal → Type 0) → ((a b : Result (List FieldTy) Refusal) → T a → T b → a ≡ b) → (res : Result FieldTypes NameFault)
+pub only_fields : (T : Result (List FieldTy) Refusal → Type 0)
+    → ((a b : Result (List FieldTy) Refusal) → T a → T b → a ≡ b) → (res : Result FieldTypes NameFault)
     → FieldsTold T res → (o : Result (List FieldTy) Refusal) → T o → FieldsTold (λ a. a ≡ o) res
 only_fields T once (Ok all) h o k = once (Ok all.list.items) o h k
 only_fields T once (Err (Refused r)) h o k = once (Err r) o h k
 only_fields T once (Err Memory) h o k = tt
 
-one_number : (p : Program) (t : Table) → IsFilled p t → (a b : ClassId) (P : Path) → IsNumber t.known.items a P → IsNumber t.known.items b P → a ≡ b
+one_number : (p : Program) (t : Table) → IsFilled p t → (a b : ClassId) (P : Path) → IsNumber t.known.items a P
+    → IsNumber t.known.items b P → a ≡ b
 one_number p t f a b P x y =
     let r = f.table.rows in
     path_number p r.paths t.known.items r.shown_are (in_order (class_cmp p) r.paths r.in_order) a b P x y
 
-pub all_once : (p : Program) (t : Table) → IsFilled p t → (a b : Result (List FieldTy) Refusal) → AllFieldsGive p t a → AllFieldsGive p t b → a ≡ b
+pub all_once : (p : Program) (t : Table) → IsFilled p t → (a b : Result (List FieldTy) Refusal) → AllFieldsGive p t a
+    → AllFieldsGive p t b → a ≡ b
 all_once p t f = fields_once p t.known.items (one_number p t f) (declared_fields p)

@@ -1,5 +1,7 @@
 -- The rows of members, number by number.
-use Rattle.std.proofs.Common.{◌≡◌, ◌<◌, ◌≤◌, ◌+◌, ℕ, zero, suc, List, [], ◌∷◌, length, get_or, slice_get, Some, None, Option, refl, sym, ap, subst, ◌⊎◌, inl, inr, Contains, ◌↔◌, IsTrue, Bool, true, false, not, arith}
+use Rattle.std.proofs.Common.{◌≡◌, ◌<◌, ◌≤◌, ◌+◌, ℕ, zero, suc, List, [], ◌∷◌, length, get_or, slice_get, Some, None}
+use Rattle.std.proofs.Common.{Option, refl, sym, ap, subst, ◌⊎◌, inl, inr, Contains, ◌↔◌, IsTrue, Bool, true, false}
+use Rattle.std.proofs.Common.{not, arith}
 use Rattle.std.proofs.lemmas.Bool.{cases_lt, cases_eq}
 use Rattle.std.proofs.lemmas.List.{get_or_default}
 use Rattle.std.proofs.lemmas.Option.{slice_get_read, slice_get_within}
@@ -8,10 +10,12 @@ use Rattle.jn_table.specs.declared.class.ClassId.{ClassId}
 use Rattle.jn_table.proofs.Shown.{same_id}
 use Rattle.jn_names.specs.declared.member_row.MemberRow.{MemberRow}
 use Rattle.jn_names.specs.declared.members.Least.TheVariants as least
-use Rattle.jn_names.specs.MemberRows.{SupAtRow, HasLowerRow, PassedRow, PassedTo, FieldlessRow, FieldlessTo, IsOneRow, AboveRow, AboveTo, LeastRow}
+use Rattle.jn_names.specs.MemberRows.{SupAtRow, HasLowerRow, PassedRow, PassedTo, FieldlessRow, FieldlessTo, IsOneRow}
+use Rattle.jn_names.specs.MemberRows.{AboveRow, AboveTo, LeastRow}
 
 -- a fact of the row at a place
-pub of_row : {B : Type 0} (rows : List MemberRow) (i : ℕ) (row : MemberRow) (has : MemberRow → List B) (x : B) (b : Bool) (xs : List B)
+pub of_row : {B : Type 0} (rows : List MemberRow) (i : ℕ) (row : MemberRow) (has : MemberRow → List B) (x : B)
+    (b : Bool) (xs : List B)
     → Some row ≡ slice_get rows i → xs ≡ has row → IsTrue b ↔ Contains xs x
     → IsTrue b ↔ ((w : MemberRow) × (slice_get rows i ≡ Some w) × Contains (has w) x)
 of_row {B} rows i row has x b xs at e h = (
@@ -24,14 +28,16 @@ read_at : {A : Type 0} (xs : List A) (i : ℕ) (d : A) → i < length xs → sli
 read_at xs i d l = slice_get_read xs (length xs) i (get_or xs i d) refl l (get_or_default xs i d (get_or xs i d) l)
 
 -- one more number
-one_more : {A : Type 0} (P : A → Type 0) (xs : List A) (i : ℕ) (d : A) → i < length xs → ((k : ℕ) (x : A) → k < i → slice_get xs k ≡ Some x → P x)
+one_more : {A : Type 0} (P : A → Type 0) (xs : List A) (i : ℕ) (d : A) → i < length xs
+    → ((k : ℕ) (x : A) → k < i → slice_get xs k ≡ Some x → P x)
     → P (get_or xs i d) → (k : ℕ) (x : A) → k < i + 1 → slice_get xs k ≡ Some x → P x
 one_more {A} P xs i d l h here k x m at = by_place (cases_lt k i) where
   by_place : (k < i) ⊎ (i ≤ k) → P x
   by_place (inl b) = h k x b at
   by_place (inr b) =
       let e : i ≡ k = omega arith in
-      subst P (same_some (slice_get xs k) (get_or xs i d) x (subst (λ (n : ℕ). slice_get xs n ≡ Some (get_or xs i d)) e (read_at xs i d l)) at) here
+      subst P (same_some (slice_get xs k) (get_or xs i d) x
+      (subst (λ (n : ℕ). slice_get xs n ≡ Some (get_or xs i d)) e (read_at xs i d l)) at) here
 
 pub passed_more : (rows : List MemberRow) (ids sups : List ClassId) (but : Option ClassId) (i : ℕ) (d : ClassId) → i < length ids
     → PassedTo rows ids sups but i → PassedRow rows ids sups but (get_or ids i d) → PassedTo rows ids sups but (i + 1)
@@ -45,7 +51,8 @@ abbrev pub StandsLower : List MemberRow → List ClassId → ClassId → ClassId
 StandsLower rows sups s t = (t ≡ s → ⊥) × Contains sups t × SupAtRow rows t s
 
 pub no_lower_more : (rows : List MemberRow) (ids sups : List ClassId) (s : ClassId) (i : ℕ) (d : ClassId) → i < length ids
-    → NoneBefore (StandsLower rows sups s) ids i → (StandsLower rows sups s (get_or ids i d) → ⊥) → NoneBefore (StandsLower rows sups s) ids (i + 1)
+    → NoneBefore (StandsLower rows sups s) ids i → (StandsLower rows sups s (get_or ids i d) → ⊥)
+    → NoneBefore (StandsLower rows sups s) ids (i + 1)
 no_lower_more rows ids sups s i d l h n =
     none_more (StandsLower rows sups s) ids i (get_or ids i d) l (get_or_default ids i d (get_or ids i d) l) n h
 
@@ -100,7 +107,8 @@ first_place (x ∷ xs) a c = by_head (λ d. first_place xs a d) (same_or_other x
       let p = rest (tail n c.0 c.1 c.2) in
       record { place = suc p.place; at = p.at; first = behind n p }
 
-pub least_row : (rows : List MemberRow) (ids sups : List ClassId) (a : ClassId) → IsOneRow ids sups a → AboveTo rows ids sups a (length ids)
+pub least_row : (rows : List MemberRow) (ids sups : List ClassId) (a : ClassId) → IsOneRow ids sups a
+    → AboveTo rows ids sups a (length ids)
     → (HasLowerRow rows ids sups a → ⊥) → LeastRow rows ids sups (least.One a)
 least_row rows ids sups a one above none = (
   record { place = p.place; at = p.at; is = record { super = one.1; other = λ e. nothing e; low = none }; before = before },

@@ -1,5 +1,6 @@
 -- What is noted of a text, part by part.
-use Rattle.std.proofs.Common.{◌≡◌, ◌<◌, ◌≤◌, ◌+◌, ℕ, List, [], ◌∷◌, ◌++◌, map, length, drop, get_or, cond, not, Bool, true, false, ◌||◌, nat_eq, refl, sym, ap, ◌∙◌, subst, arith}
+use Rattle.std.proofs.Common.{◌≡◌, ◌<◌, ◌≤◌, ◌+◌, ℕ, List, [], ◌∷◌, ◌++◌, map, length, drop, get_or, cond, not, Bool}
+use Rattle.std.proofs.Common.{true, false, ◌||◌, nat_eq, refl, sym, ap, ◌∙◌, subst, arith}
 use Rattle.std.proofs.lemmas.List.{append-nil, append_assoc}
 use Rattle.std.proofs.lemmas.List.Folds.{list_any-append}
 use Rattle.std.proofs.Math.ListN.{drop_of_length-le}
@@ -10,7 +11,10 @@ use Rattle.jn_base.specs.Duplicates.{only_if, has_name}
 use Rattle.jn_base.specs.Forms.{Mentions, Shared, Adapted, Constrained, Viewed, Termed, Masked, all_of}
 use Rattle.jn_base.specs.ResolveTypes.{mentioned_masks, firsts}
 use Rattle.jn_names.specs.Noting.{added, adding, noted}
-use Rattle.jn_base.proofs.FormEquations.{at_expr, at_number, at_truth, at_null, at_this, at_variable, at_new, at_super, at_post, at_inverse, at_negative, at_view, at_chain, at_link, at_suffix, at_block, at_local, at_assign, at_set, at_do, at_if, at_while, at_return, at_print, at_text, at_inner, at_slot, at_body, at_decl}
+use Rattle.jn_base.proofs.FormEquations.{at_expr, at_number, at_truth, at_null, at_this, at_variable, at_new, at_super}
+use Rattle.jn_base.proofs.FormEquations.{at_post, at_inverse, at_negative, at_view, at_chain, at_link, at_suffix}
+use Rattle.jn_base.proofs.FormEquations.{at_block, at_local, at_assign, at_set, at_do, at_if, at_while, at_return}
+use Rattle.jn_base.proofs.FormEquations.{at_print, at_text, at_inner, at_slot, at_body, at_decl}
 use Rattle.jn_base.proofs.NameTests.{same_name}
 use Rattle.jn_names.proofs.Turned.{at_index, at_place}
 
@@ -86,7 +90,8 @@ mask_next ms out new whole i d e l k =
     ∙ (sym (noted_mask out (get_or ms i d) (map Masked (drop (i + 1) ms)))
     ∙ (ap (λ (ys : List Named). noted out (map Masked ys)) (sym (at_place ms i d l)) ∙ e))
 
-pub mask_end : (ms : List Named) (out whole : List Name) (i : ℕ) → noted out (map Masked (drop i ms)) ≡ whole → length ms ≤ i → out ≡ whole
+pub mask_end : (ms : List Named) (out whole : List Name) (i : ℕ) → noted out (map Masked (drop i ms)) ≡ whole
+    → length ms ≤ i → out ≡ whole
 mask_end ms out whole i e l =
     sym (noted_none out) ∙ (ap (λ (ys : List Named). noted out (map Masked ys)) (sym (drop_of_length-le ms l)) ∙ e)
 
@@ -104,7 +109,8 @@ same_more xs seen n h m =
 same_again : (xs seen : List Name) (n : Name) → has_name xs n ≡ true → SameNames xs seen → SameNames xs (n ∷ seen)
 same_again xs seen n e h m = by_test (nat_eq n.0 m.0) refl where
   by_test : (b : Bool) → nat_eq n.0 m.0 ≡ b → has_name xs m ≡ (nat_eq n.0 m.0 || has_name seen m)
-  by_test true k = subst (λ (x : Name). has_name xs x ≡ true) (same_name n m k) e ∙ sym (ap (λ (b : Bool). b || has_name seen m) k)
+  by_test true k =
+      subst (λ (x : Name). has_name xs x ≡ true) (same_name n m k) e ∙ sym (ap (λ (b : Bool). b || has_name seen m) k)
   by_test false k = h m ∙ sym (ap (λ (b : Bool). b || has_name seen m) k)
 
 adding_firsts : (ns xs seen : List Name) → SameNames xs seen → adding xs ns ≡ xs ++ firsts seen ns
@@ -112,7 +118,8 @@ adding_firsts [] xs seen h = sym (append-nil xs)
 adding_firsts (n ∷ ns) xs seen h =
     by_test (has_name xs n) refl (λ k. adding_firsts ns xs (n ∷ seen) k) (λ k. adding_firsts ns (xs ++ n ∷ []) (n ∷ seen) k) where
       seen_so : (b : Bool) → has_name xs n ≡ b
-          → xs ++ (only_if (not b) (n ∷ []) ++ firsts (n ∷ seen) ns) ≡ xs ++ (only_if (not (has_name seen n)) (n ∷ []) ++ firsts (n ∷ seen) ns)
+          → xs ++ (only_if (not b) (n ∷ []) ++ firsts (n ∷ seen) ns) ≡ xs ++
+          (only_if (not (has_name seen n)) (n ∷ []) ++ firsts (n ∷ seen) ns)
       seen_so b e = ap (λ (c : Bool). xs ++ (only_if (not c) (n ∷ []) ++ firsts (n ∷ seen) ns)) (sym e ∙ h n)
 
       by_test : (b : Bool) → has_name xs n ≡ b
@@ -135,7 +142,21 @@ pub ruleset noting = (noted_none, noted_both, noted_term, noted_view, noted_cons
 
 pub ruleset expr_noted = (noting, at_expr)
 
-pub ruleset node_noted = (noting, at_number, at_truth, at_null, at_this, at_variable, at_new, at_super, at_post, at_inverse, at_negative, at_view, at_chain)
+pub ruleset node_noted = (
+  noting,
+  at_number,
+  at_truth,
+  at_null,
+  at_this,
+  at_variable,
+  at_new,
+  at_super,
+  at_post,
+  at_inverse,
+  at_negative,
+  at_view,
+  at_chain,
+)
 
 pub ruleset link_noted = (noting, at_link)
 

@@ -1,5 +1,6 @@
 -- The paths that a filled table numbers are those of the universe, and the members are found so.
-use Rattle.std.proofs.Common.{◌≡◌, ◌↔◌, [], ◌∷◌, Some, slice_get, List, subst, sym, ◌⊎◌, inl, inr, refl, ℕ, zero, suc, arith, Contains}
+use Rattle.std.proofs.Common.{◌≡◌, ◌↔◌, [], ◌∷◌, Some, slice_get, List, subst, sym, ◌⊎◌, inl, inr, refl, ℕ, zero, suc}
+use Rattle.std.proofs.Common.{arith, Contains}
 use Rattle.jn_base.specs.declared.tree.Name.{Name}
 use Rattle.jn_base.specs.declared.tree.Program.{Program}
 use Rattle.jn_base.specs.Paths.{Path}

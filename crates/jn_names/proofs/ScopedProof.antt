@@ -1,5 +1,7 @@
 -- The newest variable of a path, variable by variable.
-use Rattle.std.proofs.Common.{◌≡◌, ◌<◌, ◌≤◌, ◌+◌, ℕ, zero, suc, List, [], ◌∷◌, ◌++◌, map, reverse, take, slice_get, Some, None, Option, refl, sym, ap, ◌∙◌, subst, arith, add-one, cond, nat_eq, true, false, Bool, length}
+use Rattle.std.proofs.Common.{◌≡◌, ◌<◌, ◌≤◌, ◌+◌, ℕ, zero, suc, List, [], ◌∷◌, ◌++◌, map, reverse, take, slice_get}
+use Rattle.std.proofs.Common.{Some, None, Option, refl, sym, ap, ◌∙◌, subst, arith, add-one, cond, nat_eq, true, false}
+use Rattle.std.proofs.Common.{Bool, length}
 use Rattle.std.specs.Prelude.{IfSome}
 use Rattle.std.proofs.lemmas.List.{reverse-append}
 use Rattle.std.proofs.lemmas.Bool.Decides.{nat_tests}
@@ -31,17 +33,22 @@ scope_more Q vs v =
 
 module _ (vs : List Var) (q n : ℕ) (v : Var) (at : slice_get vs n ≡ Some v) where
   one_more : (Q : Path) → bound_of (scope_from Q (take (n + 1) vs)) q
-      ≡ cond (nat_eq q v.path) (first_at (bound_of (scope_from Q (take n vs))) (atoms_in v.ty)) (bound_of (scope_from Q (take n vs)) q)
+      ≡ cond (nat_eq q v.path) (first_at (bound_of (scope_from Q (take n vs))) (atoms_in v.ty))
+      (bound_of (scope_from Q (take n vs)) q)
   one_more Q =
       ap (λ (xs : List Var). bound_of (scope_from Q xs) q) (take_one vs n v at)
       ∙ ap (λ (s : Scope). bound_of s q) (scope_more Q (take n vs) v)
 
   by_test : (Q : Path) (b : Bool) → nat_eq q v.path ≡ b → bound_of (scope_from Q (take (n + 1) vs)) q
       ≡ cond b (first_at (bound_of (scope_from Q (take n vs))) (atoms_in v.ty)) (bound_of (scope_from Q (take n vs)) q)
-  by_test Q b e = one_more Q ∙ ap (λ (c : Bool). cond c (first_at (bound_of (scope_from Q (take n vs))) (atoms_in v.ty)) (bound_of (scope_from Q (take n vs)) q)) e
+  by_test Q b e =
+      one_more Q ∙ ap (λ (c : Bool). cond c (first_at (bound_of (scope_from Q (take n vs))) (atoms_in v.ty))
+      (bound_of (scope_from Q (take n vs)) q)) e
 
   pub newest_here : nat_eq q v.path ≡ true → NewestTo vs q (n + 1) (Some n)
-  newest_here e = λ Q w h. by_test Q true e ∙ ap (λ (x : Var). first_at (bound_of (scope_from Q (take n vs))) (atoms_in x.ty)) (same_some (slice_get vs n) v w at h)
+  newest_here e =
+      λ Q w h. by_test Q true e ∙ ap (λ (x : Var). first_at (bound_of (scope_from Q (take n vs))) (atoms_in x.ty))
+      (same_some (slice_get vs n) v w at h)
 
   pub newest_before : (o : Option ℕ) → nat_eq q v.path ≡ false → NewestTo vs q n o → NewestTo vs q (n + 1) o
   newest_before None e h = λ Q. by_test Q false e ∙ h Q
@@ -58,7 +65,8 @@ pub within_all : (i n : ℕ) (o : Option ℕ) → i ≤ n → IfSome o (λ k. k 
 within_all i n None e h = tt
 within_all i n (Some k) e h = omega (arith, e, h)
 
-pub newest_all : (vs : List Var) (q i : ℕ) (o : Option ℕ) → i ≤ length vs → length vs ≤ i → NewestTo vs q i o → NewestTo vs q (length vs) o
+pub newest_all : (vs : List Var) (q i : ℕ) (o : Option ℕ) → i ≤ length vs → length vs ≤ i → NewestTo vs q i o
+    → NewestTo vs q (length vs) o
 newest_all vs q i o l m h = let e : i ≡ length vs = omega arith in subst (λ (n : ℕ). NewestTo vs q n o) e h
 
 pub other_path : (a q : ℕ) → (a ≡ q → ⊥) → nat_eq q a ≡ false
@@ -69,9 +77,12 @@ same_path a q n = grind (arith, nat_tests)
 
 module _ (vs : List Var) (q i : ℕ) (v : Var) (o f : Option ℕ) (at : slice_get vs i ≡ Some v) where
   pub found_here : v.path ≡ q → f ≡ Some i → (IfSome f (λ k. k < i + 1)) × NewestTo vs q (i + 1) f
-  found_here e k = subst (λ (x : Option ℕ). (IfSome x (λ k. k < i + 1)) × NewestTo vs q (i + 1) x) (sym k) (omega arith, newest_here vs q i v at (same_path v.path q e))
+  found_here e k =
+      subst (λ (x : Option ℕ). (IfSome x (λ k. k < i + 1)) × NewestTo vs q (i + 1) x) (sym k)
+      (omega arith, newest_here vs q i v at (same_path v.path q e))
 
-  pub found_before : (v.path ≡ q → ⊥) → f ≡ o → IfSome o (λ k. k < i) → NewestTo vs q i o → (IfSome f (λ k. k < i + 1)) × NewestTo vs q (i + 1) f
+  pub found_before : (v.path ≡ q → ⊥) → f ≡ o → IfSome o (λ k. k < i) → NewestTo vs q i o
+      → (IfSome f (λ k. k < i + 1)) × NewestTo vs q (i + 1) f
   found_before n k w h =
       subst (λ (x : Option ℕ). (IfSome x (λ k. k < i + 1)) × NewestTo vs q (i + 1) x) (sym k)
       (within_more i (i + 1) o refl w, newest_before vs q i v at o (other_path v.path q n) h)

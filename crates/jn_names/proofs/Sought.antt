@@ -20,5 +20,6 @@ pub none_sought : (p : Program) (Q : Path) (ns : List Name) (d : ℕ) → length
 none_sought p Q [] d e h = ap Ok h
 none_sought p Q (n ∷ ns) d e h = absurd (omega (arith, e))
 
-pub as_sought : (p : Program) (Q : Path) (N : Name) (rest ns : List Name) (o : Result ℕ Name) → ns ≡ N ∷ rest → FirstSought p Q N rest o → Sought p Q ns o
+pub as_sought : (p : Program) (Q : Path) (N : Name) (rest ns : List Name) (o : Result ℕ Name) → ns ≡ N ∷ rest
+    → FirstSought p Q N rest o → Sought p Q ns o
 as_sought p Q N rest ns o e h = subst (λ (xs : List Name). Sought p Q xs o) (sym e) h

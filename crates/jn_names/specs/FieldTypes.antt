@@ -72,10 +72,13 @@ typed id x ty = record { class = id; field = x.field.name.name; ty = ty }
 -- each field with its type, in order, or the first refusal of the first field that has one
 pub data FieldsGive (p : Program) (known : List ShownPath) : List AtField → Result (List FieldTy) Refusal → Type 0 where
   none : {o : Result (List FieldTy) Refusal} → o ≡ Ok [] → FieldsGive p known [] o
-  refused : {x : AtField} {xs : List AtField} {o : Result (List FieldTy) Refusal} (r : Refusal) → FieldGives p x (Err r) → o ≡ Err r
+  refused : {x : AtField} {xs : List AtField} {o : Result (List FieldTy) Refusal} (r : Refusal) → FieldGives p x (Err r)
+      → o ≡ Err r
       → FieldsGive p known (x ∷ xs) o
-  first : {x : AtField} {xs : List AtField} {o : Result (List FieldTy) Refusal} (ty : Ty) (id : ClassId) (others : Result (List FieldTy) Refusal)
-      → FieldGives p x (Ok ty) → IsNumber known id x.class → FieldsGive p known xs others → o ≡ before_fields (typed id x ty) others
+  first : {x : AtField} {xs : List AtField} {o : Result (List FieldTy) Refusal} (ty : Ty) (id : ClassId)
+      (others : Result (List FieldTy) Refusal)
+      → FieldGives p x (Ok ty) → IsNumber known id x.class → FieldsGive p known xs others
+      → o ≡ before_fields (typed id x ty) others
       → FieldsGive p known (x ∷ xs) o
 
 -- what the declared fields of the program give

@@ -1,5 +1,6 @@
--- What the least declaration of a method and the declaration of a field are, as `Members` tells them.
-use Rattle.std.specs.Prelude.{◌≡◌, ◌↔◌, List, Contains, slice_get, Some}
+-- What the least declaration of a method and the declaration of a field are, which classes declare a method, and which are
+-- supers of each other, as `Members` tells them.
+use Rattle.std.specs.Prelude.{◌≡◌, ◌↔◌, Bool, IsTrue, List, Contains, slice_get, Some}
 use Rattle.jn_base.specs.declared.tree.Name.{Name}
 use Rattle.jn_base.specs.declared.tree.Program.{Program}
 use Rattle.jn_base.specs.declared.path.Path.{Path as ShownPath}
@@ -64,7 +65,26 @@ FieldIs p known R f (least.Many a b) = AreFirstTwo p known (FieldDecls p R f) a 
 
 -- of whatever program and table the members are, this is the answer for the path of the number
 abbrev pub SaysLeast : Members → ClassId → Name → Least → Type 0
-SaysLeast ms id m told = (p : Program) (t : Table) (R : Path) → IsMembersOf p t ms → IsNumber t.known.items id R → LeastIs p t.known.items R m told
+SaysLeast ms id m told =
+    (p : Program) (t : Table) (R : Path) → IsMembersOf p t ms → IsNumber t.known.items id R
+    → LeastIs p t.known.items R m told
 
 abbrev pub SaysField : Members → ClassId → Name → Least → Type 0
-SaysField ms id f told = (p : Program) (t : Table) (R : Path) → IsMembersOf p t ms → IsNumber t.known.items id R → FieldIs p t.known.items R f told
+SaysField ms id f told =
+    (p : Program) (t : Table) (R : Path) → IsMembersOf p t ms → IsNumber t.known.items id R
+    → FieldIs p t.known.items R f told
+
+-- the number of a path is among these where the declarations at the path have the method themselves
+abbrev pub SaysDeclaring : Members → Name → List ClassId → Type 0
+SaysDeclaring ms m ids =
+    (p : Program) (t : Table) (id : ClassId) (R : Path) → IsMembersOf p t ms → IsNumber t.known.items id R
+    → Contains ids id ↔ MethodNamed p R m
+
+-- the number is that of a super of R
+abbrev pub IsSuperNumber : Program → List ShownPath → Path → ClassId → Type 0
+IsSuperNumber p known R other = (S : Path) × IsNumber known other S × Sup p R S
+
+abbrev pub SaysSuper : Members → ClassId → ClassId → Bool → Type 0
+SaysSuper ms id other told =
+    (p : Program) (t : Table) (R : Path) → IsMembersOf p t ms → IsNumber t.known.items id R
+    → IsTrue told ↔ IsSuperNumber p t.known.items R other

@@ -56,7 +56,7 @@ fn add_field(
 
 /// Adds the types of the fields of a member of the declaration at a path.
 #[cycle(field_types)]
-#[tactic(auto, using(crate::proofs::FieldProof::at_inner, crate::proofs::FieldProof::at_slot, crate::proofs::FieldProof::at_body))]
+#[tactic(auto, using(crate::proofs::FieldProof::member_fields))]
 fn add_member(
     alloc: Global,
     t: &Table,

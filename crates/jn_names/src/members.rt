@@ -6,7 +6,9 @@ ghost use Rattle.jn_table.specs.declared.class.ClassId.{ClassId as AClassId};
 ghost use Rattle.jn_names.specs.declared.members.Least.TheVariants as least;
 ghost use Rattle.jn_names.specs.Ascending.{Ascend};
 ghost use Rattle.jn_names.specs.Listed.{AreListed, method_keys, field_keys};
-ghost use Rattle.jn_names.specs.MemberRows.{SupAtRow, HasLowerRow, PassedRow, PassedTo, IsLowRow, FirstLowRow, FieldlessRow, FieldlessTo, IsFieldRow, FirstFieldRow, LeastRow, FieldRow, IsOneRow, AboveRow, AboveTo};
+ghost use Rattle.jn_names.specs.MemberRows.{SupAtRow, HasLowerRow, PassedRow, PassedTo, IsLowRow, FirstLowRow};
+ghost use Rattle.jn_names.specs.MemberRows.{FieldlessRow, FieldlessTo, IsFieldRow, FirstFieldRow, LeastRow, FieldRow};
+ghost use Rattle.jn_names.specs.MemberRows.{IsOneRow, AboveRow, AboveTo};
 
 use crate::ascending::{is_among, is_class};
 use crate::by_name::keep_at_each;
@@ -62,7 +64,7 @@ fn has_sup(rows: &[MemberRow], a: ClassId, b: ClassId) -> bool
     }
 }
 
-/// Whether `t` is another one, is a super of the row's class, and stands below `s`.
+/// Whether `t` is another one, is in the other list, and stands below `s`.
 fn is_lower(rows: &[MemberRow], among: &[ClassId], s: ClassId, t: ClassId) -> bool
     requires { Ascend among.now }
     ensures { IsTrue result ↔ ((t ≡ s → ⊥) × Contains among.now t × SupAtRow rows.now t s) }
@@ -76,7 +78,7 @@ fn is_lower(rows: &[MemberRow], among: &[ClassId], s: ClassId, t: ClassId) -> bo
     has_sup(rows, t, s)
 }
 
-/// Whether another of the numbers is a super and stands below `s`.
+/// Whether another of the numbers is in the other list and stands below `s`.
 fn has_lower(rows: &[MemberRow], among: &[ClassId], ids: &[ClassId], s: ClassId) -> bool
     requires { Ascend among.now }
     ensures { IsTrue result ↔ HasLowerRow rows.now ids.now among.now s }
@@ -89,7 +91,7 @@ fn has_lower(rows: &[MemberRow], among: &[ClassId], ids: &[ClassId], s: ClassId)
     false
 }
 
-/// Whether the number is no super, is the one that is left out, or has another below.
+/// Whether the number is not in the other list, is the one that is left out, or has another below.
 fn is_passed(
     rows: &[MemberRow],
     among: &[ClassId],
@@ -110,7 +112,7 @@ fn is_passed(
     has_lower(rows, among, ids, s)
 }
 
-/// The first of the numbers, but for one, that is a super and has none below.
+/// The first of the numbers, but for one, that is in the other list and has none below.
 fn first_low(
     rows: &[MemberRow],
     among: &[ClassId],
@@ -129,7 +131,7 @@ fn first_low(
     None
 }
 
-/// Whether the number is no super, or is the one that is left out.
+/// Whether the number is not in the other list, or is the one that is left out.
 fn is_fieldless(among: &[ClassId], but: Option<ClassId>, s: ClassId) -> bool
     requires { Ascend among.now }
     ensures passed { IsTrue result → FieldlessRow among.now but s }
@@ -141,7 +143,7 @@ fn is_fieldless(among: &[ClassId], but: Option<ClassId>, s: ClassId) -> bool
     is_just(but, s)
 }
 
-/// The first of the numbers, but for one, that is a super.
+/// The first of the numbers, but for one, that is in the other list.
 fn first_field(among: &[ClassId], ids: &[ClassId], but: Option<ClassId>) -> Option<ClassId>
     requires { Ascend among.now }
     ensures { MatchOption result (FieldlessTo ids.now among.now but (length ids.now))
@@ -165,7 +167,7 @@ fn is_lower_yet(rows: &[MemberRow], low: Option<ClassId>, s: ClassId) -> bool
     }
 }
 
-/// Whether the number is a super and stands below the one before it, where there is one.
+/// Whether the number is in the other list and stands below the one before it, where there is one.
 fn goes_down(rows: &[MemberRow], among: &[ClassId], low: Option<ClassId>, s: ClassId) -> bool
     requires { Ascend among.now }
     ensures { IsTrue result → Contains among.now s }
@@ -173,7 +175,7 @@ fn goes_down(rows: &[MemberRow], among: &[ClassId], low: Option<ClassId>, s: Cla
     is_among(among, s) && is_lower_yet(rows, low, s)
 }
 
-/// One of the numbers that are supers: where one stands below all others, that one.
+/// One of the numbers that are in the other list: where one stands below all others, that one.
 fn lowest(rows: &[MemberRow], among: &[ClassId], ids: &[ClassId]) -> Option<ClassId>
     requires { Ascend among.now }
     ensures { IfSome result (IsOneRow ids.now among.now) }
@@ -187,7 +189,7 @@ fn lowest(rows: &[MemberRow], among: &[ClassId], ids: &[ClassId]) -> Option<Clas
     low
 }
 
-/// Whether the number is no super, or is `a`, or `a` stands below it.
+/// Whether the number is not in the other list, or is `a`, or `a` stands below it.
 fn is_above(rows: &[MemberRow], among: &[ClassId], a: ClassId, s: ClassId) -> bool
     requires { Ascend among.now }
     ensures { IsTrue result → AboveRow rows.now among.now a s }
@@ -198,7 +200,7 @@ fn is_above(rows: &[MemberRow], among: &[ClassId], a: ClassId, s: ClassId) -> bo
     is_class(s, a) || has_sup(rows, a, s)
 }
 
-/// Whether `a` stands below all others of the numbers that are supers.
+/// Whether `a` stands below all others of the numbers that are in the other list.
 fn are_above(rows: &[MemberRow], among: &[ClassId], ids: &[ClassId], a: ClassId) -> bool
     requires { Ascend among.now }
     ensures { IsTrue result → AboveTo rows.now ids.now among.now a (length ids.now) }
@@ -211,7 +213,7 @@ fn are_above(rows: &[MemberRow], among: &[ClassId], ids: &[ClassId], a: ClassId)
     true
 }
 
-/// Whether `a` has none below, and stands below all others of the numbers that are supers.
+/// Whether `a` has none below, and stands below all others of the numbers that are in the other list.
 fn is_least(rows: &[MemberRow], among: &[ClassId], ids: &[ClassId], a: ClassId) -> bool
     requires { Ascend among.now }
     ensures { IsTrue result → IsOneRow ids.now among.now a
@@ -220,8 +222,8 @@ fn is_least(rows: &[MemberRow], among: &[ClassId], ids: &[ClassId], a: ClassId) 
     are_above(rows, among, ids, a) && !has_lower(rows, among, ids, a)
 }
 
-/// The least one of the numbers that are supers, or the first two that have none below. The least one is found by walks
-/// over the numbers; only where there is none, each is asked for another below.
+/// The least one of the numbers that are in the other list, or the first two that have none below. The least one is
+/// found by walks over the numbers; only where there is none, each is asked for another below.
 fn least_among(rows: &[MemberRow], among: &[ClassId], ids: &[ClassId]) -> Least
     requires { Ascend among.now }
     ensures { LeastRow rows.now ids.now among.now result }
@@ -237,7 +239,7 @@ fn least_among(rows: &[MemberRow], among: &[ClassId], ids: &[ClassId]) -> Least
     }
 }
 
-/// The same, of which each number that is a super is asked for another below.
+/// The same, of which each number that is in the other list is asked for another below.
 fn low_ones(rows: &[MemberRow], among: &[ClassId], ids: &[ClassId]) -> Least
     requires { Ascend among.now }
     ensures { LeastRow rows.now ids.now among.now result }
@@ -251,7 +253,7 @@ fn low_ones(rows: &[MemberRow], among: &[ClassId], ids: &[ClassId]) -> Least
     }
 }
 
-/// The only one of the numbers that is a super, or the first two.
+/// The only one of the numbers that is in the other list, or the first two.
 fn field_among(among: &[ClassId], ids: &[ClassId]) -> Least
     requires { Ascend among.now }
     ensures { FieldRow ids.now among.now result }
@@ -288,7 +290,7 @@ fn field_of(row: &MemberRow, ids: &[ClassId]) -> Least
 }
 
 impl Members {
-    ghost use Rattle.jn_names.specs.Members.{IsMembersOf, SaysLeast, SaysField};
+    ghost use Rattle.jn_names.specs.Members.{IsMembersOf, SaysLeast, SaysField, SaysDeclaring, SaysSuper};
 
     /// The members of a program, by a table in which its universe is filled.
     pub fn build(alloc: Global, p: &Program, t: &Table) -> Result<Members, AllocError>
@@ -336,5 +338,23 @@ impl Members {
                 Some(ids) => field_of(row, ids),
             },
         }
+    }
+
+    /// The classes whose own declarations have a method, in ascending order.
+    pub fn declaring(&self, m: Name) -> &[ClassId]
+        ensures told { SaysDeclaring self.now m result.now }
+        ensures ascend { Ascend result.now }
+    {
+        match self.by_method.get(&m.0) {
+            None => &[],
+            Some(ids) => ids,
+        }
+    }
+
+    /// Whether the other class is a super of the class.
+    pub fn is_super(&self, id: ClassId, other: ClassId) -> bool
+        ensures { SaysSuper self.now id other result }
+    {
+        has_sup(&self.rows, id, other)
     }
 }

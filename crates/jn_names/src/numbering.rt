@@ -2,7 +2,8 @@
 #![tactic(auto, using(crate::proofs::Notings::noting))]
 
 ghost use Rattle.std.specs.Prelude.{◌≡◌, map, IfOk, OnOk};
-ghost use Rattle.jn_base.specs.Forms.{all_of, given, Masked, of_type, of_view, of_node, of_expr, of_link, of_suffix, of_stmt, of_param, of_constraint, of_method, of_member, of_decl};
+ghost use Rattle.jn_base.specs.Forms.{all_of, given, Masked, of_type, of_view, of_node, of_expr, of_link, of_suffix};
+ghost use Rattle.jn_base.specs.Forms.{of_stmt, of_param, of_constraint, of_method, of_member, of_decl};
 ghost use Rattle.jn_base.specs.ResolveTypes.{mask_names};
 ghost use Rattle.jn_names.specs.Noting.{added, noted};
 

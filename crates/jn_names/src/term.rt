@@ -1,7 +1,9 @@
 ghost use Rattle.std.specs.Prelude.{◌≡◌, Ok, IsTrue, ◌↔◌, IfOk};
 ghost use Rattle.jn_base.specs.declared.tree.Program.{Program};
 ghost use Rattle.jn_base.specs.declared.types.Anchor.TheVariants.{Up};
-ghost use Rattle.jn_base.specs.Resolve.{class_of, scope_at, names_of, anchor_out, taken_off, IsAbove, Behind, BoundGives, PathGives, PlainGiven, PrefixGiven, AnchorGiven, suits, is_fixed, has_exact, IsOfClass, SuitGives, atom_with, Resolve};
+ghost use Rattle.jn_base.specs.Resolve.{class_of, scope_at, names_of, anchor_out, taken_off, IsAbove, Behind};
+ghost use Rattle.jn_base.specs.Resolve.{BoundGives, PathGives, PlainGiven, PrefixGiven, AnchorGiven, suits, is_fixed};
+ghost use Rattle.jn_base.specs.Resolve.{has_exact, IsOfClass, SuitGives, atom_with, Resolve};
 ghost use Rattle.jn_table.specs.Tables.{IsFilled};
 ghost use Rattle.jn_names.specs.Answers.{Told};
 ghost use Rattle.jn_names.specs.Roles.{asks_class};

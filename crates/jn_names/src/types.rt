@@ -1,6 +1,7 @@
 ghost use Rattle.std.specs.Prelude.{◌≡◌, ◌∷◌, [], length, IsTrue, ◌↔◌, IfOk};
 ghost use Rattle.jn_base.specs.declared.tree.Program.{Program};
-ghost use Rattle.jn_base.specs.ResolveTypes.{OneDepth, ResolveAll, bounds_at, may_mask, MasksGive, DepthsGive, ResolveClass, ResolveType, ResolveView};
+ghost use Rattle.jn_base.specs.ResolveTypes.{OneDepth, ResolveAll, bounds_at, may_mask, MasksGive, DepthsGive};
+ghost use Rattle.jn_base.specs.ResolveTypes.{ResolveClass, ResolveType, ResolveView};
 ghost use Rattle.jn_table.specs.Tables.{IsFilled};
 ghost use Rattle.jn_names.specs.Answers.{Told};
 

@@ -10,7 +10,8 @@ returns-in-None c =
     let id = c.args.id in
     let at = c.partition_point-place.result in
     iff_false (past_all ids id at c.requires
-    (IsPartitionPoint-from_clause (IsLower id.0) ids at c.partition_point-place.ensures.partitioned (parted ids id.0 c.requires) (λ a r g called. search rules))
+    (IsPartitionPoint-from_clause (IsLower id.0) ids at c.partition_point-place.ensures.partitioned
+    (parted ids id.0 c.requires) (λ a r g called. search rules))
     (sym c.in-None.ensures))
 
 pub returns-in-Some : goal.returns-in-Some
@@ -19,7 +20,8 @@ returns-in-Some c =
     let id = c.args.id in
     let at = c.partition_point-place.result in
     let x = c.in-Some.other.now in
-    let p = IsPartitionPoint-from_clause (IsLower id.0) ids at c.partition_point-place.ensures.partitioned (parted ids id.0 c.requires) (λ a r g called. search rules) in (
+    let p = IsPartitionPoint-from_clause (IsLower id.0) ids at c.partition_point-place.ensures.partitioned
+    (parted ids id.0 c.requires) (λ a r g called. search rules) in (
       λ h. found_there ids id at c.requires p x (sym c.in-Some.ensures) (c.is_class.ensures.0 h),
       λ w. c.is_class.ensures.1 (same_there ids id at c.requires p x (sym c.in-Some.ensures) w),
     )

@@ -20,7 +20,8 @@ loop-id-preserved c = λ paths each.
           (length known) id.0 path refl found.3.0 found.1 in
           let put : c.match-get.all.items ≡ c.loop-id.all.items ++ reverse path.names ∷ [] =
           cc (w.all-is, w.in_ok-push-in-Some.ensures.items, w.in_ok-bound-in-Some.ensures, w.as_slice.ensures) in
-          add_one known ids paths c.args.all.now.items c.loop-id.all.items c.match-get.all.items i id path here each at (c.loop-id.invariant paths each) put
+          add_one known ids paths c.args.all.now.items c.loop-id.all.items c.match-get.all.items i id path here each at
+          (c.loop-id.invariant paths each) put
       | in-None w ↦ absurd (none_missing known ids paths i id here each w.in-None.ensures.lookup.3)
     ]
 
@@ -28,4 +29,5 @@ pub returns : goal.returns
 returns c = λ paths each.
     let known = c.known-known.result.now in
     let given : Numbered known paths c.args.ids.now = rw c.known-known.ensures each in
-    all_added known c.args.ids.now paths c.args.all.now.items c.loop-id.all.items c.loop-id.id-index c.loop-id-test.false given (c.loop-id.invariant paths given)
+    all_added known c.args.ids.now paths c.args.all.now.items c.loop-id.all.items c.loop-id.id-index
+    c.loop-id-test.false given (c.loop-id.invariant paths given)

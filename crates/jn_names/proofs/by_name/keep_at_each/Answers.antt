@@ -8,9 +8,11 @@ loop-name-init c = adds_none c.args.names.now c.args.id (get nat_eq c.args.lists
 
 pub loop-name-preserved : goal.loop-name-preserved
 loop-name-preserved c =
-    adds_more c.args.names.now c.loop-name.name-index 0 c.args.id (get nat_eq c.args.lists.now) (get nat_eq c.loop-name.lists) (get nat_eq c.keep.new.lists) c.loop-name-test.true
+    adds_more c.args.names.now c.loop-name.name-index 0 c.args.id (get nat_eq c.args.lists.now)
+    (get nat_eq c.loop-name.lists) (get nat_eq c.keep.new.lists) c.loop-name-test.true
     c.loop-name.invariant c.in_ok-keep.ensures.here c.in_ok-keep.ensures.others
 
 pub returns : goal.returns
 returns c =
-    adds_all c.args.names.now c.loop-name.name-index c.args.id (get nat_eq c.args.lists.now) (get nat_eq c.loop-name.lists) c.loop-name-test.false c.loop-name.invariant
+    adds_all c.args.names.now c.loop-name.name-index c.args.id (get nat_eq c.args.lists.now)
+    (get nat_eq c.loop-name.lists) c.loop-name-test.false c.loop-name.invariant

@@ -8,4 +8,5 @@ use Rattle.jn_names.proofs.fields.add_decls.Given as goal
 
 abbrev pub invariant-loop-d : goal.invariant-loop-d
 invariant-loop-d l =
-    (p : Program) → IsFilled p l.t → l.names ≡ mask_names p → Adds p l.t (all_by l.namespace (map fields_of_decl (take l.d-index l.decls))) l.fn.out.items l.out.items
+    (p : Program) → IsFilled p l.t → l.names ≡ mask_names p
+    → Adds p l.t (all_by l.namespace (map fields_of_decl (take l.d-index l.decls))) l.fn.out.items l.out.items

@@ -16,7 +16,8 @@ returns-in-Err-clause-told c = λ f.
     let fields : xs ≡ declared_fields p =
     ap (λ (R : Path). all_by R (map fields_of_decl c.as_slice.result.now)) c.root-root.ensures
     ∙ ap (λ (ds : List Decl). all_by [] (map fields_of_decl ds)) c.as_slice.ensures in
-    told_refused p c.args.t.now xs c.new-list.result.items c.add_decls.new.out.items c.in-Err.fault fields (c.in-Err.ensures p f names)
+    told_refused p c.args.t.now xs c.new-list.result.items c.add_decls.new.out.items c.in-Err.fault fields
+    (c.in-Err.ensures p f names)
 
 pub returns-clause-told : goal.returns-clause-told
 returns-clause-told c = λ f.
@@ -26,11 +27,13 @@ returns-clause-told c = λ f.
     let fields : xs ≡ declared_fields p =
     ap (λ (R : Path). all_by R (map fields_of_decl c.as_slice.result.now)) c.root-root.ensures
     ∙ ap (λ (ds : List Decl). all_by [] (map fields_of_decl ds)) c.as_slice.ensures in
-    told_all p c.args.t.now xs c.new-list.result.items c.add_decls.new.out.items fields c.new-list.ensures.items (c.in-Ok.ensures p f names)
+    told_all p c.args.t.now xs c.new-list.result.items c.add_decls.new.out.items fields c.new-list.ensures.items
+    (c.in-Ok.ensures p f names)
 
 pub returns-in-Err-clause-only : goal.returns-in-Err-clause-only
 returns-in-Err-clause-only c = λ f o k.
-    only_fields (AllFieldsGive c.args.p.now c.args.t.now) (all_once c.args.p.now c.args.t.now f) (Err c.in-Err.fault) (returns-in-Err-clause-told c f) o k
+    only_fields (AllFieldsGive c.args.p.now c.args.t.now) (all_once c.args.p.now c.args.t.now f) (Err c.in-Err.fault)
+    (returns-in-Err-clause-told c f) o k
 
 pub returns-clause-only : goal.returns-clause-only
 returns-clause-only c = λ f o k. all_once c.args.p.now c.args.t.now f _ o (returns-clause-told c f) k

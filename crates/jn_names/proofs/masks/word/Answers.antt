@@ -8,6 +8,10 @@ pub loop-b-preserved : goal.loop-b-preserved
 loop-b-preserved c =
     let T : ℕ → Type 0 = WordTo c.args.names.now c.args.masks.now c.args.from (c.loop-b.b + 1) in
     elim c.if-is_mask.branch [
-      | then-is_mask w ↦ subst T (sym w.word-is) (word_set c.args.names.now c.args.masks.now c.args.from c.loop-b.b c.loop-b.word c.loop-b-test.true c.loop-b.invariant (c.is_mask.ensures.0 w.if-is_mask.true))
-      | else-is_mask w ↦ subst T (sym w.word-is) (word_kept c.args.names.now c.args.masks.now c.args.from c.loop-b.b c.loop-b.word c.loop-b.invariant (not_when w.if-is_mask.false c.is_mask.ensures))
+      | then-is_mask w ↦ subst T (sym w.word-is)
+          (word_set c.args.names.now c.args.masks.now c.args.from c.loop-b.b c.loop-b.word c.loop-b-test.true
+          c.loop-b.invariant (c.is_mask.ensures.0 w.if-is_mask.true))
+      | else-is_mask w ↦ subst T (sym w.word-is)
+          (word_kept c.args.names.now c.args.masks.now c.args.from c.loop-b.b c.loop-b.word c.loop-b.invariant
+          (not_when w.if-is_mask.false c.is_mask.ensures))
     ]

@@ -8,4 +8,5 @@ pub returns : goal.returns
 returns c =
     let row = c.args.row.now in
     field_exchanged c.args.ids.now row.sups.items c.requires row.ascending c.field_among-2.result
-    (subst (λ (xs : List ClassId). FieldRow xs c.args.ids.now c.field_among-2.result) c.deref-2.ensures.value c.field_among-2.ensures)
+    (subst (λ (xs : List ClassId). FieldRow xs c.args.ids.now c.field_among-2.result) c.deref-2.ensures.value
+    c.field_among-2.ensures)

@@ -8,4 +8,5 @@ pub returns : goal.returns
 returns c =
     let row = c.args.row.now in
     least_exchanged c.args.rows.now c.args.ids.now row.sups.items c.requires row.ascending c.least_among-2.result
-    (subst (λ (xs : List ClassId). LeastRow c.args.rows.now xs c.args.ids.now c.least_among-2.result) c.deref-2.ensures.value c.least_among-2.ensures)
+    (subst (λ (xs : List ClassId). LeastRow c.args.rows.now xs c.args.ids.now c.least_among-2.result)
+    c.deref-2.ensures.value c.least_among-2.ensures)

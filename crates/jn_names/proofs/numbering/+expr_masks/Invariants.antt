@@ -13,4 +13,5 @@ invariant-note_links-loop-l l =
 
 abbrev pub invariant-note_suffixes-loop-s : goal.invariant-note_suffixes-loop-s
 invariant-note_suffixes-loop-s l =
-    noted l.out.items (all_of (map of_suffix (drop l.s-index l.suffixes))) ≡ noted l.fn.out.items (all_of (map of_suffix l.suffixes))
+    noted l.out.items (all_of (map of_suffix (drop l.s-index l.suffixes))) ≡ noted l.fn.out.items
+    (all_of (map of_suffix l.suffixes))

@@ -9,11 +9,14 @@ use Rattle.jn_names.proofs.resolving.resolve_view.Goals as goal
 
 pub returns-clause-told : goal.returns-clause-told
 returns-clause-told c = λ filled.
-    let T : Program → Result Ty Refusal → Type 0 = λ p o. ResolveView p c.args.masks.now c.args.spot.now c.args.vars.now c.args.view.now o in
+    let T : Program → Result Ty Refusal → Type 0 = λ p o. ResolveView p c.args.masks.now c.args.spot.now c.args.vars.now
+    c.args.view.now o in
     of_one c.args.t.now T c.args.p.now filled c.view_of.result c.view_of.ensures
 
 pub returns-clause-only : goal.returns-clause-only
 returns-clause-only c = λ filled o.
-    let T : Program → Result Ty Refusal → Type 0 = λ p o. ResolveView p c.args.masks.now c.args.spot.now c.args.vars.now c.args.view.now o in
-    only_one (T c.args.p.now) (view_once c.args.p.now c.args.masks.now c.args.spot.now c.args.vars.now c.args.view.now) c.view_of.result
+    let T : Program → Result Ty Refusal → Type 0 = λ p o. ResolveView p c.args.masks.now c.args.spot.now c.args.vars.now
+    c.args.view.now o in
+    only_one (T c.args.p.now) (view_once c.args.p.now c.args.masks.now c.args.spot.now c.args.vars.now c.args.view.now)
+    c.view_of.result
     (of_one c.args.t.now T c.args.p.now filled c.view_of.result c.view_of.ensures) o

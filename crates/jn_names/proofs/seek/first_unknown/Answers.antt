@@ -16,13 +16,18 @@ returns-then-not-is_known c = λ p f.
     let N : Name = get_or c.args.names.now c.loop-name.name-index record { 0 = 0 } in
     let none : InUniverse p c.push.new.self → ⊥ = not_when c.if-not-is_known.true (c.is_known.ensures p f) in
     c.loop-name.invariant p (Some N) f
-    (subst (λ (ns : List Name). FirstUnknown p c.loop-name.at ns (Some N)) (sym (at_place c.args.names.now c.loop-name.name-index record { 0 = 0 } c.loop-name-test.true))
+    (subst (λ (ns : List Name). FirstUnknown p c.loop-name.at ns (Some N))
+    (sym (at_place c.args.names.now c.loop-name.name-index record { 0 = 0 } c.loop-name-test.true))
     (step_unknown p c.loop-name.at N _ (subst (λ (B : Path). InUniverse p B → ⊥) c.in_ok-push.ensures none)))
 
 pub loop-name-preserved : goal.loop-name-preserved
 loop-name-preserved c = λ p o f h.
     let N : Name = get_or c.args.names.now c.loop-name.name-index record { 0 = 0 } in
-    let known : InUniverse p (N ∷ c.loop-name.at) = subst (InUniverse p) c.in_ok-push.ensures ((c.is_known.ensures p f).0 c.if-not-is_known.false) in
+    let known : InUniverse p (N ∷ c.loop-name.at) = subst (InUniverse p) c.in_ok-push.ensures
+    ((c.is_known.ensures p f).0 c.if-not-is_known.false) in
     c.loop-name.invariant p o f
-    (subst (λ (ns : List Name). FirstUnknown p c.loop-name.at ns o) (sym (at_place c.args.names.now c.loop-name.name-index record { 0 = 0 } c.loop-name-test.true))
-    (step_known p c.loop-name.at N _ o known (subst (λ (B : Path). FirstUnknown p B (drop (c.loop-name.name-index + 1) c.args.names.now) o) c.in_ok-push.ensures h)))
+    (subst (λ (ns : List Name). FirstUnknown p c.loop-name.at ns o)
+    (sym (at_place c.args.names.now c.loop-name.name-index record { 0 = 0 } c.loop-name-test.true))
+    (step_known p c.loop-name.at N _ o known
+    (subst (λ (B : Path). FirstUnknown p B (drop (c.loop-name.name-index + 1) c.args.names.now) o) c.in_ok-push.ensures
+    h)))

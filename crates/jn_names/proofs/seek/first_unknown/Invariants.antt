@@ -7,4 +7,5 @@ use Rattle.jn_names.proofs.seek.first_unknown.Given as goal
 
 abbrev pub invariant-loop-name : goal.invariant-loop-name
 invariant-loop-name l =
-    (p : Program) (o : Option Name) → IsFilled p l.t → FirstUnknown p l.at (drop l.name-index l.names) o → FirstUnknown p l.from l.names o
+    (p : Program) (o : Option Name) → IsFilled p l.t → FirstUnknown p l.at (drop l.name-index l.names) o
+    → FirstUnknown p l.from l.names o

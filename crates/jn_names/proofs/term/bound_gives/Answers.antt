@@ -14,7 +14,8 @@ returns-in-Err c =
     let T : Result Anchor Refusal → Type 0 = λ o. o ≡ Ok (Up c.args.path c.in-Some.k) in
     let U : Result Anchor Refusal → Type 0 =
     λ o. (p : Program) → IsFilled p c.args.t.now
-    → BoundGives p c.args.spot.now c.args.term.now c.args.front.now c.args.path c.args.v.now (taken_off c.args.front.now c.args.v.now) o in
+    → BoundGives p c.args.spot.now c.args.term.now c.args.front.now c.args.path c.args.v.now
+    (taken_off c.args.front.now c.args.v.now) o in
     passing T U c.in-Err.fault (λ r h. absurd (cc h)) c.in-Err.ensures
 
 pub returns : goal.returns
@@ -26,8 +27,10 @@ returns c =
     → Behind p c.args.spot.now c.args.term.now c.args.front.now c.in_ok-left-in-Some.left a o in
     let U : Result Anchor Refusal → Type 0 =
     λ o. (p : Program) → IsFilled p c.args.t.now
-    → BoundGives p c.args.spot.now c.args.term.now c.args.front.now c.args.path c.args.v.now (taken_off c.args.front.now c.args.v.now) o in
+    → BoundGives p c.args.spot.now c.args.term.now c.args.front.now c.args.path c.args.v.now
+    (taken_off c.args.front.now c.args.v.now) o in
     told_weaker T U c.behind.result
-    (λ o h p f. bound_step p c.args.spot.now c.args.term.now c.args.front.now c.args.path c.args.v.now c.in_ok-left-in-Some.left c.in-Some.k o (sym c.taken_off.ensures ∙ c.in-Some.is) c.in_ok-left-in-Some.ensures
+    (λ o h p f. bound_step p c.args.spot.now c.args.term.now c.args.front.now c.args.path c.args.v.now
+    c.in_ok-left-in-Some.left c.in-Some.k o (sym c.taken_off.ensures ∙ c.in-Some.is) c.in_ok-left-in-Some.ensures
     (subst (λ (x : Anchor). Behind p c.args.spot.now c.args.term.now c.args.front.now c.in_ok-left-in-Some.left x o) is (h p f)))
     c.behind.ensures

@@ -12,8 +12,10 @@ use Rattle.jn_names.proofs.term.plain.Goals as goal
 pub returns-in-Without : goal.returns-in-Without
 returns-in-Without c =
     let T : Result Anchor Refusal → Type 0 = λ o. o ≡ Ok (anchor_out c.in_ok-class.class c.in-Without.k) in
-    let U : Result Anchor Refusal → Type 0 = λ o. (p : Program) → IsFilled p c.args.t.now → PlainGiven p c.args.spot.now c.args.term.now o in
+    let U : Result Anchor Refusal → Type 0 = λ o. (p : Program) → IsFilled p c.args.t.now
+    → PlainGiven p c.args.spot.now c.args.term.now o in
     told_weaker T U c.anchor_out.result
-    (λ o h p f. plain_given p c.args.spot.now c.args.term.now c.in_ok-class.class c.as_slice.result.now (told c.in_ok-k.field-0) c.in-Without.k o
+    (λ o h p f. plain_given p c.args.spot.now c.args.term.now c.in_ok-class.class c.as_slice.result.now
+    (told c.in_ok-k.field-0) c.in-Without.k o
     c.in_ok-class.ensures (c.as_slice.ensures ∙ c.in_ok-names.ensures) (ap told c.in-Without.is) (c.in_ok-k.ensures p f) h)
     c.anchor_out.ensures

@@ -13,5 +13,6 @@ pub returns-in-Some : goal.returns-in-Some
 returns-in-Some c = λ p f.
     let k = (c.row.ensures p c.args.self.now f.table c.in-Some.ensures.some).fields.exact c.args.name in
     let h : IsTrue c.has_name.result ↔ Contains c.row.result.now.fields.items c.args.name =
-    subst (λ (ns : List Name). IsTrue c.has_name.result ↔ Contains ns c.args.name) c.deref.ensures.value c.has_name.ensures.among in
+    subst (λ (ns : List Name). IsTrue c.has_name.result ↔ Contains ns c.args.name) c.deref.ensures.value
+    c.has_name.ensures.among in
     (λ x. k.0 (h.0 x), λ x. h.1 (k.1 x))

@@ -16,4 +16,5 @@ returns-in-None-number c = λ p f. iff_false
     (not_when c.if-is.false c.is.ensures) c.in-None-number.ensures.none)
 
 pub returns-in-Some-number : goal.returns-in-Some-number
-returns-in-Some-number c = λ p f. c.sup.ensures p c.args.self.now c.args.other.now f.table c.in-Some.ensures.some c.in-Some-number.ensures.some
+returns-in-Some-number c =
+    λ p f. c.sup.ensures p c.args.self.now c.args.other.now f.table c.in-Some.ensures.some c.in-Some-number.ensures.some

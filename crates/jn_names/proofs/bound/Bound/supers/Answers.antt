@@ -7,7 +7,8 @@ use Rattle.jn_table.specs.Tables.{numbered}
 use Rattle.jn_names.specs.Bounds.{AddsPaths}
 use Rattle.jn_names.specs.declared.bound.Bound.{Bound}
 use Rattle.jn_names.proofs.Adding.{Numbered, supers_numbered, supers_none}
-use Rattle.jn_names.proofs.bound.Bound.supers.Goals.{in-None+in_ok-itself-in-None+in_ok-push-in-None, in-Some+in_ok-add_paths-in-Some}
+use Rattle.jn_names.proofs.bound.Bound.supers.Goals.{in-None+in_ok-itself-in-None+in_ok-push-in-None}
+use Rattle.jn_names.proofs.bound.Bound.supers.Goals.{in-Some+in_ok-add_paths-in-Some}
 use Rattle.jn_names.proofs.bound.Bound.supers.Goals as goal
 
 pub returns : goal.returns
