@@ -3,7 +3,6 @@ pub mod Opening
 pub mod Behind
 pub mod Variables
 pub mod Steps
-pub mod NormalForms
 pub mod Stored
 pub mod ClassNumbers
 pub mod Rooted
