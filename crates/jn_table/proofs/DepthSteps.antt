@@ -43,6 +43,7 @@ pub record Reaches (p : Program) (nodes : Nodes) (level : Level) : Type 0 where
   pub direct : Numbers (Direct p) nodes.paths.items (HasEdge nodes.direct.items)
 
 pub record Stage (es : List Entry) (order : List Name) (nodes : Nodes) (level : Level) (room : ℕ) : Type 0 where
+  pub few : length level.paths.items ≤ 4096
   pub shaped : IsShaped level
   pub fits : FitNodes nodes
   pub room_is : length nodes.paths.items + room ≡ 4097
@@ -100,9 +101,10 @@ root_order p level is = record {
 }
 
 pub stage_root : (es : List Entry) (order : List Name) (nodes : Nodes) (level : Level) → nodes.paths.items ≡ []
-    → nodes.direct.items ≡ []
+    → nodes.direct.items ≡ [] → length level.paths.items ≡ 1
     → IsShaped level → IsRoot level → Stage es order nodes level 4097
-stage_root es order nodes level no_paths no_rows shaped root = record {
+stage_root es order nodes level no_paths no_rows one shaped root = record {
+  few = omega (arith, one);
   shaped = shaped;
   fits = record {
     few = let l = ap length no_paths in omega (arith, l);
@@ -158,6 +160,7 @@ pub stage_next : (es : List Entry) (order : List Name) (nodes after : Nodes) (le
     → AddsLevel below nodes after
     → (rest : ℕ) → rest + length children ≡ room → Stage es order after below rest
 stage_next es order nodes after level below room children s f l shaped cp next adds rest left_is = record {
+  few = let q = stage_few es order nodes level below room children s l cp in omega (arith, q);
   shaped = shaped;
   fits = level_fits below nodes after shaped s.fits adds (stage_few es order nodes level below room children s l cp);
   room_is = let t = total in let q = s.room_is in omega (arith, t, q, left_is, long);

@@ -1,4 +1,4 @@
--- How loops gather names.
+-- How loops gather things.
 use Rattle.std.proofs.Common.{◌≡◌, ◌<◌, ◌≤◌, ◌+◌, ℕ, List, [], ◌∷◌, ◌++◌, length, Contains, slice_get, Some, arith, sym, ◌∙◌, ap, subst, refl, inl, inr, take, get_or, ◌⊎◌, ◌↔◌}
 use Rattle.std.specs.List.{Any}
 use Rattle.std.specs.declared.vec.Vec.{Vec}
@@ -6,7 +6,7 @@ use Rattle.std.specs.declared.alloc.Global.{Global}
 use Rattle.jn_reach.specs.Graph.{Graph}
 use Rattle.std.proofs.lemmas.List.{take_more}
 use Rattle.std.proofs.lemmas.Option.{slice_get_read}
-use Rattle.std.proofs.lemmas.List.Elements.{Contains-push, Contains-push_cases, Contains-append_left}
+use Rattle.std.proofs.lemmas.List.Elements.{Contains-push, Contains-push_cases, Contains-append_cases, Contains-append_left, Contains-append_right}
 use Rattle.jn_reach.proofs.Searches.{same_some}
 use Rattle.jn_table.proofs.Places.{same_item, take_whole}
 use Rattle.jn_base.specs.declared.tree.Name.{Name}
@@ -25,18 +25,18 @@ taken : {X : Type 0} (xs : List X) (i : ℕ) (x : X) → i < length xs → x ≡
     → take (i + 1) xs ≡ take i xs ++ x ∷ []
 taken xs i x l is = take_more xs i x l ∙ ap (λ y. take i xs ++ y ∷ []) (sym is)
 
-pub gains_none : (S : Name → Type 0) (names : List Name) → ((D : Name) → S D → ⊥) → Gains S names names
-gains_none S names none D = (λ c. inl c, λ s. elim s [ inl c ↦ c | inr b ↦ absurd (none D b) ])
+pub gains_none : {A : Type 0} (S : A → Type 0) (xs : List A) → ((D : A) → S D → ⊥) → Gains S xs xs
+gains_none S xs none D = (λ c. inl c, λ s. elim s [ inl c ↦ c | inr b ↦ absurd (none D b) ])
 
 pub none_of : {X : Type 0} (P : X → Type 0) → Any P [] → ⊥
 none_of P a = omega (arith, a.2)
 
--- one more thing, which has the names of which `now` holds
-pub gains_more : {X : Type 0} (W : X → Name → Type 0) (xs : List X) (i : ℕ) (x : X) (now : Name → Type 0) (before mid after : List Name)
-    → i < length xs → x ≡ get_or xs i x → ((D : Name) → W x D → now D) → ((D : Name) → now D → W x D)
+-- one more thing, with those of which `now` holds
+pub gains_more : {X A : Type 0} (W : X → A → Type 0) (xs : List X) (i : ℕ) (x : X) (now : A → Type 0) (before mid after : List A)
+    → i < length xs → x ≡ get_or xs i x → ((D : A) → W x D → now D) → ((D : A) → now D → W x D)
     → Gains (λ D. Any (λ y. W y D) (take i xs)) before mid → Gains now mid after
     → Gains (λ D. Any (λ y. W y D) (take (i + 1) xs)) before after
-gains_more {X} W xs i x now before mid after l is from to g h D = (forth, back) where
+gains_more {X} {A} W xs i x now before mid after l is from to g h D = (forth, back) where
   forth : Contains after D → Contains before D ⊎ Any (λ y. W y D) (take (i + 1) xs)
   forth c = elim ((h D).0 c) [
     | inl m ↦ elim ((g D).0 m) [
@@ -60,10 +60,24 @@ gains_more {X} W xs i x now before mid after l is from to g h D = (forth, back) 
         | inr same ↦ (h D).1 (inr (from D (subst (λ y. W y D) (sym same) f.2)))
       ]
 
-pub gains_all : {X : Type 0} (W : X → Name → Type 0) (xs : List X) (i : ℕ) (before after : List Name) → length xs ≤ i
+pub gains_all : {X A : Type 0} (W : X → A → Type 0) (xs : List X) (i : ℕ) (before after : List A) → length xs ≤ i
     → Gains (λ D. Any (λ y. W y D) (take i xs)) before after → Gains (λ D. Any (λ y. W y D) xs) before after
 gains_all W xs i before after past g =
     subst (λ ys. Gains (λ D. Any (λ y. W y D) ys) before after) (take_whole i xs past) g
+
+-- those of a list
+pub gains_joined : {A : Type 0} (S : A → Type 0) (xs ys zs : List A) → zs ≡ xs ++ ys
+    → ((x : A) → Contains ys x ↔ S x) → Gains S xs zs
+gains_joined {A} S xs ys zs is exact D = (forth, back) where
+  forth : Contains zs D → Contains xs D ⊎ S D
+  forth c = elim (Contains-append_cases xs ys D (subst (λ (l : List A). Contains l D) is c)) [
+    | inl b ↦ inl b
+    | inr a ↦ inr ((exact D).0 a)
+  ]
+
+  back : Contains xs D ⊎ S D → Contains zs D
+  back (inl b) = subst (λ (l : List A). Contains l D) (sym is) (Contains-append_left xs ys D b)
+  back (inr s) = subst (λ (l : List A). Contains l D) (sym is) (Contains-append_right xs ys D ((exact D).1 s))
 
 -- one more name
 pub gains_push : (names : List Name) (C : Name) → Gains (λ D. C ≡ D) names (names ++ C ∷ [])
@@ -77,7 +91,7 @@ gains_push names C D = (
 )
 
 -- what all hold of which the gathering began with none
-pub gains_exact : (S : Name → Type 0) (before after : List Name) → before ≡ [] → Gains S before after → (D : Name)
+pub gains_exact : {A : Type 0} (S : A → Type 0) (before after : List A) → before ≡ [] → Gains S before after → (D : A)
     → Contains after D ↔ S D
 gains_exact S before after none g D = (
   λ c. elim ((g D).0 c) [

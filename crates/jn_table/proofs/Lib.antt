@@ -30,3 +30,4 @@ pub mod OwnParts
 pub mod Located
 pub mod Grouped
 pub mod Nears
+pub mod EachOnce

@@ -11,9 +11,9 @@ use Rattle.jn_table.specs.declared.entry.Entry.{Entry}
 use Rattle.jn_table.specs.declared.gather.Part.{Part}
 use Rattle.jn_table.specs.declared.gather.Part.TheVariants as part
 
--- the names that were there, and those of which S holds
-abbrev pub Gains : (Name → Type 0) → List Name → List Name → Type 0
-Gains S before after = (D : Name) → Contains after D ↔ (Contains before D ⊎ S D)
+-- the things that were there, and those of which S holds
+abbrev pub Gains : {A : Type 0} → (A → Type 0) → List A → List A → Type 0
+Gains {A} S before after = (x : A) → Contains after x ↔ (Contains before x ⊎ S x)
 
 abbrev pub part_of : Part → Entry → List Name
 part_of part.Extends e = e.extends

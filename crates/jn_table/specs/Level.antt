@@ -1,5 +1,5 @@
 -- One depth of the table, as lists.
-use Rattle.std.specs.Prelude.{◌≡◌, ◌<◌, ℕ, List, ◌∷◌, Contains, length, slice_get, Some, All, Any}
+use Rattle.std.specs.Prelude.{◌≡◌, ◌<◌, ℕ, List, [], ◌∷◌, Contains, length, map, slice_get, Some, All, Any}
 use Rattle.std.specs.List.Sorted.{IsStrictlyIncreasing}
 use Rattle.std.specs.declared.vec.Vec.{Vec}
 use Rattle.std.specs.declared.alloc.Global.{Global}
@@ -8,10 +8,30 @@ use Rattle.jn_reach.specs.Graph.{Lists}
 use Rattle.jn_base.specs.declared.tree.Name.{Name}
 use Rattle.jn_base.specs.Paths.{Path}
 use Rattle.jn_table.specs.Gather.{PartAt}
+use Rattle.jn_table.specs.Groups.{IsGroups, StandsAt}
 use Rattle.jn_table.specs.declared.entry.Entry.{Entry}
 use Rattle.jn_table.specs.declared.gather.Part.TheVariants as part
+use Rattle.jn_table.specs.declared.groups.Groups.{Groups}
 use Rattle.jn_table.specs.declared.level.Child.{Child}
 use Rattle.jn_table.specs.declared.level.Level.{Level}
+
+-- the key of the path of that name under the path of that number
+abbrev pub key_under : ℕ → Name → List ℕ
+key_under up name = up ∷ name.0 ∷ []
+
+abbrev pub child_key : Child → List ℕ
+child_key c = key_under c.up c.name
+
+-- the children by their keys
+abbrev pub AreGrouped : List Child → Groups → Type 0
+AreGrouped children groups = IsGroups (map child_key children) groups
+
+-- at k stands the key of one of the written names, of the name under one of those paths
+abbrev pub IsWrittenAt : List (List ℕ) → ℕ → List Name → ℕ → Type 0
+IsWrittenAt keys up written k = Any (λ D. StandsAt keys (key_under up D) k) written
+
+abbrev pub IsInheritedAt : List (List ℕ) → List ℕ → Name → ℕ → Type 0
+IsInheritedAt keys direct name k = Any (λ up. StandsAt keys (key_under up name) k) direct
 
 -- by the names that the declarations of the heir extend, and the numbers of the direct supers of its namespace
 pub data DirectBy (written : List Name) (direct : List ℕ) (heir super : Child) : Type 0 where

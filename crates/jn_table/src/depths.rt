@@ -1,4 +1,4 @@
-ghost use Rattle.std.specs.Prelude.{◌≡◌, ◌<◌, length, IfOk};
+ghost use Rattle.std.specs.Prelude.{◌≡◌, ◌<◌, ◌≤◌, length, IfOk};
 ghost use Rattle.jn_table.specs.Depths.{Answers, Fits, IsBelow};
 ghost use Rattle.jn_table.specs.Level.{IsShaped};
 
@@ -37,6 +37,7 @@ fn depth_below(
     level: &Level,
     room: usize,
 ) -> Result<Below, AllocError>
+    requires few { length level.now.paths.items ≤ 4096 }
     requires shaped { IsShaped level.now }
     requires some { 0 < room }
     ensures { IfOk result (λ below. IsBelow entries.now order.now level.now room below) }

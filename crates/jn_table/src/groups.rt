@@ -83,7 +83,7 @@ fn row_at(rows: &[Vec<usize>], number: Option<usize>) -> &[usize]
 }
 
 /// The places of the key, in order.
-fn places_of<'a>(groups: &'a Groups, key: &[u32]) -> &'a [usize]
+pub fn places_of<'a>(groups: &'a Groups, key: &[u32]) -> &'a [usize]
     ensures { (keys : List (List ℕ)) → IsGroups keys groups.now → Lists (StandsAt keys key.now) result.now }
 {
     row_at(&groups.rows, place_of(&groups.index, key))

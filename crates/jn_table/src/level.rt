@@ -1,14 +1,17 @@
-ghost use Rattle.std.specs.Prelude.{◌≡◌, ◌<◌, ℕ, All, IsTrue, IfOk, OnOk, Contains, length, ◌↔◌};
-ghost use Rattle.jn_base.specs.declared.tree.Name.{Name as AName};
+ghost use Rattle.std.specs.Prelude.{◌≡◌, ◌<◌, ◌≤◌, ℕ, List, All, IfOk, OnOk, length, map};
+ghost use Rattle.jn_index.specs.Index.{keys_in};
 ghost use Rattle.jn_reach.specs.Graph.{Lists};
 ghost use Rattle.jn_table.specs.Exact.{IsNextOf, IsRoot};
-ghost use Rattle.jn_table.specs.Gather.{AreInside};
-ghost use Rattle.jn_table.specs.Level.{DirectBy, DirectByAt, DirectRow, DirectRows, ChildPaths, IsShaped};
+ghost use Rattle.jn_table.specs.Gather.{AreInside, Gains};
+ghost use Rattle.jn_table.specs.Groups.{IsGroups, StandsAt};
+ghost use Rattle.jn_table.specs.Level.{AreGrouped, ChildPaths, DirectByAt, DirectRow, DirectRows, IsInheritedAt, IsShaped, IsWrittenAt, child_key, key_under};
+ghost use Rattle.jn_table.specs.declared.level.Child.{Child as AChild};
 
+use crate::ascending::ascending;
 use crate::entry::Entry;
 use crate::gather::{Part, parts};
+use crate::groups::{Groups, grouped, places_of};
 use crate::route::Route;
-use jn_base::compare::{has_name, is_name};
 use jn_base::tree::Name;
 use jn_reach::closure;
 use std::alloc::{AllocError, Global};
@@ -28,33 +31,101 @@ pub struct Level {
     pub sups: Vec<Vec<usize>>,
 }
 
-/// Whether one path of the next depth is a direct super of another, by what is known of the other's namespace:
-/// the names that the declarations of the other extend, and the numbers of the namespace's direct supers.
-fn is_direct(written: &[Name], direct: &[usize], heir: &Child, above: &Child) -> bool
-    ensures { IsTrue result ↔ DirectBy written.now direct.now heir.now above.now }
+/// The key of the path with that name under the path of that number.
+fn key_under(alloc: Global, up: usize, name: Name) -> Result<Vec<u32>, AllocError>
+    requires { up < 4096 }
+    ensures { IfOk result (λ key. key.items ≡ key_under up name) }
 {
-    if heir.up == above.up && has_name(written, above.name) {
-        return true;
-    }
-    is_name(heir.name, above.name) && direct.contains(&above.up)
+    let mut key = Vec::new(alloc);
+    key.push(up as u32)?;
+    key.push(name.0)?;
+    Ok(key)
 }
 
-/// The numbers of the direct supers of a path of the next depth, in order.
+/// The keys of the paths of the next depth.
+fn child_keys(alloc: Global, children: &[Child]) -> Result<Vec<Vec<u32>>, AllocError>
+    requires { All (λ child. child.up < 4096) children.now }
+    ensures { IfOk result (λ keys. keys_in keys.items ≡ map child_key children.now) }
+{
+    let mut keys = Vec::new(alloc);
+    for child in children {
+        let key = key_under(alloc, child.up, child.name)?;
+        keys.push(key)?;
+    }
+    Ok(keys)
+}
+
+/// Adds the numbers of the paths of the next depth with that name under the path of that number.
+fn add_under(
+    alloc: Global,
+    all: &mut Vec<usize>,
+    groups: &Groups,
+    up: usize,
+    name: Name,
+) -> Result<(), AllocError>
+    requires { up < 4096 }
+    ensures { OnOk result ((keys : List (List ℕ)) → IsGroups keys groups.now
+        → Gains (StandsAt keys (key_under up name)) all.old.items all.new.items) }
+{
+    let key = key_under(alloc, up, name)?;
+    all.extend_from_slice(places_of(groups, &key))?;
+    Ok(())
+}
+
+/// Adds the numbers of those with one of the written names under the path of that number.
+fn add_written(
+    alloc: Global,
+    all: &mut Vec<usize>,
+    groups: &Groups,
+    up: usize,
+    written: &[Name],
+) -> Result<(), AllocError>
+    requires { up < 4096 }
+    ensures { OnOk result ((keys : List (List ℕ)) → IsGroups keys groups.now
+        → Gains (IsWrittenAt keys up written.now) all.old.items all.new.items) }
+{
+    for name in written {
+        add_under(alloc, all, groups, up, *name)?;
+    }
+    Ok(())
+}
+
+/// Adds the numbers of those with that name under one of the paths of those numbers.
+fn add_inherited(
+    alloc: Global,
+    all: &mut Vec<usize>,
+    groups: &Groups,
+    direct: &[usize],
+    name: Name,
+) -> Result<(), AllocError>
+    requires { All (λ up. up < 4096) direct.now }
+    ensures { OnOk result ((keys : List (List ℕ)) → IsGroups keys groups.now
+        → Gains (IsInheritedAt keys direct.now name) all.old.items all.new.items) }
+{
+    for up in direct {
+        add_under(alloc, all, groups, *up, name)?;
+    }
+    Ok(())
+}
+
+/// The numbers of the direct supers of a path of the next depth, in order, by what is known of its namespace:
+/// the names that its declarations extend, and the numbers of the namespace's direct supers.
 fn supers_of(
     alloc: Global,
     written: &[Name],
     direct: &[usize],
-    children: &[Child],
+    groups: &Groups,
     heir: &Child,
 ) -> Result<Vec<usize>, AllocError>
-    ensures { IfOk result (λ row. Lists (DirectByAt written.now direct.now children.now heir.now) row.items) }
+    requires up { heir.now.up < 4096 }
+    requires direct { All (λ up. up < 4096) direct.now }
+    ensures { IfOk result (λ row. (children : List AChild) → AreGrouped children groups.now
+        → Lists (DirectByAt written.now direct.now children heir.now) row.items) }
 {
-    let mut row = Vec::new(alloc);
-    for (number, above) in children.iter().enumerate() {
-        if is_direct(written, direct, heir, above) {
-            row.push(number)?;
-        }
-    }
+    let mut all = Vec::new(alloc);
+    add_written(alloc, &mut all, groups, heir.up, written)?;
+    add_inherited(alloc, &mut all, groups, direct, heir.name)?;
+    let row = ascending(all)?;
     Ok(row)
 }
 
@@ -64,17 +135,19 @@ fn direct_row(
     entries: &[Entry],
     level: &Level,
     inside: &[Vec<usize>],
-    children: &[Child],
+    groups: &Groups,
     heir: &Child,
 ) -> Result<Vec<usize>, AllocError>
+    requires few { length level.now.paths.items ≤ 4096 }
     requires shaped { IsShaped level.now }
     requires inside { AreInside entries.now level.now.paths.items inside.now }
     requires heir { heir.now.up < length level.now.paths.items }
-    ensures row { IfOk result (λ row. DirectRow entries.now level.now children.now heir.now row.items) }
+    ensures row { IfOk result (λ row. (children : List AChild) → AreGrouped children groups.now
+        → DirectRow entries.now level.now children heir.now row.items) }
 {
     let sups = &level.sups[heir.up];
     let written = parts(alloc, entries, inside, sups, heir.name, Part::Extends)?;
-    let row = supers_of(alloc, &written, &level.direct[heir.up], children, heir)?;
+    let row = supers_of(alloc, &written, &level.direct[heir.up], groups, heir)?;
     Ok(row)
 }
 
@@ -86,14 +159,17 @@ fn direct_rows(
     inside: &[Vec<usize>],
     children: &[Child],
 ) -> Result<Vec<Vec<usize>>, AllocError>
+    requires few { length level.now.paths.items ≤ 4096 }
     requires shaped { IsShaped level.now }
     requires inside { AreInside entries.now level.now.paths.items inside.now }
     requires children { All (λ child. child.up < length level.now.paths.items) children.now }
     ensures rows { IfOk result (λ rows. DirectRows entries.now level.now children.now children.now rows.items) }
 {
+    let keys = child_keys(alloc, children)?;
+    let groups = grouped(alloc, &keys)?;
     let mut rows = Vec::new(alloc);
     for heir in children {
-        let row = direct_row(alloc, entries, level, inside, children, heir)?;
+        let row = direct_row(alloc, entries, level, inside, &groups, heir)?;
         rows.push(row)?;
     }
     Ok(rows)
@@ -120,6 +196,7 @@ pub fn next(
     inside: &[Vec<usize>],
     children: &[Child],
 ) -> Result<Level, AllocError>
+    requires few { length level.now.paths.items ≤ 4096 }
     requires shaped { IsShaped level.now }
     requires inside { AreInside entries.now level.now.paths.items inside.now }
     requires children { All (λ child. child.up < length level.now.paths.items) children.now }
@@ -139,6 +216,7 @@ pub fn next(
 
 /// The program itself, as the depth above the top-level names.
 pub fn root(alloc: Global) -> Result<Level, AllocError>
+    ensures one { IfOk result (λ level. length level.paths.items ≡ 1) }
     ensures shaped { IfOk result (λ level. IsShaped level) }
     ensures exact { IfOk result (λ level. IsRoot level) }
 {

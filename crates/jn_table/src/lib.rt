@@ -20,6 +20,7 @@
 //! A [`ClassId`] is the place of its path in class order.
 #![tactic(auto)]
 
+mod ascending;
 mod children;
 mod class;
 mod depths;

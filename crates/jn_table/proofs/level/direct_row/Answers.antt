@@ -22,9 +22,18 @@ parts-requires-clause-numbers c =
     (λ (j : ℕ). j < length c.args.level.now.paths.items) row.items) c.args.level.now.sups.items c.args.heir.now.up
     c.index-sups.result.now ls c.index-sups.ensures c.requires.shaped.sups_in))
 
+pub supers_of-requires-clause-direct : goal.supers_of-requires-clause-direct
+supers_of-requires-clause-direct c =
+    let ld : c.args.heir.now.up < length c.args.level.now.direct.items = omega
+    (arith, c.requires.heir, c.requires.shaped.direct) in
+    let within = All_here (λ (row : Vec ℕ Global). All
+    (λ (j : ℕ). j < length c.args.level.now.paths.items) row.items) c.args.level.now.direct.items c.args.heir.now.up
+    c.index.result.now ld c.index.ensures c.requires.shaped.direct_in in
+    rw c.deref-3.ensures.value (λ k d l. let w = within k d l in omega (arith, w, c.requires.few))
+
 pub returns : goal.returns
 returns c = record {
-  row =
+  row = λ children are.
       let ld : c.args.heir.now.up < length c.args.level.now.direct.items = omega
       (arith, c.requires.heir, c.requires.shaped.direct) in
       let ls : c.args.heir.now.up < length c.args.level.now.sups.items = omega
@@ -34,5 +43,5 @@ returns c = record {
       (slice_get_read _ _ _ c.index-sups.result.now refl ls c.index-sups.ensures)
       (by_parts c.args.entries.now c.args.level.now.paths.items c.args.inside.now c.requires.inside _ _ _ _
       (rw c.deref.ensures.value at c.in_ok-written.ensures))
-      (rw (c.deref-2.ensures.value, c.deref-3.ensures.value) at c.in_ok-row.ensures);
+      (rw (c.deref-2.ensures.value, c.deref-3.ensures.value) at (c.in_ok-row.ensures children are));
 }
