@@ -1,5 +1,5 @@
 -- Homes, found by going down the declared names of a path.
-use Rattle.std.proofs.Common.{◌≡◌, ◌∙◌, ℕ, zero, suc, ◌<◌, ◌≤◌, ◌+◌, List, [], ◌∷◌, ◌++◌, length, drop, refl, sym, ap, subst, Contains, Some, None, arith, reverse, append-nil, append_assoc, Bool, true, false, nat_lt, inl, inr, get_or}
+use Rattle.std.proofs.Common.{◌≡◌, ◌∙◌, ℕ, zero, suc, ◌<◌, ◌≤◌, ◌+◌, List, [], ◌∷◌, ◌++◌, length, drop, refl, sym, ap, subst, Contains, Some, None, arith, reverse, append-nil, append_assoc, Bool, true, false, nat_lt, inl, inr, get_or, Option, slice_get, IfSome, rules}
 use Rattle.std.proofs.lemmas.List.{reverse-append}
 use Rattle.std.proofs.lemmas.List.Elements.{Contains-append_left, Contains-append_right, Contains-append_cases}
 use Rattle.std.proofs.lemmas.Bool.{ltb-true, ltb-false}
@@ -231,3 +231,23 @@ module _ (all : List Member) (i : ℕ) (m : Member) (x : Name) where
 pub members_all : (all left : List Member) (x : Name) → SearchedMembers all left x → left ≡ [] → Finds (nested all) x None
 members_all all left x s e d c is =
     s.none d (subst (λ (l : List Decl). Contains l d) (s.split ∙ (ap (λ (l : List Member). s.front ++ nested l) e ∙ append-nil s.front)) c) is
+
+-- what a member declares is nested
+nested_here : (ms : List Member) (k : ℕ) (m : Member) (d : Decl) → slice_get ms k ≡ Some m → Contains (nested (m ∷ [])) d
+    → Contains (nested ms) d
+nested_here [] k m d e c = cc
+nested_here (y ∷ ms) zero m d e c =
+    let same : y ≡ m = here e in
+    subst (λ (ds : List Decl). Contains ds d) (sym (and_behind (out-Member y) (nested ms)))
+    (Contains-append_left (nested (y ∷ [])) (nested ms) d
+    (subst (λ (z : Member). Contains (nested (z ∷ [])) d) (sym same) c)) where
+  here : Some y ≡ Some m → y ≡ m
+  here e = cc
+nested_here (y ∷ ms) (suc k) m d e c =
+    subst (λ (ds : List Decl). Contains ds d) (sym (and_behind (out-Member y) (nested ms)))
+    (Contains-append_right (nested (y ∷ [])) (nested ms) d (nested_here ms k m d e c))
+
+pub named_here : (ms : List Member) (k : ℕ) (m : Member) (x : Name) (o : Option Decl) → slice_get ms k ≡ Some m
+    → Finds (nested (m ∷ [])) x o → IfSome o (λ d. Contains (nested ms) d × (d.name.name ≡ x))
+named_here ms k m x None e f = search rules
+named_here ms k m x (Some d) e f = search (rules, nested_here ms k m d e f.0, f.1)
