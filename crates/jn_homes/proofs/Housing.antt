@@ -241,8 +241,8 @@ nested_here (y ∷ ms) zero m d e c =
     subst (λ (ds : List Decl). Contains ds d) (sym (and_behind (out-Member y) (nested ms)))
     (Contains-append_left (nested (y ∷ [])) (nested ms) d
     (subst (λ (z : Member). Contains (nested (z ∷ [])) d) (sym same) c)) where
-  here : Some y ≡ Some m → y ≡ m
-  here e = cc
+      here : Some y ≡ Some m → y ≡ m
+      here e = cc
 nested_here (y ∷ ms) (suc k) m d e c =
     subst (λ (ds : List Decl). Contains ds d) (sym (and_behind (out-Member y) (nested ms)))
     (Contains-append_right (nested (y ∷ [])) (nested ms) d (nested_here ms k m d e c))

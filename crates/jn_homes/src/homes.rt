@@ -14,23 +14,30 @@ use jn_base::tree::{Decl, Member, Name, Place, Program};
 pub fn home_of(p: &Program, path: &Path) -> Option<Place>
     ensures { duplicates p.now ≡ [] → HomeIs p.now (reverse path.now.names) result }
 {
+    home_near(p, path, &[])
+}
+
+/// The same, where each declaration is looked for first where it is expected, as in `decl_near`.
+pub fn home_near(p: &Program, path: &Path, way: &[usize]) -> Option<Place>
+    ensures { duplicates p.now ≡ [] → HomeIs p.now (reverse path.now.names) result }
+{
     match path.names.as_slice() {
         [] => None,
-        [top, inner @ ..] => match find_decl(p.decls.as_slice(), *top) {
-            Some(decl) => Some(go_down(p, path, decl, inner)),
+        [top, inner @ ..] => match top_near(p.decls.as_slice(), *top, way.get(0)) {
+            Some(decl) => Some(go_down(p, path, decl, inner, way)),
             None => None,
         },
     }
 }
 
 /// From the declaration of a front of the path by the names that are left, as far as they are declared.
-fn go_down(p: &Program, path: &Path, top: &Decl, left: &[Name]) -> Place
+fn go_down(p: &Program, path: &Path, top: &Decl, left: &[Name], way: &[usize]) -> Place
     requires { OnWay p.now (reverse path.now.names) top.now left.now }
     ensures { duplicates p.now ≡ [] → IsHome p.now (reverse path.now.names) result }
 {
     let mut decl = top;
-    for name in left {
-        match find_inner(decl.members.as_slice(), *name) {
+    for (level, name) in left.iter().enumerate() {
+        match member_near(decl.members.as_slice(), *name, way.get(level + 1)) {
             Some(next) => decl = next,
             None => return decl.name.at,
         }

@@ -3,4 +3,4 @@
 
 mod homes;
 
-pub use homes::{decl_at, decl_near, home_of};
+pub use homes::{decl_at, decl_near, home_near, home_of};
