@@ -15,7 +15,7 @@
 //! edges and with what the declarations at each path are and have (`own`) it is a `universe`, in which
 //! `judge` looks for cycles and for two kinds, and of which `row` makes the rows. `finding` has the paths in an order in
 //! which one is found by halves, and `groups` the entries by their paths and by their namespaces, and the paths
-//! by what is near them (`near`).
+//! by what is near them (`near`). `ways` has where each declaration is expected in the text.
 //!
 //! A [`ClassId`] is the place of its path in class order.
 #![tactic(auto)]
@@ -42,6 +42,7 @@ mod route;
 mod row;
 mod table;
 mod universe;
+mod ways;
 
 pub use class::{ClassId, Row, RowMember};
 pub use fault::TableFault;

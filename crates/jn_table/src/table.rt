@@ -11,6 +11,7 @@ use crate::gather::Part;
 use crate::lookup::has_class;
 use crate::order::{copied, name_order};
 use crate::own::names_at;
+use crate::ways::{way_of, ways_of};
 use jn_base::path::Path;
 use jn_base::tree::{Name, Program, Text};
 use sqlite_items::Items;
@@ -29,6 +30,7 @@ pub struct Table {
     rows: Vec<Row>,
     places: Vec<Located>,
     declared: Vec<Vec<usize>>,
+    ways: Vec<Vec<usize>>,
     ghost few: { length known.items ≤ 4096 },
     ghost paired: { length rows.items ≡ length known.items },
     ghost placed: { ArePlaces known.items places.items },
@@ -51,6 +53,7 @@ impl Table {
         let entries = entries(alloc, p)?;
         let order = name_order(alloc, p.names.as_slice(), &entries)?;
         let texts = copied(alloc, p.names.as_slice())?;
+        let ways = ways_of(alloc, p)?;
         Ok(Table {
             alloc,
             texts,
@@ -60,6 +63,7 @@ impl Table {
             rows: Vec::new(alloc),
             places: Vec::new(alloc),
             declared: Vec::new(alloc),
+            ways,
         })
     }
 
@@ -116,6 +120,17 @@ impl Table {
         ensures none { IfNone result (HasNoNumber self.now q.now) }
     {
         place_of(&self.places, q)
+    }
+
+    /// The way to the declaration at a path, or at its longest front that has one: the places of the declarations of its
+    /// names from the outermost on, each in the list in which it stands.
+    ///
+    /// Nothing is promised of it, so who goes by it compares names, as `decl_near` and `home_near` of `jn_homes` do.
+    pub fn way<'a>(&'a self, q: &Path) -> &'a [usize] {
+        match place_of(&self.places, q) {
+            Some(id) => way_of(&self.ways, &self.declared, &self.rows, id, q.names.len()),
+            None => &[],
+        }
     }
 
     /// Whether the path of the first of two filled numbers comes before that of the second in the class order.
