@@ -72,7 +72,7 @@ fn least_form(
         None => Ok(None),
         Some(owner) => {
             let path = owner.shown(alloc)?;
-            match method_at(p, &path, name) {
+            match method_at(p, table, &path, name) {
                 None => Err(AllocError),
                 Some(m) => Ok(Some(form_of(m))),
             }

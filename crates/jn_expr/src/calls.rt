@@ -225,7 +225,7 @@ pub fn begin_method(
         Err(fault) => Err(fault),
         Ok(owner) => {
             let path = owner.shown(alloc)?;
-            match method_at(p, &path, name.name) {
+            match method_at(p, &env.table, &path, name.name) {
                 None => Err(CheckFault::Memory),
                 Some(method) => {
                     enter_with(

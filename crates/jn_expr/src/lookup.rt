@@ -7,7 +7,8 @@ ghost use Rattle.jn_expr.specs.Found.{FindsNamed, method_name, field_name, Metho
 
 use jn_base::path::Path;
 use jn_base::tree::{Field, Member, Method, Name, Program};
-use jn_homes::decl_at;
+use jn_homes::decl_near;
+use jn_table::Table;
 
 /// The member, where it is a method of this name.
 fn method_named(m: &Member, name: Name) -> Option<&Method>
@@ -68,22 +69,22 @@ fn field_in(members: &[Member], name: Name) -> Option<&Field>
 }
 
 /// The method of this name in the declaration at a path. No name stands twice in the program.
-pub fn method_at<'a>(p: &'a Program, path: &Path, name: Name) -> Option<&'a Method>
+pub fn method_at<'a>(p: &'a Program, t: &Table, path: &Path, name: Name) -> Option<&'a Method>
     requires { duplicates p.now ≡ [] }
     ensures { MethodIs p.now (reverse path.now.names) name (option_copied result) }
 {
-    match decl_at(p, path) {
+    match decl_near(p, path, t.way(path)) {
         None => None,
         Some(d) => method_in(d.members.as_slice(), name),
     }
 }
 
 /// The field of this name in the declaration at a path. No name stands twice in the program.
-pub fn field_at<'a>(p: &'a Program, path: &Path, name: Name) -> Option<&'a Field>
+pub fn field_at<'a>(p: &'a Program, t: &Table, path: &Path, name: Name) -> Option<&'a Field>
     requires { duplicates p.now ≡ [] }
     ensures { FieldIs p.now (reverse path.now.names) name (option_copied result) }
 {
-    match decl_at(p, path) {
+    match decl_near(p, path, t.way(path)) {
         None => None,
         Some(d) => field_in(d.members.as_slice(), name),
     }

@@ -226,7 +226,7 @@ fn declared_type(
     ensures kept { table.new ≡ table.old }
 {
     let path = class.shown(alloc)?;
-    match field_at(p, &path, name) {
+    match field_at(p, table, &path, name) {
         None => Err(AllocError),
         Some(field) => {
             let spot = spot(alloc, class, field.name.name, Role::Field)?;

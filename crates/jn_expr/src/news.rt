@@ -186,7 +186,7 @@ pub fn make_of(
             None => Err(CheckFault::Memory),
             Some(name) => {
                 let path = owner.shown(alloc)?;
-                match method_at(p, &path, name) {
+                match method_at(p, &env.table, &path, name) {
                     None => Err(CheckFault::Memory),
                     Some(method) => {
                         make_by(

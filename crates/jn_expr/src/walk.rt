@@ -654,7 +654,7 @@ fn type_super(
         Err(fault) => Err(fault),
         Ok(owner) => {
             let path = owner.shown(alloc)?;
-            match method_at(p, &path, name.name) {
+            match method_at(p, &env.table, &path, name.name) {
                 None => Err(CheckFault::Memory),
                 Some(method) => {
                     type_super_body(alloc, p, class, m, env, scope, &owner, method, name, args)
@@ -686,7 +686,7 @@ pub fn type_of(
     ensures stays { Stays env.old env.new }
 {
     let class = Bound::of(alloc, env.class.names.as_slice())?;
-    match method_at(p, &env.class, env.method) {
+    match method_at(p, &env.table, &env.class, env.method) {
         None => Err(CheckFault::Memory),
         Some(m) => match value_of(alloc, p, &class, m, env, scope, e) {
             Err(fault) => Err(fault),

@@ -19,7 +19,7 @@ use jn_base::names::Vars;
 use jn_base::tree::{Constraint, Member, Method, Name, Named, Program};
 use jn_base::types::Ty;
 use jn_heads::{CheckFault, Header, Pledge, header_of, pledge_of};
-use jn_homes::decl_at;
+use jn_homes::decl_near;
 use jn_intern::{Pool, copied_type};
 use jn_names::{Bound, Members};
 use jn_table::{ClassId, Table};
@@ -200,7 +200,8 @@ fn heads_at(
     ensures kept { t.new ≡ t.old }
 {
     let class = class_of(alloc, t, id)?;
-    match decl_at(p, &t.row(id).path) {
+    let path = &t.row(id).path;
+    match decl_near(p, path, t.way(path)) {
         None => Ok(Vec::new(alloc)),
         Some(decl) => heads_of(alloc, p, t, masks, pool, &class, decl.members.as_slice()),
     }

@@ -9,7 +9,7 @@ ghost use Rattle.jn_header.specs.Unknown.{IsKnown, FirstWithout, UnknownIs, Firs
 use jn_base::path::Path;
 use jn_base::refusal::{Refusal, Rule};
 use jn_base::tree::{Name, Named, Program};
-use jn_homes::decl_at;
+use jn_homes::decl_near;
 use jn_table::Table;
 use sqlite_items::Items;
 use std::alloc::{AllocError, Global};
@@ -61,7 +61,7 @@ fn unknown_of(
     requires filled { IsFilled p.now table.now }
     ensures { IfOk result (λ found. UnknownIs p.now (reverse path.now.names) found) }
 {
-    match decl_at(p, path) {
+    match decl_near(p, path, table.way(path)) {
         Some(decl) => {
             let space = path.up(alloc, 1)?;
             first_stranger(alloc, table, &space, decl.extends.as_slice())

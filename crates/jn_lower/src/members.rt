@@ -18,7 +18,7 @@ use jn_base::compare::has_name;
 use jn_base::path::Path;
 use jn_base::tree::{Field, Member, Method, Name, Param, Program, TypeTerm};
 use jn_base::types::Atom;
-use jn_homes::decl_at;
+use jn_homes::decl_near;
 use jn_share::Slots;
 use jn_table::{ClassId, Table};
 use std::alloc::{AllocError, Global};
@@ -117,22 +117,22 @@ fn field_named(members: &[Member], f: Name) -> Option<&Field>
 }
 
 /// The method of this name in the declaration at the path. No name stands twice in the program.
-pub fn method_at<'a>(p: &'a Program, path: &Path, m: Name) -> Option<&'a Method>
+pub fn method_at<'a>(p: &'a Program, t: &Table, path: &Path, m: Name) -> Option<&'a Method>
     requires { duplicates p.now ≡ [] }
     ensures { Tells (MethodAt p.now (reverse path.now.names) m) (option_copied result) }
 {
-    match decl_at(p, path) {
+    match decl_near(p, path, t.way(path)) {
         None => None,
         Some(decl) => method_named(decl.members.as_slice(), m),
     }
 }
 
 /// The field of this name in the declaration at the path. No name stands twice in the program.
-pub fn field_at<'a>(p: &'a Program, path: &Path, f: Name) -> Option<&'a Field>
+pub fn field_at<'a>(p: &'a Program, t: &Table, path: &Path, f: Name) -> Option<&'a Field>
     requires { duplicates p.now ≡ [] }
     ensures { Tells (FieldAt p.now (reverse path.now.names) f) (option_copied result) }
 {
-    match decl_at(p, path) {
+    match decl_near(p, path, t.way(path)) {
         None => None,
         Some(decl) => field_named(decl.members.as_slice(), f),
     }
@@ -160,6 +160,7 @@ fn callee_of(alloc: Global, names: &[MethodSel], f: Name, m: &Method) -> Result<
 pub fn callee_at(
     alloc: Global,
     p: &Program,
+    t: &Table,
     names: &[MethodSel],
     path: &Path,
     f: Name,
@@ -167,7 +168,7 @@ pub fn callee_at(
     requires { duplicates p.now ≡ [] }
     ensures { IfOk result (λ x. (m : AMethod) → MethodAt p.now (reverse path.now.names) f m → IsCallee names.now f m x) }
 {
-    match method_at(p, path, f) {
+    match method_at(p, t, path, f) {
         None => Err(AllocError),
         Some(m) => callee_of(alloc, names, f, m),
     }
@@ -193,6 +194,7 @@ fn without_result(x: Callee) -> Result<Callee, AllocError>
 pub fn constructor_at(
     alloc: Global,
     p: &Program,
+    t: &Table,
     names: &[MethodSel],
     x: &Atom,
     path: &Path,
@@ -205,7 +207,7 @@ pub fn constructor_at(
     match name_of(x) {
         None => Err(AllocError),
         Some(name) => {
-            let found = callee_at(alloc, p, names, path, name)?;
+            let found = callee_at(alloc, p, t, names, path, name)?;
             without_result(found)
         }
     }
@@ -262,7 +264,7 @@ pub fn getter_at(
     ensures { IfOk result (λ x. (field : AField) → FieldAt p.now (reverse path.now.names) f field
         → IsGetter t.now s.now names.now (reverse path.now.names) f field x) }
 {
-    match field_at(p, path, f) {
+    match field_at(p, t, path, f) {
         None => Err(AllocError),
         Some(field) => getter_of(t, s, names, path, f, field),
     }

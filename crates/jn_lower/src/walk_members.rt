@@ -40,7 +40,7 @@ pub fn called(
     requires { NoneTwice g.now }
     ensures { OnOk result (CallMade g.now keeps path.now f count w.old w.new) }
 {
-    let callee = callee_at(g.alloc, g.p, g.names.methods.as_slice(), path, f)?;
+    let callee = callee_at(g.alloc, g.p, g.t, g.names.methods.as_slice(), path, f)?;
     if callee.params.as_slice().len() != count {
         return Err(AllocError);
     }

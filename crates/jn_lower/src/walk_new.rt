@@ -34,7 +34,7 @@ fn by_mark(g: &Parts, w: &mut Walk, x: &Atom, count: usize) -> Result<Option<u32
     match w.marks.next_member() {
         None => Err(AllocError),
         Some(path) => {
-            let found = constructor_at(g.alloc, g.p, g.names.methods.as_slice(), x, path)?;
+            let found = constructor_at(g.alloc, g.p, g.t, g.names.methods.as_slice(), x, path)?;
             if found.params.as_slice().len() != count {
                 return Err(AllocError);
             }

@@ -67,7 +67,7 @@ pub fn found_above(g: &Parts, w: &mut Walk, f: Name, count: usize) -> Result<Abo
             None => Err(AllocError),
             Some(path) => {
                 let class = class_number(g, x)?;
-                let found = callee_at(g.alloc, g.p, g.names.methods.as_slice(), path, f)?;
+                let found = callee_at(g.alloc, g.p, g.t, g.names.methods.as_slice(), path, f)?;
                 if found.params.as_slice().len() != count {
                     return Err(AllocError);
                 }

@@ -16,7 +16,7 @@ use crate::heap::Slot;
 use crate::world::World;
 use jn_base::path::Path;
 use jn_base::tree::{Field, Member, Method, Name, Program};
-use jn_homes::decl_at;
+use jn_homes::decl_near;
 use jn_names::Least;
 use jn_table::{ClassId, Table};
 use sqlite_items::{Items, at};
@@ -82,7 +82,7 @@ fn method_at<'a>(p: &'a Program, t: &Table, id: ClassId, m: Name) -> Option<&'a 
 {
     match at(t.known(), id.0 as usize) {
         None => None,
-        Some(path) => match decl_at(p, path) {
+        Some(path) => match decl_near(p, path, t.way(path)) {
             None => None,
             Some(decl) => method_named(decl.members.as_slice(), m),
         },
@@ -96,7 +96,7 @@ pub fn field_at<'a>(p: &'a Program, t: &Table, id: ClassId, f: Name) -> Option<&
 {
     match at(t.known(), id.0 as usize) {
         None => None,
-        Some(path) => match decl_at(p, path) {
+        Some(path) => match decl_near(p, path, t.way(path)) {
             None => None,
             Some(decl) => field_named(decl.members.as_slice(), f),
         },

@@ -6,7 +6,7 @@ ghost use Rattle.jn_share.specs.Homes.{HomesTo};
 ghost use Rattle.jn_share.specs.Pairing.{IsAt};
 
 use jn_base::tree::{Place, Program};
-use jn_homes::home_of;
+use jn_homes::home_near;
 use jn_table::Table;
 use std::alloc::{AllocError, Global};
 
@@ -15,7 +15,8 @@ fn home_at(p: &Program, t: &Table, k: usize) -> Option<Place>
     requires { k < length t.now.known.items }
     ensures { duplicates p.now ≡ [] → (R : APath) → IsAt t.now.known.items k R → HomeIs p.now R result }
 {
-    home_of(p, &t.known()[k])
+    let path = &t.known()[k];
+    home_near(p, path, t.way(path))
 }
 
 /// The home of each number.

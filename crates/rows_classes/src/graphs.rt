@@ -6,9 +6,10 @@ ghost use Rattle.jn_reach.specs.Pairs.{AreBelow};
 
 use crate::reading::{Question, read_number, read_numbers};
 use crate::shown::Answer;
+use jn_closure::closure;
 use jn_reach::{
-    are_below, class_firsts, class_members, closure, edges_of, first_on_cycle, has_edge, least_set,
-    origins, reached, reached_from,
+    are_below, class_firsts, class_members, edges_of, first_on_cycle, has_edge, least_set, origins,
+    reached, reached_from,
 };
 use std::alloc::{AllocError, Global};
 

@@ -58,7 +58,7 @@ fn typed_at(alloc: Global, p: &Program, class: Path, name: Name) -> Result<Strin
 {
     match env_of(alloc, p, class, name) {
         Err(fault) => Err(fault),
-        Ok(mut env) => match method_at(p, &env.class, name) {
+        Ok(mut env) => match method_at(p, &env.table, &env.class, name) {
             None => Ok(String::from_str(alloc, "there is no such method")?),
             Some(m) => typed_in(alloc, p, &mut env, m),
         },

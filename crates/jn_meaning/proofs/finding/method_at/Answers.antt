@@ -8,11 +8,11 @@ use Rattle.jn_meaning.proofs.ClassNumbers.{path_read}
 use Rattle.jn_meaning.proofs.Named.{in_decl}
 use Rattle.jn_meaning.proofs.finding.method_at.Goals as goal
 
-pub returns-in-Some-decl_at : goal.returns-in-Some-decl_at
-returns-in-Some-decl_at c =
+pub returns-in-Some-decl_near : goal.returns-in-Some-decl_near
+returns-in-Some-decl_near c =
     let p = c.args.p.now in
     let known = c.args.t.now.known.items in
     let here = path_read known c.known.result.now c.args.id c.in-Some.path.now c.known.ensures c.in-Some.ensures in
-    in_decl p c.requires (path_at known c.args.id) c.in-Some-decl_at.decl.now c.args.m (option_copied c.method_named.result)
-    (subst (λ (Q : Path). StandsAt p Q c.in-Some-decl_at.decl.now) (sym here) c.in-Some-decl_at.ensures)
+    in_decl p c.requires (path_at known c.args.id) c.in-Some-decl_near.decl.now c.args.m (option_copied c.method_named.result)
+    (subst (λ (Q : Path). StandsAt p Q c.in-Some-decl_near.decl.now) (sym here) c.in-Some-decl_near.ensures)
     (subst (λ (ms : List Member). Tells (IsMethodNamed (methods ms) c.args.m) (option_copied c.method_named.result)) c.as_slice.ensures c.method_named.ensures)
