@@ -1,5 +1,7 @@
 -- Method names that are bad: those without a least body, and those with a body of another signature.
-use Rattle.std.proofs.Common.{◌≡◌, ◌↔◌, List, Bool, true, false, not, IsTrue, Some, None, refl, sym, subst}
+use Rattle.std.proofs.Common.{◌≡◌, ◌<◌, ◌≤◌, ◌+◌, ◌↔◌, ℕ, List, Bool, true, false, not, IsTrue, Some, None}
+use Rattle.std.proofs.Common.{length, get_or, refl, sym, subst, arith}
+use Rattle.std.proofs.lemmas.Option.{slice_get_within}
 use Rattle.jn_base.specs.declared.tree.Name.{Name}
 use Rattle.jn_base.specs.declared.tree.Program.{Program}
 use Rattle.jn_base.specs.declared.path.Path.{Path as ShownPath}
@@ -10,17 +12,20 @@ use Rattle.jn_base.specs.ProgramNames.{IsNamed}
 use Rattle.jn_base.specs.TableRules.{DeclarationsPass}
 use Rattle.jn_base.proofs.Unique.{one_method_at}
 use Rattle.jn_table.specs.declared.class.ClassId.{ClassId}
-use Rattle.jn_table.specs.Rows.{HasMethod as RowHasMethod}
+use Rattle.jn_table.specs.declared.table.Table.{Table}
+use Rattle.jn_table.specs.Rows.{IsNumber, HasMethod as RowHasMethod}
+use Rattle.jn_names.specs.declared.members.Members.{Members}
 use Rattle.jn_names.specs.declared.members.Least.TheVariants as least
-use Rattle.jn_names.specs.Members.{LeastIs}
+use Rattle.jn_names.specs.Members.{IsMembersOf, LeastIs, SaysDeclaring}
 use Rattle.jn_sem.specs.Does.{Body, IsBody}
 use Rattle.jn_rules.specs.Questions.{Answers}
 use Rattle.jn_rules.specs.Members.{BadMethod, no_least, other_signature, SameSignature}
 use Rattle.jn_rule_laws.proofs.RepliesOne.{body_once}
 use Rattle.jn_header.specs.declared.bodies.BodyHead.{BodyHead}
 use Rattle.jn_header.specs.Bodies.{body_at, head_signature, IsHeadOf, HeadIs, LeastHeadIs}
-use Rattle.jn_header.specs.Methods.{IsOtherAt, IsOtherIn}
+use Rattle.jn_header.specs.Methods.{IsOtherAt, IsOtherIn, IsOtherSuper}
 use Rattle.jn_header.proofs.Finding.{same_signatures, signatures_same}
+use Rattle.jn_header.proofs.Numbers.{in_list, EachTo, each_more, number_of}
 
 same_body : (b c : Body) → b.class ≡ c.class → b.method ≡ c.method → b ≡ c
 same_body b c e f i = record { class = e i; method = f i }
@@ -56,6 +61,31 @@ other_in p b m R S s o = record {
 
 pub none_in : (p : Program) (b : Body) (m : Name) (R : Path) → ((S : Path) → Sup p R S → IsOtherAt p b m S → ⊥) → IsOtherIn p b m R → ⊥
 none_in p b m R none o = none o.body.class o.is.super (record { body = o.body; class = refl; at = o.is.at; other = o.other })
+
+-- ---- all that declare the method
+
+-- of the first i of the numbers none is that of a super whose declaration has another body
+abbrev pub NoOtherTo : Program → List ShownPath → Body → Name → Path → List ClassId → ℕ → Type 0
+NoOtherTo p known b m R ids i = EachTo (λ (S : Path). Sup p R S → IsOtherAt p b m S → ⊥) known ids i
+
+pub no_other_more : (p : Program) (known : List ShownPath) (b : Body) (m : Name) (R : Path) (ids : List ClassId) (i : ℕ)
+    (d : ClassId) → i < length ids → NoOtherTo p known b m R ids i
+    → (IsOtherSuper p known b m R (get_or ids i d) → ⊥) → NoOtherTo p known b m R ids (i + 1)
+no_other_more p known b m R ids i d l h none =
+    each_more (λ (S : Path). Sup p R S → IsOtherAt p b m S → ⊥) known ids i d l h (λ S n s o. none (S, n, s, o))
+
+-- a super that has another body declares the method, so its number is among these
+pub no_other_declared : (p : Program) (t : Table) (ms : Members) → IsMembersOf p t ms → (b : Body) (m : Name) (R : Path)
+    (ids : List ClassId) → SaysDeclaring ms m ids → (id : ClassId) → IsNumber t.known.items id R
+    → (i : ℕ) → length ids ≤ i → NoOtherTo p t.known.items b m R ids i → IsOtherIn p b m R → ⊥
+no_other_declared p t ms g b m R ids says id n i l h = none_in p b m R at_super where
+  at_super : (S : Path) → Sup p R S → IsOtherAt p b m S → ⊥
+  at_super S s o =
+      let row = g.rows id R n in
+      let its = number_of p t.known.items (Sup p R) row.row.sups.items row.is.sups S s in
+      let place = in_list ids its.0 ((says p t its.0 S g its.1).1 (o.body.method, o.at)) in
+      let within = slice_get_within ids place.0 its.0 place.1 in
+      h place.0 its.0 S (omega (arith, within, l)) place.1 its.1 s o
 
 -- ---- a name
 

@@ -49,6 +49,12 @@ module _ (p : Program) (known : List ShownPath) (T : Path → Type 0) (ids : Lis
       let e = Each-back (λ (S : Path) (id : ClassId). IsNumber known id S) are.numbered i (get_or ids i d) (slice_get-get_or ids i d l) in
       (e.0, e.2, (are.are.exact e.0).0 (contained are.paths i e.0 e.1))
 
+  pub number_of : (S : Path) → T S → (id : ClassId) × IsNumber known id S
+  number_of S t =
+      let k = in_list are.paths S ((are.are.exact S).1 t) in
+      let e = Each-at (λ (S : Path) (id : ClassId). IsNumber known id S) are.numbered k.0 S k.1 in
+      (e.0, e.2)
+
   pub each_all : (P : Path → Type 0) (i : ℕ) → length ids ≤ i → EachTo P known ids i → (S : Path) → T S → P S
   each_all P i l h S t =
       let k = in_list are.paths S ((are.are.exact S).1 t) in

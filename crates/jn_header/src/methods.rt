@@ -8,12 +8,13 @@ ghost use Rattle.jn_base.specs.Supers.{Sup};
 ghost use Rattle.jn_table.specs.Rows.{IsNumber, AreClasses};
 ghost use Rattle.jn_table.specs.Tables.{IsFilledAt};
 ghost use Rattle.jn_table.specs.declared.table.Table.{Table as ATable};
+ghost use Rattle.jn_names.specs.Members.{SaysDeclaring};
 ghost use Rattle.jn_sem.specs.Does.{Body};
 ghost use Rattle.jn_rules.specs.Questions.{Answers};
 ghost use Rattle.jn_rules.specs.Members.{BadMethod};
 ghost use Rattle.jn_header.specs.Bodies.{AreBodies, IsHeadOf, SaysOf};
 ghost use Rattle.jn_header.specs.Members.{FirstOf, FirstBad};
-ghost use Rattle.jn_header.specs.Methods.{IsOtherAt, IsOtherIn};
+ghost use Rattle.jn_header.specs.Methods.{IsOtherAt, IsOtherIn, IsOtherSuper};
 
 use crate::alike::is_same;
 use crate::bodies::{Bodies, BodyHead};
@@ -33,8 +34,9 @@ fn is_other(bodies: &Bodies, own: &BodyHead, name: Name, id: ClassId) -> bool
 }
 
 /// Whether some of the supers has a body of the method with another signature.
-fn differs(bodies: &Bodies, own: &BodyHead, name: Name, sups: &[ClassId]) -> bool
-    ensures { (b : Body) (p : Program) (t : ATable) (R : APath) → AreBodies p t bodies.now → AreClasses p t.known.items (Sup p R) sups.now
+fn super_differs(bodies: &Bodies, own: &BodyHead, name: Name, sups: &[ClassId]) -> bool
+    ensures { (b : Body) (p : Program) (t : ATable) (R : APath) → AreBodies p t bodies.now
+        → AreClasses p t.known.items (Sup p R) sups.now
         → IsHeadOf p b own.now → Answers (IsOtherIn p b name R) result }
 {
     for id in sups {
@@ -43,6 +45,53 @@ fn differs(bodies: &Bodies, own: &BodyHead, name: Name, sups: &[ClassId]) -> boo
         }
     }
     false
+}
+
+/// Whether the other class is a super, and its declaration has a body of the method with another signature.
+fn is_other_super(bodies: &Bodies, own: &BodyHead, name: Name, id: ClassId, other: ClassId) -> bool
+    ensures { (b : Body) (p : Program) (t : ATable) (R : APath) → AreBodies p t bodies.now
+        → IsNumber t.known.items id R
+        → IsHeadOf p b own.now → Answers (IsOtherSuper p t.known.items b name R other) result }
+{
+    if !bodies.members.is_super(id, other) {
+        return false;
+    }
+    is_other(bodies, own, name, other)
+}
+
+/// Whether some of the classes that declare the method is a super and has a body of it with another signature.
+fn declared_differs(
+    bodies: &Bodies,
+    own: &BodyHead,
+    name: Name,
+    id: ClassId,
+    declaring: &[ClassId],
+) -> bool
+    requires { SaysDeclaring bodies.now.members name declaring.now }
+    ensures { (b : Body) (p : Program) (t : ATable) (R : APath) → AreBodies p t bodies.now
+        → IsNumber t.known.items id R
+        → IsHeadOf p b own.now → Answers (IsOtherIn p b name R) result }
+{
+    for other in declaring {
+        if is_other_super(bodies, own, name, id, *other) {
+            return true;
+        }
+    }
+    false
+}
+
+/// Whether some of the supers has a body of the method with another signature. The supers or the classes that declare
+/// the method are walked, whichever are fewer.
+fn differs(bodies: &Bodies, own: &BodyHead, name: Name, id: ClassId, sups: &[ClassId]) -> bool
+    ensures { (b : Body) (p : Program) (t : ATable) (R : APath) → AreBodies p t bodies.now
+        → IsNumber t.known.items id R → AreClasses p t.known.items (Sup p R) sups.now
+        → IsHeadOf p b own.now → Answers (IsOtherIn p b name R) result }
+{
+    let declaring = bodies.members.declaring(name);
+    if declaring.len() < sups.len() {
+        return declared_differs(bodies, own, name, id, declaring);
+    }
+    super_differs(bodies, own, name, sups)
 }
 
 /// Whether a method name of a class has no least body, or some body of it has another signature than the least one.
@@ -55,7 +104,7 @@ fn is_bad(t: &Table, bodies: &Bodies, id: ClassId, name: &Name) -> bool
         Least::Many(_, _) => true,
         Least::One(_) => match least_head(bodies, id, *name) {
             None => false,
-            Some(own) => differs(bodies, own, *name, &t.row(id).sups),
+            Some(own) => differs(bodies, own, *name, id, &t.row(id).sups),
         },
     }
 }

@@ -20,5 +20,5 @@ pub returns-in-Some : goal.returns-in-Some
 returns-in-Some c = λ p R bo n.
     let h = c.in-Some.ensures p c.args.t.now R bo n in
     bad_told p bo.declarations bo.members.filled.table.named R c.args.name.now h.0 h.1 c.differs.result
-    (c.differs.ensures h.0 p c.args.t.now R bo
+    (c.differs.ensures h.0 p c.args.t.now R bo n
     (subst (λ (ids : List ClassId). AreClasses p c.args.t.now.known.items (Sup p R) ids) (sym c.deref.ensures.value) (c.row.ensures p R bo.members.filled.table n).sups) h.2)

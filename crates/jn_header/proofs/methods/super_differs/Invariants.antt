@@ -7,7 +7,7 @@ use Rattle.jn_sem.specs.Does.{Body}
 use Rattle.jn_header.specs.Bodies.{AreBodies, IsHeadOf}
 use Rattle.jn_header.specs.Methods.{IsOtherAt}
 use Rattle.jn_header.proofs.Numbers.{EachTo}
-use Rattle.jn_header.proofs.methods.differs.Given as goal
+use Rattle.jn_header.proofs.methods.super_differs.Given as goal
 
 abbrev pub invariant-loop-id : goal.invariant-loop-id
 invariant-loop-id l =
