@@ -13,7 +13,7 @@ use crate::gather::{Part, parts};
 use crate::groups::{Groups, grouped, places_of};
 use crate::route::Route;
 use jn_base::tree::Name;
-use jn_reach::closure;
+use jn_closure::closure;
 use std::alloc::{AllocError, Global};
 
 /// A path of the next depth: a member of the path of that number.

@@ -7,7 +7,7 @@ ghost use Rattle.jn_table.specs.Universes.{FitUniverse};
 use crate::entry::Entry;
 use crate::nodes::Nodes;
 use crate::own::{Own, own_of, some_flag};
-use jn_reach::closure;
+use jn_closure::closure;
 use std::alloc::{AllocError, Global};
 
 /// The paths of a universe, with the supers of each and what the declarations at each are and have.
