@@ -29,7 +29,7 @@ use Rattle.jn_table.specs.declared.nodes.Nodes.{Nodes}
 use Rattle.jn_table.proofs.Sides.{right}
 use Rattle.jn_table.proofs.Sorted.{InOrder, sorted}
 use Rattle.jn_table.proofs.Members.{picked_children, all_sound}
-use Rattle.jn_table.proofs.Orders.{ordered}
+use Rattle.jn_table.proofs.Orders.{declared_at, ordered}
 use Rattle.jn_table.proofs.RootLevel.{empty_length}
 use Rattle.jn_table.proofs.Shifts.{numbers_joined, level_fits}
 use Rattle.jn_table.proofs.Fronts.{FrontPaths, front_joined, path_after, take_at, child_path, paths_of, next_paths, in_namespace}
@@ -131,7 +131,7 @@ children_all : (p : Program) (es : List Entry) (order : List Name) (level : Leve
     → AreChildren p level children
 children_all p es order level n children of is shaped all =
     let o = ordered p.names es order of.order_is in
-    picked_children p es order n level of.flat is shaped o.distinct o.declared children all
+    picked_children p es order n level of.flat is shaped o.distinct (declared_at es order o) children all
 
 picks_of : (es : List Entry) (order : List Name) (level : Level) (room : ℕ) (children : List Child)
     → ChildrenFront es order level (length level.paths.items) room children → length children < room

@@ -27,7 +27,7 @@ use Rattle.jn_table.proofs.Sorted.{InOrder, in_order, sorted, place_below}
 use Rattle.jn_table.proofs.Before.{before_member, before_sibling, before_longer, not_longer}
 use Rattle.jn_table.proofs.NameOrders.{name_less, named_head}
 use Rattle.jn_table.proofs.Members.{all_order, InNames, picked_sound}
-use Rattle.jn_table.proofs.Orders.{ordered}
+use Rattle.jn_table.proofs.Orders.{declared_at, ordered}
 use Rattle.jn_table.proofs.NextLevel.{next_paths_sound, next_paths_complete}
 
 -- the paths up to the depth n, in class order
@@ -145,7 +145,8 @@ module _ (p : Program) (es : List Entry) (order : List Name) (n : ℕ) (level : 
   child_named : (k : ℕ) (c : Child) → slice_get children k ≡ Some c → (c.name).0 < length p.names
   child_named k c at =
       let o = ordered p.names es order of.order_is in
-      let m = picked_sound p es order n level of.flat is shaped o.distinct o.declared children all k c at in
+      let m = picked_sound p es order n level of.flat is shaped o.distinct (declared_at es order o) children all k c
+      at in
       named_head p c.name m.2.at ((of.named).paths (c.name ∷ m.2.at) m.2.declared)
 
   names_before : (k l : ℕ) (a b : Child) → slice_get children k ≡ Some a → slice_get children l ≡ Some b → (P Q : Path)

@@ -6,12 +6,12 @@ use Rattle.std.specs.declared.alloc.Global.{Global}
 use Rattle.jn_reach.specs.Graph.{Graph}
 use Rattle.std.proofs.lemmas.List.{take_more}
 use Rattle.std.proofs.lemmas.Option.{slice_get_read}
-use Rattle.std.proofs.lemmas.List.Elements.{Contains-push, Contains-push_cases, Contains-append_cases, Contains-append_left, Contains-append_right}
+use Rattle.std.proofs.lemmas.List.Elements.{Contains-push, Contains-push_cases}
+use Rattle.std.proofs.lemmas.List.Elements.{Contains-append_cases, Contains-append_left, Contains-append_right}
 use Rattle.jn_reach.proofs.Searches.{same_some}
 use Rattle.jn_table.proofs.Places.{same_item, take_whole}
 use Rattle.jn_base.specs.declared.tree.Name.{Name}
-use Rattle.jn_base.specs.Paths.{Path}
-use Rattle.jn_table.specs.Gather.{Gains, NamedAt, PartOf, NamedAmong, PartAmong, NamedIn, PartIn, part_of}
+use Rattle.jn_table.specs.Gather.{Gains, PartOf, PartAmong, PartIn, part_of}
 use Rattle.jn_table.specs.declared.entry.Entry.{Entry}
 use Rattle.jn_table.specs.declared.gather.Part.{Part}
 
@@ -32,7 +32,8 @@ pub none_of : {X : Type 0} (P : X → Type 0) → Any P [] → ⊥
 none_of P a = omega (arith, a.2)
 
 -- one more thing, with those of which `now` holds
-pub gains_more : {X A : Type 0} (W : X → A → Type 0) (xs : List X) (i : ℕ) (x : X) (now : A → Type 0) (before mid after : List A)
+pub gains_more : {X A : Type 0} (W : X → A → Type 0) (xs : List X) (i : ℕ) (x : X) (now : A → Type 0)
+    (before mid after : List A)
     → i < length xs → x ≡ get_or xs i x → ((D : A) → W x D → now D) → ((D : A) → now D → W x D)
     → Gains (λ D. Any (λ y. W y D) (take i xs)) before mid → Gains now mid after
     → Gains (λ D. Any (λ y. W y D) (take (i + 1) xs)) before after
@@ -79,14 +80,14 @@ gains_joined {A} S xs ys zs is exact D = (forth, back) where
   back (inl b) = subst (λ (l : List A). Contains l D) (sym is) (Contains-append_left xs ys D b)
   back (inr s) = subst (λ (l : List A). Contains l D) (sym is) (Contains-append_right xs ys D ((exact D).1 s))
 
--- one more name
-pub gains_push : (names : List Name) (C : Name) → Gains (λ D. C ≡ D) names (names ++ C ∷ [])
-gains_push names C D = (
-  λ c. Contains-push_cases names C D c,
+-- one more thing
+pub gains_push : {A : Type 0} (xs : List A) (x : A) → Gains (λ (y : A). x ≡ y) xs (xs ++ x ∷ [])
+gains_push xs x y = (
+  λ c. Contains-push_cases xs x y c,
   λ s. elim s [
-    | inl c ↦ Contains-append_left names (C ∷ []) D c
-    | inr e ↦ subst (Contains (names ++ C ∷ [])) e
-        (Contains-push names C)
+    | inl c ↦ Contains-append_left xs (x ∷ []) y c
+    | inr e ↦ subst (Contains (xs ++ x ∷ [])) e
+        (Contains-push xs x)
   ],
 )
 
@@ -101,19 +102,6 @@ gains_exact S before after none g D = (
   ],
   λ s. (g D).1 (inr s),
 )
-
--- at a number stands one path
-pub at_path : (F : Path → Name → Type 0) (paths : List Path) (at : ℕ) (P : Path) (D : Name) → at < length paths
-    → P ≡ get_or paths at P
-    → (Q : Path) × (slice_get paths at ≡ Some Q) × F Q D → F P D
-at_path F paths at P D l is w =
-    subst (λ (Q : Path). F Q D) (same_some (slice_get paths at) w.0 P w.1
-    (slice_get_read paths (length paths) at P refl l is)) w.2
-
-pub path_at : (F : Path → Name → Type 0) (paths : List Path) (at : ℕ) (P : Path) (D : Name) → at < length paths
-    → P ≡ get_or paths at P
-    → F P D → (Q : Path) × (slice_get paths at ≡ Some Q) × F Q D
-path_at F paths at P D l is f = (P, slice_get_read paths (length paths) at P refl l is, f)
 
 -- one more name of a list
 pub named_more : (names : List Name) (i : ℕ) (d : Name) (before mid : List Name) → i < length names
@@ -148,19 +136,10 @@ pub named_all : (names : List Name) (i : ℕ) (before after : List Name) → len
     → Gains (Contains names) before after
 named_all names i before after past g = subst (λ ys. Gains (Contains ys) before after) (take_whole i names past) g
 
-any_same : {X : Type 0} (F G : X → Type 0) (xs : List X) → ((x : X) → F x → G x) → Any F xs → Any G xs
-any_same F G xs f a = (a.0, a.1, a.2, a.3, f a.1 a.4)
-
 -- what stands at a number of the entries
 module _ (es : List Entry) (i : ℕ) (x : Entry) (l : i < length es) (is : x ≡ get_or es i x) where
   entry_at : slice_get es i ≡ Some x
   entry_at = slice_get_read es (length es) i x refl l is
-
-  pub named_here : (D : Name) → x.name ≡ D → NamedAt es D i
-  named_here D n = (x, entry_at, n)
-
-  pub named_is : (D : Name) → NamedAt es D i → x.name ≡ D
-  named_is D w = subst (λ (e : Entry). e.name ≡ D) (same_some (slice_get es i) w.0 x w.1 entry_at) w.2
 
   pub part_here : (C : Name) (part : Part) (D : Name) → x.name ≡ C → Contains (part_of part x) D → PartOf es C part D i
   part_here C part D n c = (x, entry_at, n, c)
@@ -199,46 +178,10 @@ pub part_all : (es : List Entry) (C : Name) (part : Part) (row : List ℕ) (k : 
     → Gains (PartAmong es C part (take k row)) before after → Gains (PartAmong es C part row) before after
 part_all es C part row k before after past g = gains_all (λ i D. PartOf es C part D i) row k before after past g
 
--- one more number: the name of its entry, which is there already or not
-gains_there : (names : List Name) (C : Name) → Contains names C → Gains (λ D. C ≡ D) names names
-gains_there names C c D = (λ h. inl h, λ s. elim s [ inl h ↦ h | inr e ↦ subst (Contains names) e c ])
-
-pub declared_more : (es : List Entry) (row : List ℕ) (k d : ℕ) (x : Entry) (before mid : List Name) → k < length row
-    → get_or row k d < length es → x ≡ get_or es (get_or row k d) x → Gains (NamedAmong es (take k row)) before mid
-    → Gains (NamedAmong es (take (k + 1) row)) before (mid ++ x.name ∷ [])
-declared_more es row k d x before mid l within is g =
-    gains_more (λ i D. NamedAt es D i) row k (get_or row k d) (λ D. x.name ≡ D) before mid (mid ++ x.name ∷ []) l
-    (same_item row k d l)
-    (λ D w. named_is es (get_or row k d) x within is D w) (λ D n. named_here es (get_or row k d) x within is D n) g
-    (gains_push mid x.name)
-
-pub declared_there : (es : List Entry) (row : List ℕ) (k d : ℕ) (x : Entry) (before mid : List Name) → k < length row
-    → get_or row k d < length es → x ≡ get_or es (get_or row k d) x → Contains mid x.name
-    → Gains (NamedAmong es (take k row)) before mid
-    → Gains (NamedAmong es (take (k + 1) row)) before mid
-declared_there es row k d x before mid l within is c g =
-    gains_more (λ i D. NamedAt es D i) row k (get_or row k d) (λ D. x.name ≡ D) before mid mid l (same_item row k d l)
-    (λ D w. named_is es (get_or row k d) x within is D w) (λ D n. named_here es (get_or row k d) x within is D n) g
-    (gains_there mid x.name c)
-
-pub declared_none : (es : List Entry) (all : List Name) → Gains (NamedAmong es []) all all
-declared_none es all = gains_none (NamedAmong es []) all (λ D a. none_of (NamedAt es D) a)
-
-pub declared_all : (es : List Entry) (row : List ℕ) (k : ℕ) (before after : List Name) → length row ≤ k
-    → Gains (NamedAmong es (take k row)) before after → Gains (NamedAmong es row) before after
-declared_all es row k before after past g = gains_all (λ i D. NamedAt es D i) row k before after past g
-
 -- one more row
 module _ (rows : Graph) (n : ℕ) (row : Vec ℕ Global) (l : n < length rows) (is : row ≡ get_or rows n row) where
   row_at : slice_get rows n ≡ Some row
   row_at = slice_get_read rows (length rows) n row refl l is
-
-  named_in : (es : List Entry) (D : Name) → NamedAmong es row.items D → NamedIn es rows D n
-  named_in es D h = record { row = row; at = row_at; has = h }
-
-  in_named : (es : List Entry) (D : Name) → NamedIn es rows D n → NamedAmong es row.items D
-  in_named es D w =
-      subst (λ (v : Vec ℕ Global). NamedAmong es v.items D) (same_some (slice_get rows n) w.row row w.at row_at) w.has
 
   part_in : (es : List Entry) (C : Name) (part : Part) (D : Name) → PartAmong es C part row.items D
       → PartIn es C part rows D n
@@ -274,27 +217,3 @@ pub parts_all : (es : List Entry) (C : Name) (part : Part) (rows : Graph) (numbe
 parts_all es C part rows numbers i all past g =
     gains_exact (λ D. Any (PartIn es C part rows D) numbers) [] all refl
     (gains_all (λ n D. PartIn es C part rows D n) numbers i [] all past g)
-
-pub members_more : (es : List Entry) (rows : Graph) (numbers : List ℕ) (i d : ℕ) (row : Vec ℕ Global)
-    (before mid after : List Name)
-    → i < length numbers → get_or numbers i d < length rows → row ≡ get_or rows (get_or numbers i d) row
-    → Gains (λ D. Any (NamedIn es rows D) (take i numbers)) before mid → Gains (NamedAmong es row.items) mid after
-    → Gains (λ D. Any (NamedIn es rows D) (take (i + 1) numbers)) before after
-members_more es rows numbers i d row before mid after l within is g h =
-    gains_more (λ n D. NamedIn es rows D n) numbers i (get_or numbers i d)
-    (NamedAmong es row.items) before mid after l (same_item numbers i d l)
-    (λ D w. in_named rows (get_or numbers i d) row within is es D w)
-    (λ D f. named_in rows (get_or numbers i d) row within is es D f) g h
-
-pub members_none : (es : List Entry) (rows : Graph) (all : List Name) → all ≡ []
-    → Gains (λ D. Any (NamedIn es rows D) []) [] all
-members_none es rows all e =
-    subst (Gains (λ D. Any (NamedIn es rows D) []) []) (sym e)
-    (gains_none (λ D. Any (NamedIn es rows D) []) [] (λ D a. none_of (NamedIn es rows D) a))
-
-pub members_all : (es : List Entry) (rows : Graph) (numbers : List ℕ) (i : ℕ) (all : List Name) → length numbers ≤ i
-    → Gains (λ D. Any (NamedIn es rows D) (take i numbers)) [] all → (D : Name)
-    → Contains all D ↔ Any (NamedIn es rows D) numbers
-members_all es rows numbers i all past g =
-    gains_exact (λ D. Any (NamedIn es rows D) numbers) [] all refl
-    (gains_all (λ n D. NamedIn es rows D n) numbers i [] all past g)

@@ -9,7 +9,8 @@ use Rattle.jn_index.proofs.Places.{key_at, thing_at}
 use Rattle.jn_base.specs.declared.tree.Name.{Name}
 use Rattle.jn_table.specs.Gather.{Gains, PartAt}
 use Rattle.jn_table.specs.Groups.{StandsAt}
-use Rattle.jn_table.specs.Level.{DirectBy, writes_it, inherits_it, DirectByAt, DirectChild, writes, inherits, DirectChildAt, DirectRow, IsInheritedAt, IsWrittenAt, child_key, key_under}
+use Rattle.jn_table.specs.Level.{DirectBy, writes_it, inherits_it, DirectByAt, DirectChild, writes, inherits, DirectChildAt}
+use Rattle.jn_table.specs.Level.{DirectRow, IsInheritedAt, IsWrittenAt, child_key, key_under}
 use Rattle.jn_table.specs.declared.entry.Entry.{Entry}
 use Rattle.jn_table.specs.declared.gather.Part.TheVariants as part
 use Rattle.jn_table.specs.declared.level.Child.{Child}
@@ -28,7 +29,8 @@ key_of_child children c k up D at u n =
     rw (sym u, sym n) (key_at child_key children k c at)
 
 -- what was gathered by the keys
-pub by_keys : (written : List Name) (direct : List ℕ) (children : List Child) (heir : Child) (before mid all row : List ℕ)
+pub by_keys : (written : List Name) (direct : List ℕ) (children : List Child) (heir : Child)
+    (before mid all row : List ℕ)
     → before ≡ [] → Gains (IsWrittenAt (map child_key children) heir.up written) before mid
     → Gains (IsInheritedAt (map child_key children) direct heir.name) mid all → Lists (Contains all) row
     → Lists (DirectByAt written direct children heir) row
@@ -58,14 +60,17 @@ by_keys written direct children heir before mid all row none g h =
 
       to : (k : ℕ) → Contains all k → DirectByAt written direct children heir k
       to k c = elim ((h k).0 c) [
-        | inl m ↦ to_written k ((gains_exact (IsWrittenAt (map child_key children) heir.up written) before mid none g k).0 m)
+        | inl m ↦
+            to_written k
+            ((gains_exact (IsWrittenAt (map child_key children) heir.up written) before mid none g k).0 m)
         | inr a ↦ to_inherited k a
       ]
 
       by_super : (k : ℕ) (super : Child) → slice_get children k ≡ Some super → DirectBy written direct heir super
           → Contains all k
       by_super k super at (writes_it u c) =
-          (h k).1 (inl ((g k).1 (inr (c.0, super.name, c.1, c.2, key_of_child children super k heir.up super.name at (sym u) refl))))
+          let e = key_of_child children super k heir.up super.name at (sym u) refl in
+          (h k).1 (inl ((g k).1 (inr (c.0, super.name, c.1, c.2, e))))
       by_super k super at (inherits_it n c) =
           (h k).1 (inr (c.0, super.up, c.1, c.2, key_of_child children super k super.up heir.name at refl (sym n)))
 

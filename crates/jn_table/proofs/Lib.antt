@@ -31,3 +31,4 @@ pub mod Located
 pub mod Grouped
 pub mod Nears
 pub mod EachOnce
+pub mod NamePlaces

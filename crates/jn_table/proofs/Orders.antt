@@ -1,5 +1,6 @@
 -- The declared names in order.
-use Rattle.std.proofs.Common.{◌≡◌, ◌<◌, ℕ, List, [], ◌∷◌, Contains, ◌↔◌, refl, ap, subst, sym, ◌∙◌, IsPermutation, length, slice_get, Some, map, arith, zero, suc, inl, inr, take, ◌≤◌}
+use Rattle.std.proofs.Common.{◌≡◌, ◌<◌, ◌≤◌, ◌⊎◌, ℕ, List, [], ◌∷◌, Contains, ◌↔◌, refl, ap, subst, sym, ◌∙◌}
+use Rattle.std.proofs.Common.{IsPermutation, length, slice_get, Some, map, arith, zero, suc, inl, inr, take}
 use Rattle.std.specs.List.{AllByRecursion}
 use Rattle.std.specs.declared.cmp.Ordering.{Ordering}
 use Rattle.std.specs.declared.cmp.Ordering.TheVariants.{Less, Equal, Greater}
@@ -206,8 +207,38 @@ ordered texts es order o = record { distinct = distinct; declared = declared } w
     ]
   ]
 
-  declared : (P : Path) (C : Name) → DeclaresIn es P C → (j : ℕ) × (slice_get order j ≡ Some C)
-  declared P C a =
+  declared : (P : Path) (C : Name) → DeclaresIn es P C → ((j : ℕ) → slice_get order j ≡ Some C → ⊥) → ⊥
+  declared P C a missing =
       let n = subst (Contains (map entry_name es)) a.4.0 (name_in es a.1 (a.0, a.2, a.3)) in
       let c = (o.exact C).1 n in
-      (c.0, slice_get_read order (length order) c.0 C refl c.1 (sym c.2))
+      missing c.0 (slice_get_read order (length order) c.0 C refl c.1 (sym c.2))
+
+names_differ : (a b : Name) → (a ≡ b) ⊎ (a ≡ b → ⊥)
+names_differ a b = elim (cases_lt a.0 b.0) [
+  | inl below ↦ inr (λ e. let n : a.0 ≡ b.0 = ap (λ (x : Name). x.0) e in omega (arith, below, n))
+  | inr past ↦ elim (cases_lt b.0 a.0) [
+    | inl above ↦ inr (λ e. let n : a.0 ≡ b.0 = ap (λ (x : Name). x.0) e in omega (arith, above, n))
+    | inr same ↦ let n : a.0 ≡ b.0 = omega (arith, past, same) in inl (ap (λ (k : ℕ). record { 0 = k }) n)
+  ]
+]
+
+at_or_nowhere : (order : List Name) (C : Name)
+    → ((j : ℕ) × (slice_get order j ≡ Some C)) ⊎ ((j : ℕ) → slice_get order j ≡ Some C → ⊥)
+at_or_nowhere [] C = inr (λ j at. cc at)
+at_or_nowhere (D ∷ ns) C = elim (names_differ D C) [
+  | inl same ↦ inl (0, ap Some same)
+  | inr other ↦ elim (at_or_nowhere ns C) [
+    | inl there ↦ inl (suc there.0, there.1)
+    | inr nowhere ↦ inr (λ j at. not_here other nowhere j at)
+  ]
+] where
+  not_here : (D ≡ C → ⊥) → ((j : ℕ) → slice_get ns j ≡ Some C → ⊥) → (j : ℕ) → slice_get (D ∷ ns) j ≡ Some C → ⊥
+  not_here other nowhere zero at = other (let e : D ≡ C = cc at in e)
+  not_here other nowhere (suc j) at = nowhere j at
+
+pub declared_at : (es : List Entry) (order : List Name) → IsOrdered es order → (P : Path) (C : Name)
+    → DeclaresIn es P C → (j : ℕ) × (slice_get order j ≡ Some C)
+declared_at es order o P C a = elim (at_or_nowhere order C) [
+  | inl there ↦ there
+  | inr nowhere ↦ absurd (o.declared P C a nowhere)
+]

@@ -2,6 +2,7 @@
 use Rattle.std.specs.Prelude.{◌≡◌, ◌+◌, ℕ, List, [], ◌∷◌, ◌++◌, take, slice_get, Some}
 use Rattle.std.specs.declared.vec.Vec.{Vec}
 use Rattle.std.specs.declared.alloc.Global.{Global}
+use Rattle.jn_reach.specs.Each.{Each}
 use Rattle.jn_base.specs.declared.tree.Name.{Name}
 use Rattle.jn_table.specs.Gather.{MembersAt}
 use Rattle.jn_table.specs.declared.entry.Entry.{Entry}
@@ -15,11 +16,16 @@ pub data Picks (S : Name → Type 0) (up : ℕ) : List Name → List Child → T
       → Picks S up (C ∷ ns) (record { up = up; name = C } ∷ cs)
   skips : {C : Name} {ns : List Name} {cs : List Child} → (S C → ⊥) → Picks S up ns cs → Picks S up (C ∷ ns) cs
 
--- behind what was there they stand, as far as there is room
-pub record AddsPicked (S : Name → Type 0) (up room : ℕ) (order : List Name) (before after : List Child) : Type 0 where
-  pub picked : List Child
-  pub picks : Picks S up order picked
-  pub is : after ≡ take room (before ++ picked)
+-- the child is under the path of that number, and its name stands at k in the order
+pub record IsChildAt (order : List Name) (up k : ℕ) (c : Child) : Type 0 where
+  pub name_at : slice_get order k ≡ Some c.name
+  pub under : c.up ≡ up
+
+-- behind what was there stand the members of those places, as far as there is room
+pub record AddsPicked (order : List Name) (picked : List ℕ) (up room : ℕ) (before after : List Child) : Type 0 where
+  pub added : List Child
+  pub each : Each (IsChildAt order up) picked added
+  pub is : after ≡ take room (before ++ added)
 
 -- C is a member of the path of that number, by its row of supers
 pub record MemberOf (es : List Entry) (level : Level) (up : ℕ) (C : Name) : Type 0 where

@@ -23,7 +23,7 @@ use Rattle.jn_table.specs.declared.depths.Found.TheVariants as found
 -- the list has each declared name, each once
 pub record IsOrdered (es : List Entry) (order : List Name) : Type 0 where
   pub distinct : AreDistinct order
-  pub declared : (P : Path) (C : Name) → DeclaresIn es P C → (j : ℕ) × (slice_get order j ≡ Some C)
+  pub declared : (P : Path) (C : Name) → DeclaresIn es P C → ((j : ℕ) → slice_get order j ≡ Some C → ⊥) → ⊥
 
 -- the entries are the declarations of p, and the list has their names in order
 pub record AreOf (p : Program) (es : List Entry) (order : List Name) : Type 0 where

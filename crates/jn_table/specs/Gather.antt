@@ -80,26 +80,15 @@ IsKindAt es kind i = (e : Entry) × (slice_get es i ≡ Some e) × (e.kind ≡ k
 abbrev pub HasNameAt : List Entry → Part → Name → ℕ → Type 0
 HasNameAt es part D i = (e : Entry) × (slice_get es i ≡ Some e) × Contains (part_of part e) D
 
--- the entry of that number is a declaration of D, has D
-abbrev pub NamedAt : List Entry → Name → ℕ → Type 0
-NamedAt es D i = (e : Entry) × (slice_get es i ≡ Some e) × (e.name ≡ D)
-
+-- the entry of that number is a declaration of C, and has D
 abbrev pub PartOf : List Entry → Name → Part → Name → ℕ → Type 0
 PartOf es C part D i = (e : Entry) × (slice_get es i ≡ Some e) × (e.name ≡ C) × Contains (part_of part e) D
 
 -- one of those numbers
-abbrev pub NamedAmong : List Entry → List ℕ → Name → Type 0
-NamedAmong es row D = Any (NamedAt es D) row
-
 abbrev pub PartAmong : List Entry → Name → Part → List ℕ → Name → Type 0
 PartAmong es C part row D = Any (PartOf es C part D) row
 
 -- one of the numbers of the n-th row
-pub record NamedIn (es : List Entry) (inside : Graph) (D : Name) (n : ℕ) : Type 0 where
-  pub row : Vec ℕ Global
-  pub at : slice_get inside n ≡ Some row
-  pub has : NamedAmong es row.items D
-
 pub record PartIn (es : List Entry) (C : Name) (part : Part) (inside : Graph) (D : Name) (n : ℕ) : Type 0 where
   pub row : Vec ℕ Global
   pub at : slice_get inside n ≡ Some row

@@ -17,3 +17,4 @@ pub mod OwnParts
 pub mod Places
 pub mod Groups
 pub mod Near
+pub mod NamePlaces

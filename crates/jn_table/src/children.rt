@@ -1,29 +1,31 @@
-ghost use Rattle.std.specs.Prelude.{◌≡◌, ◌<◌, ◌≤◌, ◌++◌, take, All, Contains, IfOk, OnOk, length, vec_len};
+ghost use Rattle.std.specs.Prelude.{◌<◌, ◌≤◌, All, IfOk, OnOk, length, vec_len};
+ghost use Rattle.jn_table.specs.Children.{AddsPicked, ChildrenFront};
+ghost use Rattle.jn_table.specs.Depths.{IsOrdered};
 ghost use Rattle.jn_table.specs.Gather.{AreInside};
 ghost use Rattle.jn_table.specs.Level.{IsShaped};
-ghost use Rattle.jn_table.specs.Children.{AddsPicked, ChildrenFront};
 
 use crate::entry::Entry;
-use crate::gather::declared;
 use crate::level::{Child, Level};
-use jn_base::compare::has_name;
+use crate::named::{declared_places, name_places};
 use jn_base::tree::Name;
 use std::alloc::{AllocError, Global};
 
-/// Adds those of the ordered names that are members, in order, where there is room.
+/// Adds the members of a path by the places of their names in the order, where there is room.
 fn add_picked(
     all: &mut Vec<Child>,
     order: &[Name],
-    members: &[Name],
+    picked: &[usize],
     up: usize,
     room: usize,
 ) -> Result<(), AllocError>
-    requires { vec_len all.old ≤ room }
-    ensures { OnOk result (AddsPicked (Contains members.now) up room order.now all.old.items all.new.items) }
+    requires room { vec_len all.old ≤ room }
+    requires picked { All (λ k. k < length order.now) picked.now }
+    ensures { OnOk result (AddsPicked order.now picked.now up room all.old.items all.new.items) }
 {
-    for name in order {
-        if all.len() < room && has_name(members, *name) {
-            all.push(Child { up, name: *name })?;
+    for place in picked {
+        if all.len() < room {
+            let name = order[*place];
+            all.push(Child { up, name })?;
         }
     }
     Ok(())
@@ -38,15 +40,17 @@ pub fn children(
     inside: &[Vec<usize>],
     room: usize,
 ) -> Result<Vec<Child>, AllocError>
+    requires ordered { IsOrdered entries.now order.now }
     requires shaped { IsShaped level.now }
     requires inside { AreInside entries.now level.now.paths.items inside.now }
     ensures { IfOk result (λ all.
         ChildrenFront entries.now order.now level.now (length level.now.paths.items) room all.items) }
 {
+    let places = name_places(alloc, order, entries)?;
     let mut all = Vec::new(alloc);
     for up in 0..level.paths.len() {
-        let members = declared(alloc, entries, inside, &level.sups[up])?;
-        add_picked(&mut all, order, &members, up, room)?;
+        let picked = declared_places(alloc, &places, inside, &level.sups[up])?;
+        add_picked(&mut all, order, &picked, up, room)?;
     }
     Ok(all)
 }

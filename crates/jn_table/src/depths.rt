@@ -1,5 +1,5 @@
 ghost use Rattle.std.specs.Prelude.{◌≡◌, ◌<◌, ◌≤◌, length, IfOk};
-ghost use Rattle.jn_table.specs.Depths.{Answers, Fits, IsBelow};
+ghost use Rattle.jn_table.specs.Depths.{Answers, Fits, IsBelow, IsOrdered};
 ghost use Rattle.jn_table.specs.Level.{IsShaped};
 
 use crate::children::children;
@@ -37,6 +37,7 @@ fn depth_below(
     level: &Level,
     room: usize,
 ) -> Result<Below, AllocError>
+    requires ordered { IsOrdered entries.now order.now }
     requires few { length level.now.paths.items ≤ 4096 }
     requires shaped { IsShaped level.now }
     requires some { 0 < room }
@@ -59,6 +60,7 @@ fn depth_below(
 /// The paths of a universe, depth by depth: each depth has the members of the one above it, up to the last
 /// that has any.
 pub fn depths(alloc: Global, entries: &[Entry], order: &[Name]) -> Result<Found, AllocError>
+    requires { IsOrdered entries.now order.now }
     ensures exact { IfOk result (λ found. Answers entries.now order.now found) }
     ensures fits { IfOk result (λ found. Fits found) }
 {

@@ -1,6 +1,7 @@
 ghost use Rattle.std.specs.Prelude.{◌≡◌, ◌≤◌, IfOk, IfErr, length, map};
 ghost use Rattle.jn_reach.specs.Graph.{IsClosure};
 ghost use Rattle.jn_base.specs.Paths.{shown};
+ghost use Rattle.jn_table.specs.Depths.{IsOrdered};
 ghost use Rattle.jn_table.specs.Fills.{FillsAll, NodesAll, UniverseAll, RefusesAll};
 ghost use Rattle.jn_table.specs.Universes.{FitUniverse, RowsOf};
 ghost use Rattle.jn_table.specs.Nodes.{FitNodes};
@@ -45,6 +46,7 @@ fn known_of(alloc: Global, paths: &[Route]) -> Result<Vec<Path>, AllocError>
 
 /// The paths of a universe, where they are not too many.
 fn nodes_of(alloc: Global, entries: &[Entry], order: &[Name]) -> Result<Nodes, TableFault>
+    requires { IsOrdered entries.now order.now }
     ensures fits { IfOk result (λ nodes. FitNodes nodes) }
     ensures ok { IfOk result (λ nodes. NodesAll entries.now order.now nodes) }
     ensures err { IfErr result (λ fault. RefusesAll entries.now order.now fault) }
@@ -61,6 +63,7 @@ fn nodes_of(alloc: Global, entries: &[Entry], order: &[Name]) -> Result<Nodes, T
 
 /// The universe of the entries, where its paths are not too many.
 fn universe_in(alloc: Global, entries: &[Entry], order: &[Name]) -> Result<Universe, TableFault>
+    requires { IsOrdered entries.now order.now }
     ensures fits { IfOk result (λ universe. FitUniverse universe) }
     ensures closed { IfOk result (λ universe. IsClosure universe.nodes.direct.items universe.sups.items) }
     ensures ok { IfOk result (λ universe. UniverseAll entries.now order.now universe) }
@@ -99,6 +102,7 @@ pub fn fill_all(
     entries: &[Entry],
     order: &[Name],
 ) -> Result<Rows, TableFault>
+    requires { IsOrdered entries.now order.now }
     ensures few { IfOk result (λ all. length all.known.items ≤ 4096) }
     ensures paired { IfOk result (λ all. length all.rows.items ≡ length all.known.items) }
     ensures places { IfOk result (λ all. ArePlaces all.known.items all.places.items) }

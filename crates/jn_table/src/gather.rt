@@ -1,11 +1,11 @@
 ghost use Rattle.std.specs.Prelude.{◌≡◌, ◌<◌, ◌↔◌, All, Any, Contains, IsTrue, IfOk, OnOk, length};
 ghost use Rattle.jn_base.specs.declared.tree.Name.{Name as AName};
-ghost use Rattle.jn_table.specs.Gather.{Gains, part_of, AreInside, NamedAmong, NamedIn, PartAmong, PartIn};
+ghost use Rattle.jn_table.specs.Gather.{Gains, part_of, AreInside, PartAmong, PartIn};
 
 use crate::entry::Entry;
 use crate::groups::{grouped, namespace_keys, rows_at};
 use crate::route::Route;
-use jn_base::compare::{has_name, is_name};
+use jn_base::compare::is_name;
 use jn_base::tree::Name;
 use std::alloc::{AllocError, Global};
 
@@ -89,39 +89,6 @@ pub fn parts(
     let mut all = Vec::new(alloc);
     for at in numbers {
         add_part(&mut all, entries, &inside[*at], name, part)?;
-    }
-    Ok(all)
-}
-
-/// Adds the names of those of the entries, each that isn't there yet.
-fn add_declared(all: &mut Vec<Name>, entries: &[Entry], row: &[usize]) -> Result<(), AllocError>
-    requires { All (λ i. i < length entries.now) row.now }
-    ensures { OnOk result (Gains (NamedAmong entries.now row.now) all.old.items all.new.items) }
-{
-    for number in row {
-        let entry = &entries[*number];
-        if !has_name(all, entry.name) {
-            all.push(entry.name)?;
-        }
-    }
-    Ok(())
-}
-
-/// The names that are declared in one of the namespaces of those numbers.
-pub fn declared(
-    alloc: Global,
-    entries: &[Entry],
-    inside: &[Vec<usize>],
-    numbers: &[usize],
-) -> Result<Vec<Name>, AllocError>
-    requires inside { All (λ row. All (λ i. i < length entries.now) row.items) inside.now }
-    requires numbers { All (λ n. n < length inside.now) numbers.now }
-    ensures { IfOk result (λ all. (D : AName) →
-        Contains all.items D ↔ Any (NamedIn entries.now inside.now D) numbers.now) }
-{
-    let mut all = Vec::new(alloc);
-    for at in numbers {
-        add_declared(&mut all, entries, &inside[*at])?;
     }
     Ok(all)
 }

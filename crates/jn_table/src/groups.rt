@@ -1,4 +1,4 @@
-//! The places of keys, key by key: the numbers of the entries, or of the paths, that go with one path are found by
+//! The places of keys, key by key: the numbers of the entries, or of the paths, that go with one key are found by
 //! halves.
 
 ghost use Rattle.std.specs.Prelude.{◌≡◌, ℕ, List, Some, IfOk, map, slice_get};

@@ -4,7 +4,8 @@ ghost use Rattle.jn_reach.specs.Graph.{Lists};
 ghost use Rattle.jn_table.specs.Exact.{IsNextOf, IsRoot};
 ghost use Rattle.jn_table.specs.Gather.{AreInside, Gains};
 ghost use Rattle.jn_table.specs.Groups.{IsGroups, StandsAt};
-ghost use Rattle.jn_table.specs.Level.{AreGrouped, ChildPaths, DirectByAt, DirectRow, DirectRows, IsInheritedAt, IsShaped, IsWrittenAt, child_key, key_under};
+ghost use Rattle.jn_table.specs.Level.{AreGrouped, DirectByAt, IsInheritedAt, IsWrittenAt, child_key, key_under};
+ghost use Rattle.jn_table.specs.Level.{ChildPaths, DirectRow, DirectRows, IsShaped};
 ghost use Rattle.jn_table.specs.declared.level.Child.{Child as AChild};
 
 use crate::ascending::ascending;

@@ -6,16 +6,17 @@
 //! [`Table::known`] read it. `specs/Tables` says of which program a table is and what the calls say,
 //! `specs/Rows` what a row says of a path, and `specs/Answers` why a universe is refused.
 //!
-//! How a table is made: the declarations are a list of entries (`entry`), with their names in the order of
-//! their bytes (`order`). A depth is made of the one above it: its paths are the members of the paths above,
-//! path by path and name by name (`children`), its direct supers come of the rows above (`level`), and its
-//! supers are the closure of these. `depths` goes on to the last depth that has a path, or to the 4,097th
-//! path, so it ends on every program, also where inheritance is cyclic, and never holds more paths. The
-//! depths together are one graph, whose nodes are the paths in class order (`nodes`). With the closure of its
-//! edges and with what the declarations at each path are and have (`own`) it is a `universe`, in which
-//! `judge` looks for cycles and for two kinds, and of which `row` makes the rows. `finding` has the paths in an order in
-//! which one is found by halves, and `groups` the entries by their paths and by their namespaces, and the paths
-//! by what is near them (`near`). `ways` has where each declaration is expected in the text.
+//! How a table is made: the declarations are a list of entries (`entry`), with their names in the order of their
+//! bytes (`order`). A depth is made of the one above it: its paths are the members of the paths above, path by path
+//! and name by name (`children`, by the places of the names that `named` has), its direct supers come of the rows
+//! above (`level`), and its supers are the closure of these. `depths` goes on to the last depth that has a path, or
+//! to the 4,097th path, so it ends on every program, also where inheritance is cyclic, and never holds more paths.
+//! The depths together are one graph, whose nodes are the paths in class order (`nodes`). With the closure of its
+//! edges and with what the declarations at each path are and have (`own`) it is a `universe`, in which `judge`
+//! looks for cycles and for two kinds, and of which `row` makes the rows. `finding` has the paths in an order in
+//! which one is found by halves, and `groups` the entries by their paths and by their namespaces, the paths of a
+//! depth by their names and what they are under, and the paths by what is near them (`near`). `ascending` puts
+//! numbers in order, each once, and `ways` has where each declaration is expected in the text.
 //!
 //! A [`ClassId`] is the place of its path in class order.
 #![tactic(auto)]
@@ -34,6 +35,7 @@ mod groups;
 mod judge;
 mod level;
 mod lookup;
+mod named;
 mod near;
 mod nodes;
 mod order;

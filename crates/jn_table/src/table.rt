@@ -1,4 +1,5 @@
 ghost use Rattle.std.specs.Prelude.{◌≡◌, ◌≤◌, [], length, IfOk, IfErr, IfSome, IfNone, OnOk, OnErr};
+ghost use Rattle.jn_table.specs.Depths.{IsOrdered};
 ghost use Rattle.jn_table.specs.Own.{AreDeclared};
 ghost use Rattle.jn_table.specs.Places.{ArePlaces};
 
@@ -31,6 +32,7 @@ pub struct Table {
     places: Vec<Located>,
     declared: Vec<Vec<usize>>,
     ways: Vec<Vec<usize>>,
+    ghost ordered: { IsOrdered entries.items order.items },
     ghost few: { length known.items ≤ 4096 },
     ghost paired: { length rows.items ≡ length known.items },
     ghost placed: { ArePlaces known.items places.items },

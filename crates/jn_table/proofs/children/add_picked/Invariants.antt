@@ -1,7 +1,7 @@
-use Rattle.std.proofs.Common.{take, Contains}
+use Rattle.std.proofs.Common.{take}
 use Rattle.jn_table.specs.Children.{AddsPicked}
 use Rattle.jn_table.proofs.children.add_picked.Given as goal
 
-abbrev pub invariant-loop-name : goal.invariant-loop-name
-invariant-loop-name l =
-    AddsPicked (Contains l.members) l.up l.room (take l.name-index l.order) l.initial.all.items l.all.items
+abbrev pub invariant-loop-place : goal.invariant-loop-place
+invariant-loop-place l =
+    AddsPicked l.order (take l.place-index l.picked) l.up l.room l.initial.all.items l.all.items

@@ -3,7 +3,9 @@ use Rattle.jn_table.proofs.DepthSteps.{stage_root, stage_next, stage_few, stage_
 use Rattle.jn_table.proofs.depths.depths.Goals as goal
 
 pub loop-level-init : goal.loop-level-init
-loop-level-init c = stage_root _ _ _ _ c.new.ensures.items c.new-2.ensures.items c.in_ok-level.ensures.one c.in_ok-level.ensures.shaped c.in_ok-level.ensures.exact
+loop-level-init c =
+    stage_root _ _ _ _ c.new.ensures.items c.new-2.ensures.items c.in_ok-level.ensures.one
+    c.in_ok-level.ensures.shaped c.in_ok-level.ensures.exact
 
 pub returns-in-Nothing-clause-exact : goal.returns-in-Nothing-clause-exact
 returns-in-Nothing-clause-exact c =

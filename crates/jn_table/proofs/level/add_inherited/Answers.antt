@@ -16,4 +16,5 @@ loop-up-preserved c = λ keys are.
 
 pub returns : goal.returns
 returns c = λ keys are.
-    gains_all (λ (up k : ℕ). StandsAt keys (key_under up c.args.name) k) c.args.direct.now c.loop-up.up-index _ _ c.loop-up-test.false (c.loop-up.invariant keys are)
+    gains_all (λ (up k : ℕ). StandsAt keys (key_under up c.args.name) k)
+    c.args.direct.now c.loop-up.up-index _ _ c.loop-up-test.false (c.loop-up.invariant keys are)

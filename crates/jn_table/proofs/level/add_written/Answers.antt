@@ -11,10 +11,12 @@ loop-name-init c = λ keys are. gains_none (IsWrittenAt keys c.args.up []) _ (λ
 
 pub loop-name-preserved : goal.loop-name-preserved
 loop-name-preserved c = λ keys are.
-    gains_more (λ (D : Name) (k : ℕ). StandsAt keys (key_under c.args.up D) k) c.args.written.now c.loop-name.name-index _ _
-    _ _ _ c.loop-name-test.true (same_item _ _ _ c.loop-name-test.true) (λ k s. s) (λ k s. s)
+    gains_more (λ (D : Name) (k : ℕ). StandsAt keys (key_under c.args.up D) k)
+    c.args.written.now c.loop-name.name-index _ _ _ _ _ c.loop-name-test.true
+    (same_item _ _ _ c.loop-name-test.true) (λ k s. s) (λ k s. s)
     (c.loop-name.invariant keys are) (c.in_ok-add_under.ensures keys are)
 
 pub returns : goal.returns
 returns c = λ keys are.
-    gains_all (λ (D : Name) (k : ℕ). StandsAt keys (key_under c.args.up D) k) c.args.written.now c.loop-name.name-index _ _ c.loop-name-test.false (c.loop-name.invariant keys are)
+    gains_all (λ (D : Name) (k : ℕ). StandsAt keys (key_under c.args.up D) k)
+    c.args.written.now c.loop-name.name-index _ _ c.loop-name-test.false (c.loop-name.invariant keys are)

@@ -1,4 +1,5 @@
 use Rattle.std.proofs.Common.{◌∙◌, inl}
+use Rattle.jn_table.proofs.Orders.{ordered}
 use Rattle.jn_table.proofs.Shown.{no_rows}
 use Rattle.jn_table.proofs.table.Table.new.Goals as goal
 
@@ -11,3 +12,6 @@ returns-clause-table c named = record {
   rows = no_rows _ _ _ c.new.ensures.items c.new-2.ensures.items;
   asked = inl c.new.ensures.items;
 }
+
+pub invariant_of-result-clause-ordered : goal.invariant_of-result-clause-ordered
+invariant_of-result-clause-ordered c = ordered _ _ _ (rw c.deref.ensures.value at c.in_ok-order.ensures)
