@@ -18,7 +18,8 @@ ghost use Rattle.jn_expr.specs.Told.{PlanTold};
 ghost use Rattle.jn_base.specs.Fits.{TypeFits};
 ghost use Rattle.jn_expr.specs.Values.{IsValue, TypedFits, typed_in};
 ghost use Rattle.jn_expr.specs.Steps.{LeadsTold, entered, passed_in};
-ghost use Rattle.jn_expr.specs.Calling.{body_of, OwnerLeads, receiver_left, called, Begins, IsBegun, DeepAs, CallFits, arg_left, IsPassed};
+ghost use Rattle.jn_expr.specs.Calling.{body_of, OwnerLeads, receiver_left, called, Begins, IsBegun, DeepAs, CallFits};
+ghost use Rattle.jn_expr.specs.Calling.{arg_left, IsPassed};
 
 use crate::env::{Call, Env, Value};
 use crate::fault::refused;

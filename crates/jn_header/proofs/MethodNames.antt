@@ -35,12 +35,15 @@ same_body b c e f i = record { class = e i; method = f i }
 pub none_other : (p : Program) (b : Body) (m : Name) (S : Path) → HeadIs p S m None → IsOtherAt p b m S → ⊥
 none_other p b m S h o = h o.body.method o.at
 
-module _ (p : Program) (ok : DeclarationsPass p) (named : IsNamed p) (b : Body) (m : Name) (S : Path) (own x : BodyHead) (is : IsHeadOf p b own) (h : HeadIs p S m (Some x)) where
+module _ (p : Program) (ok : DeclarationsPass p) (named : IsNamed p) (b : Body) (m : Name) (S : Path) (own x : BodyHead)
+    (is : IsHeadOf p b own) (h : HeadIs p S m (Some x)) where
   its : (o : IsOtherAt p b m S) → o.body ≡ body_at S h.0
   its o = same_body o.body (body_at S h.0) o.class (one_method_at p ok.once S m o.body.method h.0 o.at h.1)
 
   pub other_told : (r : Bool) → IsTrue r ↔ (head_signature own ≡ head_signature x) → Answers (IsOtherAt p b m S) (not r)
-  other_told true f = λ o. o.other (subst (λ (c : Body). SameSignature p b c) (sym (its o)) (signatures_same p ok named b (body_at S h.0) own x is h.2 (f.0 refl)))
+  other_told true f =
+      λ o. o.other (subst (λ (c : Body). SameSignature p b c) (sym (its o))
+      (signatures_same p ok named b (body_at S h.0) own x is h.2 (f.0 refl)))
   other_told false f = record {
     body = body_at S h.0;
     class = refl;
@@ -55,11 +58,16 @@ module _ (p : Program) (ok : DeclarationsPass p) (named : IsNamed p) (b : Body) 
 pub other_in : (p : Program) (b : Body) (m : Name) (R S : Path) → Sup p R S → IsOtherAt p b m S → IsOtherIn p b m R
 other_in p b m R S s o = record {
   body = o.body;
-  is = record { super = subst (λ (Q : Path). Sup p R Q) (sym o.class) s; at = subst (λ (Q : Path). MethodAt p Q m o.body.method) (sym o.class) o.at };
+  is =
+      record {
+        super = subst (λ (Q : Path). Sup p R Q) (sym o.class) s;
+        at = subst (λ (Q : Path). MethodAt p Q m o.body.method) (sym o.class) o.at;
+      };
   other = o.other;
 }
 
-pub none_in : (p : Program) (b : Body) (m : Name) (R : Path) → ((S : Path) → Sup p R S → IsOtherAt p b m S → ⊥) → IsOtherIn p b m R → ⊥
+pub none_in : (p : Program) (b : Body) (m : Name) (R : Path) → ((S : Path) → Sup p R S → IsOtherAt p b m S → ⊥)
+    → IsOtherIn p b m R → ⊥
 none_in p b m R none o = none o.body.class o.is.super (record { body = o.body; class = refl; at = o.is.at; other = o.other })
 
 -- ---- all that declare the method

@@ -1,5 +1,6 @@
 -- Numbers and paths: the supers of a class one by one, and the classes of a table one by one.
-use Rattle.std.proofs.Common.{◌≡◌, ◌<◌, ◌≤◌, ◌+◌, ℕ, zero, suc, List, [], ◌∷◌, length, map, get_or, slice_get, Contains, Some, inl, inr, refl, sym, subst, arith}
+use Rattle.std.proofs.Common.{◌≡◌, ◌<◌, ◌≤◌, ◌+◌, ℕ, zero, suc, List, [], ◌∷◌, length, map, get_or, slice_get, Contains}
+use Rattle.std.proofs.Common.{Some, inl, inr, refl, sym, subst, arith}
 use Rattle.std.proofs.lemmas.Bool.{cases_lt}
 use Rattle.std.proofs.lemmas.Option.{slice_get_read, slice_get_within, get_or_from_slice_get, slice_get-get_or}
 use Rattle.jn_reach.proofs.Eachs.{Each-at, Each-back}
@@ -32,7 +33,8 @@ EachTo P known ids i = (j : ℕ) (id : ClassId) (S : Path) → j < i → slice_g
 pub each_start : (P : Path → Type 0) (known : List ShownPath) (ids : List ClassId) → EachTo P known ids 0
 each_start P known ids j id S l a n = absurd (omega (arith, l))
 
-pub each_more : (P : Path → Type 0) (known : List ShownPath) (ids : List ClassId) (i : ℕ) (d : ClassId) → i < length ids → EachTo P known ids i
+pub each_more : (P : Path → Type 0) (known : List ShownPath) (ids : List ClassId) (i : ℕ) (d : ClassId) → i < length ids
+    → EachTo P known ids i
     → ((S : Path) → IsNumber known (get_or ids i d) S → P S) → EachTo P known ids (i + 1)
 each_more P known ids i d l h one = λ j id S k a n. elim (cases_lt j i) [
   | inl below ↦ h j id S below a n
@@ -46,7 +48,8 @@ each_more P known ids i d l h one = λ j id S k a n. elim (cases_lt j i) [
 module _ (p : Program) (known : List ShownPath) (T : Path → Type 0) (ids : List ClassId) (are : AreClasses p known T ids) where
   pub path_at : (i : ℕ) (d : ClassId) → i < length ids → (S : Path) × IsNumber known (get_or ids i d) S × T S
   path_at i d l =
-      let e = Each-back (λ (S : Path) (id : ClassId). IsNumber known id S) are.numbered i (get_or ids i d) (slice_get-get_or ids i d l) in
+      let e = Each-back (λ (S : Path) (id : ClassId). IsNumber known id S) are.numbered i (get_or ids i d)
+      (slice_get-get_or ids i d l) in
       (e.0, e.2, (are.are.exact e.0).0 (contained are.paths i e.0 e.1))
 
   pub number_of : (S : Path) → T S → (id : ClassId) × IsNumber known id S
@@ -73,7 +76,8 @@ NoneAt T known i = (k : ℕ) (Q : Path) → k < i → slice_get known k ≡ Some
 pub none_at_start : (T : Path → Type 0) (known : List ShownPath) → NoneAt T known 0
 none_at_start T known k Q l a t = omega (arith, l)
 
-pub none_at_more : (T : Path → Type 0) (known : List ShownPath) (i : ℕ) → NoneAt T known i → ((R : Path) → slice_get known i ≡ Some (shown R) → T R → ⊥) → NoneAt T known (i + 1)
+pub none_at_more : (T : Path → Type 0) (known : List ShownPath) (i : ℕ) → NoneAt T known i
+    → ((R : Path) → slice_get known i ≡ Some (shown R) → T R → ⊥) → NoneAt T known (i + 1)
 none_at_more T known i h one = λ k Q l a t. elim (cases_lt k i) [
   | inl below ↦ h k Q below a t
   | inr past ↦ let same : k ≡ i = omega (arith, l, past) in one Q (subst (λ (m : ℕ). slice_get known m ≡ Some (shown Q)) same a) t
@@ -83,9 +87,12 @@ module _ (p : Program) (t : Table) (filled : IsFilled p t) where
   pub universe_of : (id : ClassId) (R : Path) → IsNumber t.known.items id R → InUniverse p R
   universe_of id R n =
       let rows = filled.table.rows in
-      rows.universe R (contained rows.paths id.0 R (place_of_number p rows.paths t.known.items rows.shown_are (in_order (class_cmp p) rows.paths rows.in_order) id R n))
+      rows.universe R (contained rows.paths id.0 R
+      (place_of_number p rows.paths t.known.items rows.shown_are (in_order (class_cmp p) rows.paths rows.in_order) id R
+      n))
 
-  shown_there : (paths : List Path) (k : ℕ) → k < length (map shown paths) → (R : Path) × (slice_get (map shown paths) k ≡ Some (shown R))
+  shown_there : (paths : List Path) (k : ℕ) → k < length (map shown paths)
+      → (R : Path) × (slice_get (map shown paths) k ≡ Some (shown R))
   shown_there [] k l = absurd (omega (arith, l))
   shown_there (R ∷ paths) zero l = (R, refl)
   shown_there (R ∷ paths) (suc k) l = shown_there paths k (omega (arith, l))
@@ -97,7 +104,8 @@ module _ (p : Program) (t : Table) (filled : IsFilled p t) where
       (w.0, subst (λ (xs : List ShownPath). slice_get xs k ≡ Some (shown w.0)) (sym e) w.1)
 
   module _ (T : Path → Type 0) (within : (R : Path) → T R → InUniverse p R) where
-    pub first_of_table : (i : ℕ) (R : Path) → slice_get t.known.items i ≡ Some (shown R) → NoneAt T t.known.items i → T R → IsFirst p T R
+    pub first_of_table : (i : ℕ) (R : Path) → slice_get t.known.items i ≡ Some (shown R) → NoneAt T t.known.items i
+        → T R → IsFirst p T R
     first_of_table i R at none holds = record { holds = holds; first = earlier } where
       earlier : (Q : Path) → T Q → Before p Q R → ⊥
       earlier Q v before =

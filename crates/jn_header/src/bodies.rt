@@ -60,7 +60,8 @@ fn pledges_of(
     constraints: &[Constraint],
 ) -> Result<Vec<Pledge>, CheckFault>
     requires judged { IsJudged p.now t.old masks.now }
-    requires declared { (m : AMethod) × (m.name.name ≡ method) × (m.sharing ≡ constraints.now) × MethodAt p.now class.now method m }
+    requires declared { (m : AMethod) × (m.name.name ≡ method) × (m.sharing ≡ constraints.now)
+        × MethodAt p.now class.now method m }
     ensures told { OrMemory (λ all. Each (IsPledge p.now class.now method) constraints.now all.items) result }
     ensures kept { t.new ≡ t.old }
 {
@@ -179,7 +180,8 @@ fn heads_of(
 /// The path of a number.
 pub fn class_of(alloc: Global, t: &Table, id: ClassId) -> Result<Bound, AllocError>
     requires { IsFilledAt t.now id }
-    ensures { IfOk result (λ class. (p : AProgram) (R : APath) → IsTableOf p t.now → IsNumber t.now.known.items id R → class ≡ R) }
+    ensures { IfOk result (λ class. (p : AProgram) (R : APath) → IsTableOf p t.now
+        → IsNumber t.now.known.items id R → class ≡ R) }
 {
     Bound::of(alloc, t.row(id).path.names.as_slice())
 }

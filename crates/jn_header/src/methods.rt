@@ -97,7 +97,8 @@ fn differs(bodies: &Bodies, own: &BodyHead, name: Name, id: ClassId, sups: &[Cla
 /// Whether a method name of a class has no least body, or some body of it has another signature than the least one.
 fn is_bad(t: &Table, bodies: &Bodies, id: ClassId, name: &Name) -> bool
     requires { IsFilledAt t.now id }
-    ensures { (p : Program) (R : APath) → AreBodies p t.now bodies.now → IsNumber t.now.known.items id R → Answers (BadMethod p R name.now) result }
+    ensures { (p : Program) (R : APath) → AreBodies p t.now bodies.now → IsNumber t.now.known.items id R
+        → Answers (BadMethod p R name.now) result }
 {
     match bodies.members.least(id, *name) {
         Least::None => false,
@@ -112,7 +113,8 @@ fn is_bad(t: &Table, bodies: &Bodies, id: ClassId, name: &Name) -> bool
 /// The first of the method names that is bad.
 fn first_bad(t: &Table, bodies: &Bodies, id: ClassId, names: &[Name]) -> Option<Name>
     requires { IsFilledAt t.now id }
-    ensures { (p : Program) (R : APath) → AreBodies p t.now bodies.now → IsNumber t.now.known.items id R → FirstOf (BadMethod p R) names.now result }
+    ensures { (p : Program) (R : APath) → AreBodies p t.now bodies.now → IsNumber t.now.known.items id R
+        → FirstOf (BadMethod p R) names.now result }
 {
     for name in names {
         if is_bad(t, bodies, id, name) {
@@ -125,7 +127,8 @@ fn first_bad(t: &Table, bodies: &Bodies, id: ClassId, names: &[Name]) -> Option<
 /// The first method name of a class, by its bytes, that is bad; none where no name is.
 pub fn bad_method(t: &Table, bodies: &Bodies, id: ClassId) -> Option<Name>
     requires { IsFilledAt t.now id }
-    ensures { (p : Program) (R : APath) → AreBodies p t.now bodies.now → IsNumber t.now.known.items id R → FirstBad p (BadMethod p R) result }
+    ensures { (p : Program) (R : APath) → AreBodies p t.now bodies.now → IsNumber t.now.known.items id R
+        → FirstBad p (BadMethod p R) result }
 {
     first_bad(t, bodies, id, &t.row(id).methods)
 }

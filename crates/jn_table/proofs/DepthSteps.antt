@@ -1,5 +1,7 @@
 -- How the loop goes from one depth to the next.
-use Rattle.std.proofs.Common.{◌≡◌, ◌<◌, ◌≤◌, ◌+◌, ◌-◌, ℕ, List, [], ◌∷◌, ◌++◌, length, slice_get, Some, get_or, take, map, arith, sym, ◌∙◌, ap, subst, refl, zero, suc, inl, inr, All, Contains, Bool, true, false, nat_eq, length-append}
+use Rattle.std.proofs.Common.{◌≡◌, ◌<◌, ◌≤◌, ◌+◌, ◌-◌, ℕ, List, [], ◌∷◌, ◌++◌, length, slice_get, Some, get_or, take}
+use Rattle.std.proofs.Common.{map, arith, sym, ◌∙◌, ap, subst, refl, zero, suc, inl, inr, All, Contains, Bool, true}
+use Rattle.std.proofs.Common.{false, nat_eq, length-append}
 use Rattle.std.specs.declared.vec.Vec.{Vec}
 use Rattle.std.specs.declared.alloc.Global.{Global}
 use Rattle.std.specs.List.Sorted.{IsStrictlyIncreasing}
@@ -189,7 +191,8 @@ stage_next es order nodes after level below room children s f l shaped cp next a
         front = subst (FrontPaths p (r.depth + 1)) (sym adds.paths)
             (front_joined p r.depth nodes.paths.items below.paths.items r.front ys);
         direct = subst (λ (ps : List Path). Numbers (Direct p) ps (HasEdge after.direct.items)) (sym adds.paths)
-            (numbers_joined (Direct p) nodes.paths.items below.paths.items nodes.direct.items below.direct.items after.direct.items
+            (numbers_joined (Direct p) nodes.paths.items below.paths.items nodes.direct.items below.direct.items
+            after.direct.items
             (s.fits).long r.direct here.direct adds.direct);
       }
 

@@ -1,5 +1,6 @@
 -- How loops gather things.
-use Rattle.std.proofs.Common.{◌≡◌, ◌<◌, ◌≤◌, ◌+◌, ℕ, List, [], ◌∷◌, ◌++◌, length, Contains, slice_get, Some, arith, sym, ◌∙◌, ap, subst, refl, inl, inr, take, get_or, ◌⊎◌, ◌↔◌}
+use Rattle.std.proofs.Common.{◌≡◌, ◌<◌, ◌≤◌, ◌+◌, ℕ, List, [], ◌∷◌, ◌++◌, length, Contains, slice_get, Some, arith, sym}
+use Rattle.std.proofs.Common.{◌∙◌, ap, subst, refl, inl, inr, take, get_or, ◌⊎◌, ◌↔◌}
 use Rattle.std.specs.List.{Any}
 use Rattle.std.specs.declared.vec.Vec.{Vec}
 use Rattle.std.specs.declared.alloc.Global.{Global}

@@ -41,7 +41,9 @@ pub struct Table {
 
 impl Table {
     ghost use Rattle.jn_base.specs.ProgramNames.{IsNamed};
-    ghost use Rattle.jn_table.specs.Tables.{IsTableOf, IsFilledAt, IsPathOf, HasNoNumber, StaysTable, KeepsNumbers, SaysFilled, SaysRefused, SaysRow, SaysSup, SaysBefore, numbered, filled_paths};
+    ghost use Rattle.jn_table.specs.Tables.{IsTableOf, IsFilledAt, IsPathOf, HasNoNumber, StaysTable, KeepsNumbers};
+    ghost use Rattle.jn_table.specs.Tables.{SaysFilled, SaysRefused, SaysRow, SaysSup, SaysBefore, numbered};
+    ghost use Rattle.jn_table.specs.Tables.{filled_paths};
     ghost use Rattle.jn_table.specs.OwnParts.{SaysMethods, SaysFields};
 
     /// The table of a program, which knows no path yet. It holds the program's declarations.

@@ -6,10 +6,13 @@ use Rattle.jn_header.proofs.MethodNames.{none_bad, many_bad, has_least, bad_told
 use Rattle.jn_header.proofs.methods.is_bad.Goals as goal
 
 pub returns-in-None : goal.returns-in-None
-returns-in-None c = λ p R bo n. none_bad p c.args.t.now.known.items R c.args.name.now (c.in-None.ensures p c.args.t.now R bo.members n)
+returns-in-None c =
+    λ p R bo n. none_bad p c.args.t.now.known.items R c.args.name.now (c.in-None.ensures p c.args.t.now R bo.members n)
 
 pub returns-in-Many : goal.returns-in-Many
-returns-in-Many c = λ p R bo n. many_bad p c.args.t.now.known.items R c.args.name.now c.in-Many.field-0 c.in-Many.field-1 (c.in-Many.ensures p c.args.t.now R bo.members n)
+returns-in-Many c =
+    λ p R bo n. many_bad p c.args.t.now.known.items R c.args.name.now c.in-Many.field-0 c.in-Many.field-1
+    (c.in-Many.ensures p c.args.t.now R bo.members n)
 
 pub returns-in-None-least_head : goal.returns-in-None-least_head
 returns-in-None-least_head c = λ p R bo n bad.
@@ -21,4 +24,5 @@ returns-in-Some c = λ p R bo n.
     let h = c.in-Some.ensures p c.args.t.now R bo n in
     bad_told p bo.declarations bo.members.filled.table.named R c.args.name.now h.0 h.1 c.differs.result
     (c.differs.ensures h.0 p c.args.t.now R bo n
-    (subst (λ (ids : List ClassId). AreClasses p c.args.t.now.known.items (Sup p R) ids) (sym c.deref.ensures.value) (c.row.ensures p R bo.members.filled.table n).sups) h.2)
+    (subst (λ (ids : List ClassId). AreClasses p c.args.t.now.known.items (Sup p R) ids) (sym c.deref.ensures.value)
+    (c.row.ensures p R bo.members.filled.table n).sups) h.2)

@@ -14,10 +14,12 @@ returns-then-is_other c = λ b p t R bo are is.
 
 pub loop-id-preserved : goal.loop-id-preserved
 loop-id-preserved c = λ b p t R bo are is.
-    each_more (λ (S : Path). IsOtherAt p b c.args.name S → ⊥) t.known.items c.args.sups.now c.loop-id.id-index (record { 0 = 0 }) c.loop-id-test.true
+    each_more (λ (S : Path). IsOtherAt p b c.args.name S → ⊥) t.known.items c.args.sups.now c.loop-id.id-index
+    (record { 0 = 0 }) c.loop-id-test.true
     (c.loop-id.invariant b p t R bo are is) (λ S n. not_so c.if-is_other.false (c.is_other.ensures b p t S bo n is))
 
 pub returns : goal.returns
 returns c = λ b p t R bo are is.
     none_in p b c.args.name R
-    (each_all p t.known.items (Sup p R) c.args.sups.now are (λ (S : Path). IsOtherAt p b c.args.name S → ⊥) c.loop-id.id-index (search rules) (c.loop-id.invariant b p t R bo are is))
+    (each_all p t.known.items (Sup p R) c.args.sups.now are (λ (S : Path). IsOtherAt p b c.args.name S → ⊥)
+    c.loop-id.id-index (search rules) (c.loop-id.invariant b p t R bo are is))

@@ -11,5 +11,6 @@ use Rattle.jn_header.proofs.methods.super_differs.Given as goal
 
 abbrev pub invariant-loop-id : goal.invariant-loop-id
 invariant-loop-id l =
-    (b : Body) (p : Program) (t : Table) (R : Path) → AreBodies p t l.bodies → AreClasses p t.known.items (Sup p R) l.sups → IsHeadOf p b l.own
+    (b : Body) (p : Program) (t : Table) (R : Path) → AreBodies p t l.bodies
+    → AreClasses p t.known.items (Sup p R) l.sups → IsHeadOf p b l.own
     → EachTo (λ (S : Path). IsOtherAt p b l.name S → ⊥) t.known.items l.sups l.id-index

@@ -11,8 +11,11 @@ use Rattle.jn_homes.proofs.homes.inner_near.Goals as goal
 pub returns-in-None : goal.returns-in-None
 returns-in-None c =
     undeclared_here c.args.p.now c.requires.once _ c.loop-level.decl.now _ _
-    (subst (λ (l : List Name). OnWay c.args.p.now (reverse c.args.path.now.names) c.loop-level.decl.now l) (at_get c.args.left.now c.loop-level.level (record { 0 = 0 }) c.loop-level-test.true) c.loop-level.invariant)
+    (subst (λ (l : List Name). OnWay c.args.p.now (reverse c.args.path.now.names) c.loop-level.decl.now l)
+    (at_get c.args.left.now c.loop-level.level (record { 0 = 0 }) c.loop-level-test.true) c.loop-level.invariant)
     (λ e among is. c.in-None.ensures e (subst (λ (l : List Member). Contains (nested l) e) (sym c.as_slice.ensures) among) is)
 
 pub returns : goal.returns
-returns c = declared_here c.args.p.now _ c.loop-level.decl.now _ (drop_of_length-le c.args.left.now {i = c.loop-level.level} (search rules)) c.loop-level.invariant
+returns c =
+    declared_here c.args.p.now _ c.loop-level.decl.now _
+    (drop_of_length-le c.args.left.now {i = c.loop-level.level} (search rules)) c.loop-level.invariant

@@ -8,5 +8,6 @@ pub returns-in-Some : goal.returns-in-Some
 returns-in-Some c =
     let ms = c.args.members.now in
     let found = c.in-Some.ensures.lookup in
-    named_here ms _ c.in-Some.m.now c.args.name _ (slice_get_read ms (length ms) _ c.in-Some.m.now refl (ltb-true _ _ (sym found.0)) found.1)
+    named_here ms _ c.in-Some.m.now c.args.name _
+    (slice_get_read ms (length ms) _ c.in-Some.m.now refl (ltb-true _ _ (sym found.0)) found.1)
     c.inner_named.ensures

@@ -15,4 +15,5 @@ returns-in-Some-decl_near c =
     let here = path_read known c.known.result.now c.args.id c.in-Some.path.now c.known.ensures c.in-Some.ensures in
     in_decl p c.requires (path_at known c.args.id) c.in-Some-decl_near.decl.now c.args.m (option_copied c.method_named.result)
     (subst (λ (Q : Path). StandsAt p Q c.in-Some-decl_near.decl.now) (sym here) c.in-Some-decl_near.ensures)
-    (subst (λ (ms : List Member). Tells (IsMethodNamed (methods ms) c.args.m) (option_copied c.method_named.result)) c.as_slice.ensures c.method_named.ensures)
+    (subst (λ (ms : List Member). Tells (IsMethodNamed (methods ms) c.args.m) (option_copied c.method_named.result))
+    c.as_slice.ensures c.method_named.ensures)

@@ -16,12 +16,14 @@ returns-in-Nothing-clause-exact c =
 pub returns-in-Over-clause-exact : goal.returns-in-Over-clause-exact
 returns-in-Over-clause-exact c p of =
     let o = rw c.in-Over.is at c.in_ok-depth_below.ensures in
-    rw o.is (stage_over c.args.entries.now c.args.order.now _ _ c.loop-level.room o.children o.last o.up c.loop-level.invariant o.front o.last_at o.up_at p of)
+    rw o.is (stage_over c.args.entries.now c.args.order.now _ _ c.loop-level.room o.children o.last o.up
+    c.loop-level.invariant o.front o.last_at o.up_at p of)
 
 pub add_level-requires-clause-few : goal.add_level-requires-clause-few
 add_level-requires-clause-few c =
     let n = rw c.in-Next.is at c.in_ok-depth_below.ensures in
-    stage_few c.args.entries.now c.args.order.now _ _ c.in-Next.below c.loop-level.room n.children c.loop-level.invariant n.few n.paths
+    stage_few c.args.entries.now c.args.order.now _ _ c.in-Next.below c.loop-level.room n.children
+    c.loop-level.invariant n.few n.paths
 
 pub overflow_sub-room : goal.overflow_sub-room
 overflow_sub-room c =
@@ -36,6 +38,7 @@ loop-level-smaller c =
 pub loop-level-preserved : goal.loop-level-preserved
 loop-level-preserved c =
     let n = rw c.in-Next.is at c.in_ok-depth_below.ensures in
-    stage_next c.args.entries.now c.args.order.now _ _ _ c.in-Next.below c.loop-level.room n.children c.loop-level.invariant n.front n.few n.shaped n.paths n.exact
+    stage_next c.args.entries.now c.args.order.now _ _ _ c.in-Next.below c.loop-level.room n.children
+    c.loop-level.invariant n.front n.few n.shaped n.paths n.exact
     c.in_ok-add_level-in-Next.ensures _
     (omega (arith, c.len-room.ensures, below_long _ _ _ n.paths, n.few, c.in-Next.below.paths.ok.0))
