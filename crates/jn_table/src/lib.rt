@@ -16,7 +16,8 @@
 //! looks for cycles and for two kinds, and of which `row` makes the rows. `finding` has the paths in an order in
 //! which one is found by halves, and `groups` the entries by their paths and by their namespaces, the paths of a
 //! depth by their names and what they are under, and the paths by what is near them (`near`). `ascending` puts
-//! numbers in order, each once, and `ways` has where each declaration is expected in the text.
+//! numbers in order, each once, and `spots` has where each declaration and
+//! each of its members is expected in the text.
 //!
 //! A [`ClassId`] is the place of its path in class order.
 #![tactic(auto)]
@@ -42,9 +43,9 @@ mod order;
 mod own;
 mod route;
 mod row;
+mod spots;
 mod table;
 mod universe;
-mod ways;
 
 pub use class::{ClassId, Row, RowMember};
 pub use fault::TableFault;

@@ -12,7 +12,7 @@ use crate::gather::Part;
 use crate::lookup::has_class;
 use crate::order::{copied, name_order};
 use crate::own::names_at;
-use crate::ways::{way_of, ways_of};
+use crate::spots::{Spot, field_at, method_at, spots_of, way_of};
 use jn_base::path::Path;
 use jn_base::tree::{Name, Program, Text};
 use sqlite_items::Items;
@@ -31,7 +31,7 @@ pub struct Table {
     rows: Vec<Row>,
     places: Vec<Located>,
     declared: Vec<Vec<usize>>,
-    ways: Vec<Vec<usize>>,
+    spots: Vec<Spot>,
     ghost ordered: { IsOrdered entries.items order.items },
     ghost few: { length known.items ≤ 4096 },
     ghost paired: { length rows.items ≡ length known.items },
@@ -57,7 +57,7 @@ impl Table {
         let entries = entries(alloc, p)?;
         let order = name_order(alloc, p.names.as_slice(), &entries)?;
         let texts = copied(alloc, p.names.as_slice())?;
-        let ways = ways_of(alloc, p)?;
+        let spots = spots_of(alloc, p)?;
         Ok(Table {
             alloc,
             texts,
@@ -67,7 +67,7 @@ impl Table {
             rows: Vec::new(alloc),
             places: Vec::new(alloc),
             declared: Vec::new(alloc),
-            ways,
+            spots,
         })
     }
 
@@ -132,9 +132,21 @@ impl Table {
     /// Nothing is promised of it, so who goes by it compares names, as `decl_near` and `home_near` of `jn_homes` do.
     pub fn way<'a>(&'a self, q: &Path) -> &'a [usize] {
         match place_of(&self.places, q) {
-            Some(id) => way_of(&self.ways, &self.declared, &self.rows, id, q.names.len()),
+            Some(id) => way_of(&self.spots, &self.declared, &self.rows, id, q.names.len()),
             None => &[],
         }
+    }
+
+    /// The place of a method among the members of the declaration at a path. Nothing is promised of it.
+    pub fn method_place(&self, q: &Path, m: Name) -> Option<usize> {
+        let id = place_of(&self.places, q)?;
+        method_at(&self.spots, &self.declared, id, m)
+    }
+
+    /// The place of a field among the members of the declaration at a path. Nothing is promised of it.
+    pub fn field_place(&self, q: &Path, f: Name) -> Option<usize> {
+        let id = place_of(&self.places, q)?;
+        field_at(&self.spots, &self.declared, id, f)
     }
 
     /// Whether the path of the first of two filled numbers comes before that of the second in the class order.
