@@ -1,5 +1,6 @@
 -- The methods and fields of a declaration, found by their names.
 use Rattle.std.proofs.Common.{◌≡◌, ◌∙◌, ◌<◌, ◌+◌, ℕ, List, [], ◌∷◌, ◌++◌, length, drop, get_or, refl, sym, ap, subst, Contains, Option, Some, None, append-nil, append_assoc, inl, inr}
+use Rattle.std.proofs.Common.{zero, suc, slice_get, IfSome, rules}
 use Rattle.std.proofs.lemmas.List.Elements.{Contains-append_left, Contains-append_right, Contains-append_cases}
 use Rattle.jn_base.specs.declared.tree.Name.{Name}
 use Rattle.jn_base.specs.declared.tree.Program.{Program}
@@ -52,6 +53,27 @@ module _ {T : Type 0} (of : List Member → List T) (name_of : T → Name) where
       split = opened h e s ∙ sym (append_assoc s.front (of (m ∷ [])) (of (drop (i + 1) all)));
       none = λ d c is. elim (Contains-append_cases s.front (of (m ∷ [])) d c) [ inl h' ↦ s.none d h' is | inr h' ↦ none d h' is ];
     }
+
+  -- what stands at a place is one of those of the list
+  module _ (split : (m : Member) (ms : List Member) → of (m ∷ ms) ≡ of (m ∷ []) ++ of ms) where
+    among_here : (ms : List Member) (k : ℕ) (m : Member) (d : T) → slice_get ms k ≡ Some m → Contains (of (m ∷ [])) d
+        → Contains (of ms) d
+    among_here [] k m d e c = cc
+    among_here (y ∷ ms) zero m d e c =
+        let same : y ≡ m = here e in
+        subst (λ (ds : List T). Contains ds d) (sym (split y ms))
+        (Contains-append_left (of (y ∷ [])) (of ms) d
+        (subst (λ (z : Member). Contains (of (z ∷ [])) d) (sym same) c)) where
+          here : Some y ≡ Some m → y ≡ m
+          here e = cc
+    among_here (y ∷ ms) (suc k) m d e c =
+        subst (λ (ds : List T). Contains ds d) (sym (split y ms))
+        (Contains-append_right (of (y ∷ [])) (of ms) d (among_here ms k m d e c))
+
+    pub named_here : (ms : List Member) (k : ℕ) (m : Member) (x : Name) (o : Option T) → slice_get ms k ≡ Some m
+        → FindsNamed name_of (of (m ∷ [])) x o → IfSome o (λ d. Contains (of ms) d × (name_of d ≡ x))
+    named_here ms k m x None e f = search rules
+    named_here ms k m x (Some d) e f = search (rules, among_here ms k m d e f.0, f.1)
 
 -- ---- methods
 

@@ -8,5 +8,5 @@ use Rattle.jn_expr.proofs.lookup.field_at.Goals as goal
 
 pub returns-in-Some : goal.returns-in-Some
 returns-in-Some c =
-    decl_field c.args.p.now (reverse c.args.path.now.names) c.args.name c.requires c.in-Some.d.now c.in-Some.ensures (option_copied c.field_in.result)
-    (subst (λ (ms : List Member). FindsNamed field_name (fields ms) c.args.name (option_copied c.field_in.result)) c.as_slice.ensures c.field_in.ensures)
+    decl_field c.args.p.now (reverse c.args.path.now.names) c.args.name c.requires c.in-Some.d.now c.in-Some.ensures (option_copied c.field_near.result)
+    (subst (λ (ms : List Member). FindsNamed field_name (fields ms) c.args.name (option_copied c.field_near.result)) c.as_slice.ensures c.field_near.ensures)

@@ -8,5 +8,5 @@ use Rattle.jn_expr.proofs.lookup.method_at.Goals as goal
 
 pub returns-in-Some : goal.returns-in-Some
 returns-in-Some c =
-    decl_method c.args.p.now (reverse c.args.path.now.names) c.args.name c.requires c.in-Some.d.now c.in-Some.ensures (option_copied c.method_in.result)
-    (subst (λ (ms : List Member). FindsNamed method_name (methods ms) c.args.name (option_copied c.method_in.result)) c.as_slice.ensures c.method_in.ensures)
+    decl_method c.args.p.now (reverse c.args.path.now.names) c.args.name c.requires c.in-Some.d.now c.in-Some.ensures (option_copied c.method_near.result)
+    (subst (λ (ms : List Member). FindsNamed method_name (methods ms) c.args.name (option_copied c.method_near.result)) c.as_slice.ensures c.method_near.ensures)
